@@ -1,0 +1,41 @@
+-- "The rig's host is written in C: one call takes the job's bytes and fills the plan's bytes." "The C call: reading, ordering, planning, writing."
+use mathlib.Core.List.{List}
+use Prim.Native.Nat.{ℕ, _+_, _*_}
+use lib.ListN.{length}
+use Rattle.job.specs.Refusal.{Outcome, done, refused, _>>=_, leaves}
+use Rattle.job.specs.JobBytes.{Job, readBytes}
+use Rattle.ordering.specs.Ordering.{ordering}
+use Rattle.planning.specs.Planning.{Plan, planning}
+use Rattle.plan_bytes.specs.PlanBytes.{writePlan}
+
+-- a job, with an order of its tests and a plan for it
+pub record Planned : Type 0 where
+  pub job : Job
+  pub order : List ℕ
+  pub plan : Plan
+
+-- reading, ordering, planning; the lists between are the call's own, with an entry for each test
+unfoldable pub planJob : List ℕ → Outcome Planned
+planJob bs = do
+  j ← readBytes bs
+  order ← ordering (j .head .places) (j .head .curves) (j .head .method) (j .wants) (j .head .tests)
+  plan ← planning (j .head .places) (j .head .curves) (j .wants) order (j .head .tests) (j .head .tests)
+  done (record { job = j; order = order; plan = plan })
+
+-- .. and writing, into a buffer of so many bytes
+unfoldable pub jobToPlan : List ℕ → ℕ → Outcome (List ℕ)
+jobToPlan bs lent = do
+  p ← planJob bs
+  writePlan (p .job .head .places) (p .job .head .curves) (p .job .wants) (p .order) (p .plan .drops) (p .plan .loads) lent
+
+-- "It answers one number: the count of plan bytes, or on a refusal its number × 65,536 plus its figure."
+unfoldable pub numberOf : Outcome (List ℕ) → ℕ
+numberOf (done bytes) = length bytes
+numberOf (refused number figure) = number * 65536 + figure
+
+-- what the call answers, and what the lent plan holds afterwards
+unfoldable pub callAnswer : List ℕ → List ℕ → ℕ
+callAnswer bs old = numberOf (jobToPlan bs (length old))
+
+unfoldable pub callPlan : List ℕ → List ℕ → List ℕ
+callPlan bs old = leaves (jobToPlan bs (length old)) old

@@ -1,0 +1,1 @@
+// The call of the rig's host.

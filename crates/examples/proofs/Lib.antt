@@ -1,0 +1,7 @@
+-- The examples, computed.
+--     Rules    every rule, to be unfolded at once
+--     Starred  THE STARRED EXAMPLES, one theorem
+--     Others   the other examples
+pub mod Rules
+pub mod Starred
+pub mod Others

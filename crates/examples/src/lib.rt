@@ -1,0 +1,1 @@
+// The examples of document 01.

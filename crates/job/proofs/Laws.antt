@@ -1,0 +1,185 @@
+-- Laws of outcomes: what a sequence that is done, or refused, says of its parts.
+use mathlib.Core.Path.{_≡_, refl, sym, ap, _∙_, subst}
+use mathlib.Core.Bool.{Bool, true, false, _&&_, false≢true}
+use mathlib.Core.List.{List, [], _∷_}
+use mathlib.Core.Logic.{_⊎_, inl, inr}
+use Prim.Native.Nat.{ℕ, zero, suc, _+_, _≤_, _<_}
+use lib.Dec.{leb}
+use borrow.Author.Tests.{leb-true, le-leb}
+use native.Mathlib.Omega.{arith}
+use lib.ListN.{length, getD, drop, drop-of-length-le}
+use lib.Seq.{drop-cons}
+use native.Mathlib.Numerals.{add-one}
+use Rattle.job.specs.declared.Refusal.{Refusal}
+use Rattle.job.specs.declared.Refusal.the-variants.{Truncated, BadHeader, EmptyGroup, UnknownCurve, NoTests, TrailingBytes, TestTooLarge, BadOrder, BufferTooSmall, BadArgument, BadPlanBytes, PlanRejected}
+use Rattle.job.specs.Refusal.{Outcome, done, refused, number, figure, _>>=_, _>>_, mapped, demand, room, leaves, overwritten}
+use Rattle.job.specs.Handed.{each}
+
+-- ---- two tests together
+
+pub both : (x y : Bool) → x && y ≡ true → (x ≡ true) × (y ≡ true)
+both true y e = (refl, e)
+both false y e = absurd (false≢true e)
+
+pub and : (x y : Bool) → x ≡ true → y ≡ true → x && y ≡ true
+and true y p q = q
+and false y p q = p
+
+-- ---- outcomes
+
+abbrev isDone : {A : Type 0} → Outcome A → Type 0
+isDone (done a) = Unit {0}
+isDone (refused k i) = ⊥
+
+pub refused≢done : {A : Type 0} {k i : ℕ} {a : A} → refused k i ≡ done a → ⊥
+refused≢done e = subst isDone (sym e) tt
+
+pub done-same : {A : Type 0} {x y : A} → done x ≡ done y → x ≡ y
+done-same e = cc
+
+-- a test that passed, and a sequence that was done
+pub demand-true : (t : Bool) (k i : ℕ) → demand t k i ≡ done tt → t ≡ true
+unfolding demand
+demand-true true k i e = refl
+demand-true false k i e = absurd (refused≢done e)
+
+pub demand-done : (t : Bool) (k i : ℕ) → t ≡ true → demand t k i ≡ done tt
+demand-done t k i e = rw e (unfold demand in refl)
+
+pub both-done : {B : Type 0} (a : Outcome (Unit {0})) (r : Outcome B) (b : B) → _>>_ a r ≡ done b → (a ≡ done tt) × (r ≡ done b)
+unfolding _>>_
+both-done (done tt) r b e = (refl, e)
+both-done (refused k i) r b e = absurd (refused≢done e)
+
+pub both-bind : {A B : Type 0} (a : Outcome (Unit {0})) (r : Outcome A) (f : A → Outcome B) (b : B) → _>>=_ (_>>_ a r) f ≡ done b
+    → (a ≡ done tt) × (_>>=_ r f ≡ done b)
+unfolding _>>_ _>>=_
+both-bind (done tt) r f b e = (refl, e)
+both-bind (refused k i) r f b e = absurd (refused≢done e)
+
+pub bind-done : {A B : Type 0} (a : Outcome A) (f : A → Outcome B) (b : B) → _>>=_ a f ≡ done b → (x : A) × (a ≡ done x) × (f x ≡ done b)
+unfolding _>>=_
+bind-done (done x) f b e = (x, refl, e)
+bind-done (refused k i) f b e = absurd (refused≢done e)
+
+pub done-both : {B : Type 0} (a : Outcome (Unit {0})) (r : Outcome B) → a ≡ done tt → _>>_ a r ≡ r
+unfolding _>>_
+done-both a r e = rw e refl
+
+pub >>=-done : {A B : Type 0} (a : A) (f : A → Outcome B) → _>>=_ (done a) f ≡ f a
+unfolding _>>=_
+>>=-done a f = refl
+
+pub >>=-assoc : {A B C : Type 0} (a : Outcome A) (f : A → Outcome B) (g : B → Outcome C) → _>>=_ (_>>=_ a f) g ≡ _>>=_ a (λ x. _>>=_ (f x) g)
+unfolding _>>=_
+>>=-assoc (done a) f g = refl
+>>=-assoc (refused k i) f g = refl
+
+-- ---- `each`
+
+-- every entry passes
+pub each-true : (ok : ℕ → Bool) (k i : ℕ) (xs : List ℕ) → each ok k i xs ≡ done tt → (t : ℕ) → t < length xs → ok (getD xs t 0) ≡ true
+unfolding each
+each-true ok k i [] e t h = absurd (omega arith)
+each-true ok k i (x ∷ xs) e zero h = demand-true (ok x) k i (both-done (demand (ok x) k i) (each ok k (suc i) xs) tt e .0)
+each-true ok k i (x ∷ xs) e (suc t) h = each-true ok k (suc i) xs (both-done (demand (ok x) k i) (each ok k (suc i) xs) tt e .1) t (omega arith)
+
+pub true-each : (ok : ℕ → Bool) (k i : ℕ) (xs : List ℕ) → ((t : ℕ) → t < length xs → ok (getD xs t 0) ≡ true) → each ok k i xs ≡ done tt
+unfolding each
+true-each ok k i [] h = refl
+true-each ok k i (x ∷ xs) h =
+    done-both (demand (ok x) k i) (each ok k (suc i) xs) (demand-done (ok x) k i (h 0 (omega arith))) ∙ true-each ok k (suc i) xs (λ t l. h (suc t) (omega arith))
+
+-- or a first one fails
+pub each-cases : (ok : ℕ → Bool) (k i : ℕ) (xs : List ℕ)
+    → (each ok k i xs ≡ done tt) ⊎ ((t : ℕ) × (t < length xs) × (ok (getD xs t 0) ≡ false) × (each ok k i xs ≡ refused k (i + t)))
+unfolding each demand _>>_
+each-cases ok k i [] = inl refl
+each-cases ok k i (x ∷ xs) = go (ok x) refl (each-cases ok k (suc i) xs)
+  where
+    go : (b : Bool) → ok x ≡ b → (each ok k (suc i) xs ≡ done tt) ⊎ ((t : ℕ) × (t < length xs) × (ok (getD xs t 0) ≡ false) × (each ok k (suc i) xs ≡ refused k (suc i + t)))
+        → (_>>_ (demand b k i) (each ok k (suc i) xs) ≡ done tt) ⊎ ((t : ℕ) × (t < suc (length xs)) × (ok (getD (x ∷ xs) t 0) ≡ false) × (_>>_ (demand b k i) (each ok k (suc i) xs) ≡ refused k (i + t)))
+    go false e r = inr (0, omega arith, e, let z : i + 0 ≡ i = omega arith in rw z refl)
+    go true e (inl r) = inl r
+    go true e (inr r) = inr (suc (r .0), omega (arith, r .1), r .2, let z : suc i + r .0 ≡ i + suc (r .0) = omega arith in rw z at (r .3))
+
+-- ---- a loop over the entries: at entry t, one turn; at the end, done
+
+module _ (ok : ℕ → Bool) (k i : ℕ) (xs : List ℕ) (t : ℕ) where
+  each-cons : t < length xs → each ok k (i + t) (drop t xs) ≡ _>>_ (demand (ok (getD xs t 0)) k (i + t)) (each ok k (i + (t + 1)) (drop (t + 1) xs))
+  unfolding each
+  each-cons h = let e : i + (t + 1) ≡ suc (i + t) = omega arith in rw (e, add-one t, drop-cons xs t 0 h) refl
+
+  pub each-pass : t < length xs → ok (getD xs t 0) ≡ true → each ok k (i + t) (drop t xs) ≡ each ok k (i + (t + 1)) (drop (t + 1) xs)
+  each-pass h e = each-cons h ∙ done-both _ _ (demand-done (ok (getD xs t 0)) k (i + t) e)
+
+  pub each-fail : t < length xs → ok (getD xs t 0) ≡ false → each ok k (i + t) (drop t xs) ≡ refused k (i + t)
+  unfolding demand _>>_
+  each-fail h e = each-cons h ∙ rw e refl
+
+  pub each-end : length xs ≤ t → each ok k (i + t) (drop t xs) ≡ done tt
+  unfolding each
+  each-end h = rw (drop-of-length-le xs h) refl
+
+-- ---- `mapped` and `leaves`
+
+pub mapped-done : {A B : Type 0} (f : A → B) (a : Outcome A) (b : B) → mapped f a ≡ done b → (x : A) × (a ≡ done x) × (f x ≡ b)
+unfolding mapped
+mapped-done f (done x) b e = (x, refl, cc)
+mapped-done f (refused k i) b e = absurd (refused≢done e)
+
+pub mapped-refused : {A B : Type 0} (f : A → B) (a : Outcome A) (k i : ℕ) → mapped f a ≡ refused k i → a ≡ refused k i
+unfolding mapped
+mapped-refused f (done x) k i e = absurd (refused≢done (sym e))
+mapped-refused f (refused l j) k i e = cc
+
+pub room-done : (lent needed : ℕ) → room lent needed ≡ done tt → needed ≤ lent
+unfolding room
+room-done lent needed e = leb-true needed lent (demand-true (leb needed lent) 9 needed e)
+
+pub done-room : (lent needed : ℕ) → needed ≤ lent → room lent needed ≡ done tt
+unfolding room
+done-room lent needed h = demand-done (leb needed lent) 9 needed (le-leb needed lent h)
+
+pub leaves-done : {A : Type 0} (f : A → List ℕ) (a : Outcome A) (x : A) (old : List ℕ) → a ≡ done x → leaves (mapped f a) old ≡ overwritten (f x) old
+unfolding mapped leaves
+leaves-done f a x old e = rw e refl
+
+pub leaves-refused : {A : Type 0} (f : A → List ℕ) (a : Outcome A) (k i : ℕ) (old : List ℕ) → a ≡ refused k i → leaves (mapped f a) old ≡ old
+unfolding mapped leaves
+leaves-refused f a k i old e = rw e refl
+
+-- ---- the number and the figure name the refusal
+
+unfoldable pub named : ℕ → ℕ → Refusal
+named zero i = NoTests
+named (suc zero) i = Truncated i
+named (suc (suc zero)) i = BadHeader i
+named (suc (suc (suc zero))) i = EmptyGroup i
+named (suc (suc (suc (suc zero)))) i = UnknownCurve i
+named (suc (suc (suc (suc (suc zero))))) i = NoTests
+named (suc (suc (suc (suc (suc (suc zero)))))) i = TrailingBytes i
+named (suc (suc (suc (suc (suc (suc (suc zero))))))) i = TestTooLarge i
+named (suc (suc (suc (suc (suc (suc (suc (suc zero)))))))) i = BadOrder i
+named (suc (suc (suc (suc (suc (suc (suc (suc (suc zero))))))))) i = BufferTooSmall i
+named (suc (suc (suc (suc (suc (suc (suc (suc (suc (suc zero)))))))))) i = BadArgument i
+named (suc (suc (suc (suc (suc (suc (suc (suc (suc (suc (suc zero))))))))))) i = BadPlanBytes i
+named (suc (suc (suc (suc (suc (suc (suc (suc (suc (suc (suc (suc k)))))))))))) i = PlanRejected i
+
+pub named-refusal : (r : Refusal) → named (number r) (figure r) ≡ r
+unfolding named number figure
+named-refusal (Truncated i) = refl
+named-refusal (BadHeader i) = refl
+named-refusal (EmptyGroup i) = refl
+named-refusal (UnknownCurve i) = refl
+named-refusal NoTests = refl
+named-refusal (TrailingBytes i) = refl
+named-refusal (TestTooLarge i) = refl
+named-refusal (BadOrder i) = refl
+named-refusal (BufferTooSmall i) = refl
+named-refusal (BadArgument i) = refl
+named-refusal (BadPlanBytes i) = refl
+named-refusal (PlanRejected i) = refl
+
+pub same-refusal : (r s : Refusal) → number r ≡ number s → figure r ≡ figure s → r ≡ s
+same-refusal r s n f = sym (named-refusal r) ∙ rw (n, f) (named-refusal s)

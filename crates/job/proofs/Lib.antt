@@ -1,0 +1,15 @@
+-- What the shared rules mean.
+--     Laws          outcomes that are done, and outcomes that are refused
+--     Chosen        what is chosen by `Choice`
+--     Orders        counting in lists of tests
+--     Turns         one turn of a loop over bytes
+--     JobExact      what passes the examination is a job, and a job passes
+--     SetRoundTrip  a set that is written reads back, and the other way round
+--     JobRoundTrip  the same of a job
+pub mod Laws
+pub mod Chosen
+pub mod Orders
+pub mod Turns
+pub mod SetRoundTrip
+pub mod JobExact
+pub mod JobRoundTrip

@@ -1,0 +1,121 @@
+-- Counting in lists: each of n tests once, and lists on the way there.
+use mathlib.Core.Path.{_≡_, refl, sym, ap, _∙_, subst}
+use mathlib.Core.Bool.{Bool, true, false, _||_, false≢true}
+use mathlib.Core.List.{List, [], _∷_, _++_}
+use Prim.Native.Nat.{ℕ, zero, suc, _+_, _^_, _≤_, _<_}
+use native.Mathlib.Omega.{arith}
+use native.Mathlib.Decide.{ℕ-discrete, decLe}
+use lib.ListN.{length, length-append}
+use lib.Dec.{eqb}
+use lib.Pow.{pow-mono, pow-pos}
+use borrow.Author.Tests.{eq-eqb, ne-eqb}
+use Rattle.bitset.specs.Set.{bit, size}
+use Rattle.bitset.proofs.Bits.{bit-single, bit-other}
+use Rattle.bitset.proofs.Element.{size-single, sum, sum-same, sum-add, sum-none, size-sum}
+use Rattle.job.specs.Handed.{listed}
+use Rattle.job.specs.Words.{digit, count, IsOrder}
+
+pub count-append : (t : ℕ) (a b : List ℕ) → count t (a ++ b) ≡ count t a + count t b
+unfolding count
+count-append t [] b = omega arith
+count-append t (s ∷ ss) b = omega (arith, count-append t ss b)
+
+pub one-same : (t : ℕ) → digit (eqb t t) ≡ 1
+unfolding digit
+one-same t = rw (eq-eqb t t refl) refl
+
+-- a test that is not counted is not listed
+pub unlisted : (t : ℕ) (ss : List ℕ) → count t ss ≡ 0 → listed ss t ≡ false
+unfolding count listed digit
+unlisted t [] h = refl
+unlisted t (s ∷ ss) h = go (eqb s t) h (unlisted t ss)
+  where
+    go : (b : Bool) → digit b + count t ss ≡ 0 → (count t ss ≡ 0 → listed ss t ≡ false) → b || listed ss t ≡ false
+    go true h ih = absurd (omega arith)
+    go false h ih = ih (omega arith)
+
+-- ---- each of n tests once: n entries
+
+one-bit : (s k : ℕ) → digit (eqb s k) ≡ bit k (2 ^ s)
+unfolding digit
+one-bit s k = go (ℕ-discrete k s)
+  where
+    go : Dec (k ≡ s) → digit (eqb s k) ≡ bit k (2 ^ s)
+    go (yes e) = rw e (rw (eq-eqb s s refl, bit-single s) refl)
+    go (no d) = rw (ne-eqb s k (λ e. d (sym e)), bit-other k s d) refl
+
+sum-one : (n s : ℕ) → s < n → sum n (λ k. digit (eqb s k)) ≡ 1
+sum-one n s h = sum-same n (λ k. digit (eqb s k)) (λ k. bit k (2 ^ s)) (λ k l. one-bit s k) ∙ sym (size-sum n (2 ^ s) (omega (arith, pow-mono h, pow-pos s))) ∙ size-single s
+
+pub sum-count : (n : ℕ) (ss : List ℕ) → ((t : ℕ) → n ≤ t → count t ss ≡ 0) → sum n (λ t. count t ss) ≡ length ss
+unfolding count
+sum-count n [] h = sum-none n (λ t. 0) (λ t l. refl)
+sum-count n (s ∷ ss) h = sum-add n (λ t. digit (eqb s t)) (λ t. count t ss) ∙ omega (arith, sum-one n s (below (decLe n s)), sum-count n ss (λ t l. omega (arith, h t l)))
+  where
+    below : Dec (n ≤ s) → s < n
+    below (yes l) = absurd (omega (arith, h s l, one-same s))
+    below (no l) = omega arith
+
+sum-ones : (n : ℕ) (f : ℕ → ℕ) → ((k : ℕ) → k < n → f k ≡ 1) → sum n f ≡ n
+unfolding sum
+sum-ones zero f h = refl
+sum-ones (suc n) f h = omega (arith, h 0 (omega arith), sum-ones n (λ k. f (suc k)) (λ k l. h (suc k) (omega arith)))
+
+pub order-length : (n : ℕ) (order : List ℕ) → IsOrder n order → length order ≡ n
+order-length n order o = sym (sum-count n order (o .only)) ∙ sum-ones n (λ t. count t order) (o .once)
+
+pub uncounted : (t : ℕ) (ss : List ℕ) → listed ss t ≡ false → count t ss ≡ 0
+unfolding count listed digit
+uncounted t [] h = refl
+uncounted t (s ∷ ss) h = go (eqb s t) h (uncounted t ss)
+  where
+    go : (b : Bool) → b || listed ss t ≡ false → (listed ss t ≡ false → count t ss ≡ 0) → digit b + count t ss ≡ 0
+    go true h ih = absurd (false≢true (sym h))
+    go false h ih = omega (arith, ih h)
+
+pub one-le : (b : Bool) → digit b ≤ 1
+unfolding digit
+one-le true = omega arith
+one-le false = omega arith
+
+-- ---- part of an order: some of the n tests, none twice
+
+pub record Part (n : ℕ) (ss : List ℕ) : Type 0 where
+  pub short : length ss ≤ n
+  pub most : (t : ℕ) → count t ss ≤ 1
+  pub own : (t : ℕ) → n ≤ t → count t ss ≡ 0
+
+pub part-one : (n t : ℕ) (ss : List ℕ) → Part n ss → length ss < n → t < n → count t ss ≡ 0 → Part n (ss ++ (t ∷ []))
+unfolding count
+part-one n t ss p l tn z =
+    record {
+      short = omega (arith, length-append ss (t ∷ []));
+      most = λ s. go s (ℕ-discrete t s);
+      own = λ s h. omega (arith, p .own s h, count-append s ss (t ∷ []), other s (λ e. omega arith));
+    }
+  where
+    other : (s : ℕ) → (t ≡ s → ⊥) → digit (eqb t s) ≡ 0
+    other s d = rw (ne-eqb t s d) (unfold digit in refl)
+
+    go : (s : ℕ) → Dec (t ≡ s) → count s (ss ++ (t ∷ [])) ≤ 1
+    go s (yes e) = subst (λ (x : ℕ). count x (ss ++ (t ∷ [])) ≤ 1) e (omega (arith, count-append t ss (t ∷ []), one-same t))
+    go s (no d) = omega (arith, p .most s, count-append s ss (t ∷ []), other s d)
+
+-- numbers that are at most 1, and n of them that make n
+pub all-ones : (n : ℕ) (f : ℕ → ℕ) → ((k : ℕ) → f k ≤ 1) → n ≤ sum n f → (k : ℕ) → k < n → f k ≡ 1
+unfolding sum
+all-ones zero f h s k l = absurd (omega arith)
+all-ones (suc n) f h s zero l = omega (arith, h 0, most n (λ k. f (suc k)) (λ k. h (suc k)))
+  where
+    most : (n : ℕ) (f : ℕ → ℕ) → ((k : ℕ) → f k ≤ 1) → sum n f ≤ n
+    most zero f h = omega arith
+    most (suc n) f h = omega (arith, h 0, most n (λ k. f (suc k)) (λ k. h (suc k)))
+all-ones (suc n) f h s (suc k) l = all-ones n (λ k. f (suc k)) (λ k. h (suc k)) (omega (arith, h 0)) k (omega arith)
+
+-- a part that has them all
+pub whole-part : (n : ℕ) (ss : List ℕ) → Part n ss → n ≤ length ss → IsOrder n ss
+whole-part n ss p h = record { once = all-ones n (λ t. count t ss) (p .most) (omega (arith, sum-count n ss (p .own))); only = p .own }
+
+pub part-none : (n : ℕ) → Part n []
+unfolding count
+part-none n = record { short = omega arith; most = λ t. omega arith; own = λ t h. refl }

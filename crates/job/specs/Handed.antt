@@ -1,0 +1,79 @@
+-- "Handed lists and counts: 5, 10 in its own order", and 7: numbers that are handed over directly are examined the same way as bytes.
+use mathlib.Core.Bool.{Bool, false, _&&_, _||_}
+use mathlib.Core.List.{List, [], _∷_}
+use Prim.Native.Nat.{ℕ, suc}
+use lib.ListN.{length}
+use lib.Dec.{leb, ltb, eqb}
+use Rattle.bitset.specs.Set.{size, inside, below}
+use Rattle.job.specs.Refusal.{Outcome, done, refused, _>>_, demand}
+
+-- whether x is one of low..high
+unfoldable pub between : ℕ → ℕ → ℕ → Bool
+between low high x = leb low x && leb x high
+
+-- the curves of a job with n of them: "numbered from 0"
+abbrev pub allCurves : ℕ → ℕ
+allCurves n = below n
+
+-- whether t is one of the list
+unfoldable pub listed : List ℕ → ℕ → Bool
+listed [] t = false
+listed (s ∷ ss) t = eqb s t || listed ss t
+
+-- every entry passes the test, or refusal k with the place of the first that fails; the entries' places begin at i
+unfoldable pub each : (ℕ → Bool) → ℕ → ℕ → List ℕ → Outcome (Unit {0})
+each ok k i [] = done tt
+each ok k i (x ∷ xs) = do
+  demand (ok x) k i
+  each ok k (suc i) xs
+
+-- 5: "the list is empty"
+unfoldable pub someTests : ℕ → Outcome (Unit {0})
+someTests tests = demand (ltb 0 tests) 5 0
+
+-- 10: "0 places, 1 curves, 2 more than 256 tests, 3 method, 4 + t: wants of test t name a foreign curve", with the bounds "Places in the drive 1 to 64.
+-- Curves 1 to 64", and the methods 0 to 3
+unfoldable pub placesKnown : ℕ → Outcome (Unit {0})
+placesKnown places = demand (between 1 64 places) 10 0
+
+unfoldable pub curvesKnown : ℕ → Outcome (Unit {0})
+curvesKnown curves = demand (between 1 64 curves) 10 1
+
+unfoldable pub testsKnown : ℕ → Outcome (Unit {0})
+testsKnown tests = demand (leb tests 256) 10 2
+
+unfoldable pub methodKnown : ℕ → Outcome (Unit {0})
+methodKnown method = demand (leb method 3) 10 3
+
+unfoldable pub wantsKnown : ℕ → List ℕ → Outcome (Unit {0})
+wantsKnown curves wants = each (λ w. inside w (allCurves curves)) 10 4 wants
+
+-- 7: "a test wants more curves than places", with the lowest such test
+unfoldable pub wantsFit : ℕ → List ℕ → Outcome (Unit {0})
+wantsFit places wants = each (λ w. leb (size w) places) 7 0 wants
+
+-- "5, 10 in its own order": of places, curves and wants, as planning and checking are handed them
+unfoldable pub jobKnown : ℕ → ℕ → List ℕ → Outcome (Unit {0})
+jobKnown places curves wants = do
+  someTests (length wants)
+  placesKnown places
+  curvesKnown curves
+  testsKnown (length wants)
+  wantsKnown curves wants
+
+-- of places, curves, method and wants, as ordering and writing a job are handed them
+unfoldable pub jobKnownBy : ℕ → ℕ → ℕ → List ℕ → Outcome (Unit {0})
+jobKnownBy places curves method wants = do
+  someTests (length wants)
+  placesKnown places
+  curvesKnown curves
+  testsKnown (length wants)
+  methodKnown method
+  wantsKnown curves wants
+
+-- of curves and a number of tests, as reading and fetching from plan bytes are handed them
+unfoldable pub countsKnown : ℕ → ℕ → Outcome (Unit {0})
+countsKnown curves tests = do
+  someTests tests
+  curvesKnown curves
+  testsKnown tests

@@ -1,0 +1,143 @@
+-- Each method's order names each test exactly once.
+use mathlib.Core.Path.{_≡_, refl, sym, ap, _∙_, subst}
+use mathlib.Core.Bool.{Bool, true, false, not, _&&_, false≢true}
+use mathlib.Core.List.{List, [], _∷_, _++_, map, reverse, reverseAux, append-nil, append-assoc, reverse-cons}
+use mathlib.Core.Logic.{_⊎_, inl, inr}
+use Prim.Native.Nat.{ℕ, zero, suc, _+_, _-_, _≤_, _<_, min}
+use native.Mathlib.Omega.{arith}
+use native.Mathlib.Decide.{ℕ-discrete, decLe}
+use lib.ListN.{length, getD, take, drop, set, length-append, length-take, length-drop, length-set, length-map}
+use lib.Seq.{set-split, split-at}
+use lib.Dec.{leb, ltb, eqb}
+use borrow.Author.Tests.{ltb-true, ltb-false, lt-ltb, le-ltb, eq-eqb, ne-eqb, not-true}
+use Rattle.bitset.specs.Set.{_∪_, _∩_, size}
+use Rattle.bitset.proofs.Element.{sum}
+use Rattle.job.specs.Choice.{Found, nobody, found, keep, choose, bestOf}
+use Rattle.job.proofs.Chosen.{Ranked, Chosen, BestOf, best-of}
+use Rattle.job.specs.Handed.{listed}
+use Rattle.job.specs.Words.{digit, count, IsOrder}
+use Rattle.job.proofs.Orders.{count-append, one-same, unlisted, uncounted, sum-count, Part, part-one, part-none, whole-part, all-ones}
+use Rattle.ordering.specs.Methods.{upTo, appended, grown, bestUnlisted, neighbour, orElse, nextOf, smaller, cuthillMcKee, degree, reverseCuthillMcKee, reach, spanningTree, asListed, Try, try, pickTry, _orMore_, flat, Pair, curvesOf, eligible, closer, bestPair, without, joined, closest, onPair, joinAll, head, tail, flipped, firstRound, secondRound, packages, orderBy}
+
+-- ---- smaller and larger keys rank
+
+ranked-least : (key : ℕ → ℕ) → Ranked (λ s t. ltb (key s) (key t))
+ranked-least key =
+    record {
+      self = λ x. le-ltb (key x) (key x) (omega arith);
+      less = λ x y z p q. le-ltb (key x) (key y) (omega (arith, ltb-true (key y) (key z) p, ltb-false (key x) (key z) q));
+      more = λ x y z p q. lt-ltb (key y) (key x) (omega (arith, ltb-true (key y) (key z) p, ltb-false (key x) (key z) q));
+    }
+
+ranked-most : (key : ℕ → ℕ) → Ranked (λ s t. ltb (key t) (key s))
+ranked-most key =
+    record {
+      self = λ x. le-ltb (key x) (key x) (omega arith);
+      less = λ x y z p q. le-ltb (key y) (key x) (omega (arith, ltb-true (key z) (key y) p, ltb-false (key z) (key x) q));
+      more = λ x y z p q. lt-ltb (key x) (key y) (omega (arith, ltb-true (key z) (key y) p, ltb-false (key z) (key x) q));
+    }
+
+-- ---- a list that grows by unlisted tests
+
+-- what may be appended to ts: an unlisted test of the n; nothing only where all are listed
+abbrev Fresh : ℕ → List ℕ → Found ℕ → Type 0
+Fresh n ts nobody = (t : ℕ) → t < n → listed ts t ≡ true
+Fresh n ts (found t) = (t < n) × (listed ts t ≡ false)
+
+not-both : (b c : Bool) → not b && c ≡ true → b ≡ false
+not-both true c e = absurd (false≢true e)
+not-both false c e = refl
+
+not-none : (b : Bool) → not b && true ≡ false → b ≡ true
+not-none true e = refl
+not-none false e = absurd (false≢true (sym e))
+
+module _ (fair : ℕ → Bool) (better : ℕ → ℕ → Bool) (ranked : Ranked better) (n : ℕ) (ts : List ℕ) where
+  unlisted-found : (b : Found ℕ) → BestOf (λ t. not (listed ts t) && fair t) better n b → (r : Found ℕ) → Fresh n ts r → Fresh n ts (orElse b r)
+  unfolding orElse
+  unlisted-found nobody c r f = f
+  unlisted-found (found t) c r f = (c .below, not-both (listed ts t) (fair t) (c .fair))
+
+  best-or-else : (r : Found ℕ) → Fresh n ts r → Fresh n ts (orElse (bestUnlisted fair better n ts) r)
+  unfolding bestUnlisted
+  best-or-else r f = unlisted-found (bestUnlisted fair better n ts) (best-of (λ t. not (listed ts t) && fair t) better ranked n) r f
+
+module _ (better : ℕ → ℕ → Bool) (ranked : Ranked better) (n : ℕ) (ts : List ℕ) where
+  remaining : (b : Found ℕ) → BestOf (λ t. not (listed ts t) && true) better n b → Fresh n ts b
+  remaining nobody c = λ t l. not-none (listed ts t) (c t l)
+  remaining (found t) c = (c .below, not-both (listed ts t) true (c .fair))
+
+  best-remaining : Fresh n ts (bestUnlisted (λ t. true) better n ts)
+  unfolding bestUnlisted
+  best-remaining = remaining (bestUnlisted (λ t. true) better n ts) (best-of (λ t. not (listed ts t) && true) better ranked n)
+
+-- all are listed: there are n
+full : (n : ℕ) (ts : List ℕ) → Part n ts → ((t : ℕ) → t < n → listed ts t ≡ true) → n ≤ length ts
+unfolding sum
+full n ts p h = omega (arith, sum-count n ts (p .own), at-least n (λ t. count t ts) (λ t l. pos t (ℕ-discrete (count t ts) 0) l))
+  where
+    pos : (t : ℕ) → Dec (count t ts ≡ 0) → t < n → 1 ≤ count t ts
+    pos t (yes e) l = absurd (false≢true (sym (unlisted t ts e) ∙ h t l))
+    pos t (no d) l = omega arith
+
+    at-least : (n : ℕ) (f : ℕ → ℕ) → ((k : ℕ) → k < n → 1 ≤ f k) → n ≤ sum n f
+    at-least zero f h = omega arith
+    at-least (suc n) f h = omega (arith, h 0 (omega arith), at-least n (λ k. f (suc k)) (λ k l. h (suc k) (omega arith)))
+
+module _ (n : ℕ) (next : List ℕ → Found ℕ) (fresh : (ts : List ℕ) → Fresh n ts (next ts)) where
+  appended-part : (k : ℕ) (ts : List ℕ) (b : Found ℕ) → Fresh n ts b → Part n ts → length ts + suc k ≡ n → Part n (appended ts b) × (length (appended ts b) + k ≡ n)
+  unfolding appended
+  appended-part k ts nobody f p e = absurd (omega (arith, full n ts p f))
+  appended-part k ts (found t) f p e = (part-one n t ts p (omega arith) (f .0) (uncounted t ts (f .1)), omega (arith, length-append ts (t ∷ [])))
+
+  grown-part : (k : ℕ) (ts : List ℕ) → Part n ts → length ts + k ≡ n → IsOrder n (grown next k ts)
+  unfolding grown
+  grown-part zero ts p e = whole-part n ts p (omega arith)
+  grown-part (suc k) ts p e = let a = appended-part k ts (next ts) (fresh ts) p e in grown-part k (appended ts (next ts)) (a .0) (a .1)
+
+  grown-order : IsOrder n (grown next n [])
+  grown-order = grown-part n [] (part-none n) (omega arith)
+
+-- ---- 0
+
+upTo-order : (n : ℕ) → Part n (upTo n) × (length (upTo n) ≡ n)
+unfolding upTo
+upTo-order zero = (part-none zero, refl)
+upTo-order (suc n) =
+    let p = upTo-order n in (
+      part-one (suc n) n (upTo n) (record { short = omega (arith, p .0 .short); most = p .0 .most; own = λ t h. p .0 .own t (omega arith) }) (omega (arith, p .1)) (omega arith) (p .0 .own n (omega arith)),
+      omega (arith, p .1, length-append (upTo n) (n ∷ [])),
+    )
+
+pub as-listed : (wants : List ℕ) → IsOrder (length wants) (asListed wants)
+as-listed wants = let p = upTo-order (length wants) in whole-part (length wants) (upTo (length wants)) (p .0) (omega (arith, p .1))
+
+-- ---- 1
+
+pub count-reverse : (t : ℕ) (ss : List ℕ) → count t (reverse ss) ≡ count t ss
+unfolding count
+count-reverse t [] = refl
+count-reverse t (s ∷ ss) = ap (count t) (reverse-cons s ss) ∙ omega (arith, count-append t (reverse ss) (s ∷ []), count-reverse t ss)
+
+module _ (wants degrees : List ℕ) where
+  fresh-next : (ts ss : List ℕ) → Fresh (length wants) ts (nextOf wants degrees ts ss)
+  unfolding nextOf neighbour
+  fresh-next ts [] = best-remaining (smaller wants degrees) (ranked-least (λ t. getD degrees t 0)) (length wants) ts
+  fresh-next ts (s ∷ ss) = best-or-else _ (smaller wants degrees) (ranked-least (λ t. getD degrees t 0)) (length wants) ts (nextOf wants degrees ts ss) (fresh-next ts ss)
+
+  cuthill-order : IsOrder (length wants) (cuthillMcKee wants degrees)
+  unfolding cuthillMcKee
+  cuthill-order = grown-order (length wants) (λ ts. nextOf wants degrees ts ts) (λ ts. fresh-next ts ts)
+
+pub reverse-cuthill-mckee : (wants : List ℕ) → IsOrder (length wants) (reverseCuthillMcKee wants)
+unfolding reverseCuthillMcKee
+reverse-cuthill-mckee wants =
+    let ds = map (degree wants) (upTo (length wants)) in
+    let o : IsOrder (length wants) (cuthillMcKee wants ds) = cuthill-order wants ds in
+    record { once = λ t l. count-reverse t (cuthillMcKee wants ds) ∙ o .once t l; only = λ t l. count-reverse t (cuthillMcKee wants ds) ∙ o .only t l }
+
+-- ---- 2
+
+pub spanning-tree : (wants : List ℕ) → IsOrder (length wants) (spanningTree wants)
+unfolding spanningTree
+spanning-tree wants = grown-order (length wants) _ (λ ts. best-remaining (λ s t. ltb (reach wants ts t) (reach wants ts s)) (ranked-most (reach wants ts)) (length wants) ts)

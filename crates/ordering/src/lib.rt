@@ -1,0 +1,1 @@
+// The orders of the tests.

@@ -1,0 +1,2 @@
+-- Writing and reading a plan undo each other.
+pub mod PlanRoundTrip

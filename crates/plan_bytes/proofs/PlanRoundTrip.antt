@@ -1,0 +1,326 @@
+-- "Writing and reading undo each other for .. every plan our check passes": plan bytes.
+use mathlib.Core.Path.{_≡_, refl, sym, ap, _∙_, subst}
+use mathlib.Core.Bool.{Bool, true, false, _&&_, false≢true}
+use mathlib.Core.List.{List, [], _∷_, _++_, map, append-assoc, append-nil}
+use Prim.Native.Nat.{ℕ, zero, suc, _+_, _-_, _*_, _/_, _%_, _^_, _≤_, _<_}
+use native.Mathlib.Omega.{arith}
+use lib.Dec.{leb, ltb, eqb}
+use lib.Pow.{pow-add, pow-mono, pow-pos}
+use lib.ListN.{length, getD, length-append}
+use borrow.Author.Tests.{ltb-true, leb-true, lt-ltb, le-leb}
+use Rattle.bitset.specs.Set.{bit}
+use Rattle.bitset.proofs.Bits.{bit-zero, bit-suc}
+use Rattle.job.specs.Refusal.{Outcome, done, refused, _>>=_, _>>_, demand, room}
+use Rattle.job.specs.Handed.{between, allCurves, countsKnown}
+use Rattle.job.specs.SetBytes.{stands, groupMap, groupBytes, setBytes, Got, got, byteAt, readGroups}
+use Rattle.job.specs.JobBytes.{atEnd}
+use Rattle.job.proofs.Laws.{both, and, done-same, refused≢done, demand-true, demand-done, both-done, done-both, bind-done, done-room}
+use Rattle.job.proofs.SetRoundTrip.{set-back, Bytes, SetRead, set-read}
+use Rattle.job.proofs.JobRoundTrip.{end-none}
+use native.Mathlib.Decide.{decLe}
+use Rattle.bitset.proofs.Bits.{bit-empty}
+use Rattle.job.proofs.SetRoundTrip.{inside-below}
+use Rattle.job.specs.Words.{count, IsOrder}
+use Rattle.job.proofs.Orders.{one-same, order-length}
+use Rattle.job.specs.Handed.{someTests, curvesKnown, testsKnown}
+use Rattle.planning.specs.Plan.{Step, steps, inOrder, held, loadCount}
+use Rattle.planning.specs.Planning.{checking}
+use Rattle.planning.proofs.Fewest.{_≼_, ≼-inside, held-≼}
+use Rattle.planning.proofs.CheckExact.{StepsOk, Passes, passed}
+use Rattle.plan_bytes.specs.PlanBytes.{setField, stepBytes, stepsBytes, planBytes, Placed, readSet, readStep, readSteps, readPlanBytes, planSteps, writePlan}
+
+-- ---- a set that is not empty has a group map that is not zero
+
+stands-none : (b : ℕ) → stands b ≡ 0 → b ≡ 0
+unfolding stands
+stands-none zero e = refl
+stands-none (suc b) e = absurd (omega arith)
+
+stands-le : (b : ℕ) → stands b ≤ 1
+unfolding stands
+stands-le zero = omega arith
+stands-le (suc b) = omega arith
+
+map-none : (k s : ℕ) → s < 2 ^ (8 * k) → groupMap k s ≡ 0 → s ≡ 0
+unfolding groupMap
+map-none zero s h e = omega arith
+map-none (suc k) s h e =
+    let p : 8 * suc k ≡ 8 + 8 * k = omega arith in
+    let l : s / 256 < 2 ^ (8 * k) = omega (arith, rw (p, pow-add 2 8 (8 * k)) at h) in
+    let a : s % 256 ≡ 0 = stands-none (s % 256) (omega arith) in
+    let b : s / 256 ≡ 0 = map-none k (s / 256) l (omega arith) in
+    omega arith
+
+map-zero : groupMap 8 0 ≡ 0
+unfolding groupMap stands
+map-zero = refl
+
+-- the map of a step is made of its bits: 4 stands, and nothing above
+step-map : (M : ℕ) → 4 ≤ M → M ≤ 7 → M ≡ bit 0 M + 2 * bit 1 M + 4
+step-map M l h = omega (arith, bit-zero M, bit-suc 0 M, bit-zero (M / 2))
+
+abbrev one : ℕ → ℕ → ℕ → Step
+one t d l = record { test = t; drops = d; loads = l }
+
+-- ---- written, then read
+module _ (curves tests : ℕ) (few : curves ≤ 64) where
+  field-back : (i s : ℕ) (rest : List ℕ) → s < 2 ^ curves → readSet curves tests (stands s) i (setField s ++ rest) ≡ done (got s (i + length (setField s)) rest)
+  unfolding readSet setField stands setBytes byteAt demand _>>=_ _>>_
+  field-back i zero rest h = let n : i ≡ i + 0 = omega arith in rw (← n) refl
+  field-back i (suc s) rest h =
+      let n : suc i + length (groupBytes 8 (suc s)) ≡ i + suc (length (groupBytes 8 (suc s))) = omega arith in
+      rw (lt-ltb 0 (groupMap 8 (suc s)) (positive (groupMap 8 (suc s)) refl)) (set-back 11 11 11 curves (suc i) (suc s) rest few h ∙ rw n refl)
+    where
+      positive : (m : ℕ) → groupMap 8 (suc s) ≡ m → 0 < m
+      positive zero e = absurd (omega (arith, map-none 8 (suc s) (omega (arith, pow-mono few)) e))
+      positive (suc m) e = omega arith
+
+  abbrev stepOf : ℕ → ℕ → ℕ → ℕ → Placed
+  stepOf i t d l = record { step = one t d l; from = i; until = i + length (stepBytes (one t d l)) }
+
+  step-back : (i t d l : ℕ) (rest : List ℕ) → t < tests → d < 2 ^ curves → l < 2 ^ curves
+      → readStep curves tests i (stepBytes (one t d l) ++ rest) ≡ done (got (stepOf i t d l) (i + length (stepBytes (one t d l))) rest)
+  unfolding readStep stepBytes byteAt between demand _>>=_ _>>_
+  step-back i t d l rest ht hd hl =
+      let a = stands d in
+      let b = stands l in
+      let la = stands-le d in
+      let lb = stands-le l in
+      let b0 : bit 0 (a + 2 * b + 4) ≡ a = omega arith in
+      let b1 : bit 1 (a + 2 * b + 4) ≡ b = omega arith in
+      let n : suc (suc i + length (setField d) + length (setField l)) ≡ i + suc (length (setField d ++ setField l ++ (t ∷ []))) = simp length-append (omega arith) in
+      rw (
+        le-leb 4 (a + 2 * b + 4) (omega arith),
+        le-leb (a + 2 * b + 4) 7 (omega arith),
+        b0,
+        b1,
+        append-assoc (setField d ++ setField l) (t ∷ []) rest,
+        append-assoc (setField d) (setField l) (t ∷ rest),
+        field-back (suc i) d (setField l ++ (t ∷ rest)) hd,
+        field-back (suc i + length (setField d)) l (t ∷ rest) hl,
+        lt-ltb t tests ht,
+        n,
+      ) refl
+
+  -- the steps of a plan, in their bytes from offset i on
+  stepsOf : ℕ → List ℕ → List ℕ → List ℕ → List Placed
+  stepsOf i [] ds ls = []
+  stepsOf i (t ∷ ts) [] ls = []
+  stepsOf i (t ∷ ts) (d ∷ ds) [] = []
+  stepsOf i (t ∷ ts) (d ∷ ds) (l ∷ ls) = stepOf i t d l ∷ stepsOf (i + length (stepBytes (one t d l))) ts ds ls
+
+  -- a test, a drop set and a load set for each step, all of the job
+  abbrev InRange : List ℕ → List ℕ → List ℕ → Type 0
+  InRange [] [] [] = Unit {0}
+  InRange [] [] (l ∷ ls) = ⊥
+  InRange [] (d ∷ ds) ls = ⊥
+  InRange (t ∷ ts) [] ls = ⊥
+  InRange (t ∷ ts) (d ∷ ds) [] = ⊥
+  InRange (t ∷ ts) (d ∷ ds) (l ∷ ls) = (t < tests) × (d < 2 ^ curves) × (l < 2 ^ curves) × InRange ts ds ls
+
+  steps-back : (acc : List Placed) (i : ℕ) (ts ds ls rest : List ℕ) → InRange ts ds ls
+      → readSteps curves tests (length ts) acc i (planBytes ts ds ls ++ rest) ≡ done (got (acc ++ stepsOf i ts ds ls) (i + length (planBytes ts ds ls)) rest)
+  unfolding readSteps stepsBytes steps stepsOf _>>=_
+  steps-back acc i [] [] [] rest r = let n : i ≡ i + 0 = omega arith in rw (append-nil acc, ← n) refl
+  steps-back acc i [] [] (l ∷ ls) rest r = absurd r
+  steps-back acc i [] (d ∷ ds) ls rest r = absurd r
+  steps-back acc i (t ∷ ts) [] ls rest r = absurd r
+  steps-back acc i (t ∷ ts) (d ∷ ds) [] rest r = absurd r
+  steps-back acc i (t ∷ ts) (d ∷ ds) (l ∷ ls) rest r =
+      let n : i + length (stepBytes (one t d l)) + length (planBytes ts ds ls) ≡ i + length (stepBytes (one t d l) ++ planBytes ts ds ls) = simp length-append (omega arith) in
+      rw (append-assoc (stepBytes (one t d l)) (planBytes ts ds ls) rest, step-back i t d l (planBytes ts ds ls ++ rest) (r .0) (r .1) (r .2))
+      (steps-back (acc ++ (stepOf i t d l ∷ [])) (i + length (stepBytes (one t d l))) ts ds ls rest (r .3) ∙ rw (n, append-assoc acc (stepOf i t d l ∷ []) (stepsOf (i + length (stepBytes (one t d l))) ts ds ls)) refl)
+
+  of-tests : (i : ℕ) (ts ds ls : List ℕ) → InRange ts ds ls → map (λ s. s .step .test) (stepsOf i ts ds ls) ≡ ts
+  unfolding stepsOf
+  of-tests i [] [] [] r = refl
+  of-tests i [] [] (l ∷ ls) r = absurd r
+  of-tests i [] (d ∷ ds) ls r = absurd r
+  of-tests i (t ∷ ts) [] ls r = absurd r
+  of-tests i (t ∷ ts) (d ∷ ds) [] r = absurd r
+  of-tests i (t ∷ ts) (d ∷ ds) (l ∷ ls) r = ap {B = List ℕ} (λ x. t ∷ x) (of-tests _ ts ds ls (r .3))
+
+  of-drops : (i : ℕ) (ts ds ls : List ℕ) → InRange ts ds ls → map (λ s. s .step .drops) (stepsOf i ts ds ls) ≡ ds
+  unfolding stepsOf
+  of-drops i [] [] [] r = refl
+  of-drops i [] [] (l ∷ ls) r = absurd r
+  of-drops i [] (d ∷ ds) ls r = absurd r
+  of-drops i (t ∷ ts) [] ls r = absurd r
+  of-drops i (t ∷ ts) (d ∷ ds) [] r = absurd r
+  of-drops i (t ∷ ts) (d ∷ ds) (l ∷ ls) r = ap {B = List ℕ} (λ x. d ∷ x) (of-drops _ ts ds ls (r .3))
+
+  of-loads : (i : ℕ) (ts ds ls : List ℕ) → InRange ts ds ls → map (λ s. s .step .loads) (stepsOf i ts ds ls) ≡ ls
+  unfolding stepsOf
+  of-loads i [] [] [] r = refl
+  of-loads i [] [] (l ∷ ls) r = absurd r
+  of-loads i [] (d ∷ ds) ls r = absurd r
+  of-loads i (t ∷ ts) [] ls r = absurd r
+  of-loads i (t ∷ ts) (d ∷ ds) [] r = absurd r
+  of-loads i (t ∷ ts) (d ∷ ds) (l ∷ ls) r = ap {B = List ℕ} (λ x. l ∷ x) (of-loads _ ts ds ls (r .3))
+
+  bytes-back : (ts ds ls : List ℕ) → length ts ≡ tests → InRange ts ds ls → readPlanBytes curves tests (planBytes ts ds ls) ≡ done (stepsOf 0 ts ds ls)
+  unfolding readPlanBytes atEnd _>>=_ _>>_
+  bytes-back ts ds ls n r =
+      let s = steps-back [] 0 ts ds ls [] r in
+      let w : readSteps curves tests tests [] 0 (planBytes ts ds ls) ≡ done (got (stepsOf 0 ts ds ls) (0 + length (planBytes ts ds ls)) []) =
+      subst (λ (m : ℕ). readSteps curves tests m [] 0 (planBytes ts ds ls) ≡ done (got (stepsOf 0 ts ds ls) (0 + length (planBytes ts ds ls)) [])) n
+      (subst (λ (bs : List ℕ). readSteps curves tests (length ts) [] 0 bs ≡ done (got (stepsOf 0 ts ds ls) (0 + length (planBytes ts ds ls)) [])) (append-nil (planBytes ts ds ls)) s) in
+      rw w refl
+
+-- what passes the check is in range
+module _ (places curves : ℕ) (wants : List ℕ) where
+  below : (s : ℕ) → s ≼ allCurves curves → s < 2 ^ curves
+  below s h = inside-below curves s (≼-inside s (allCurves curves) h)
+
+  in-range : (few : curves ≤ 64) (h : ℕ) (ts ds ls : List ℕ) → h ≼ allCurves curves → ((t : ℕ) → length wants ≤ t → count t ts ≡ 0) → StepsOk places (allCurves curves) h (inOrder wants ts) ds ls
+      → InRange curves (length wants) few ts ds ls
+  unfolding inOrder count
+  in-range few h [] [] [] s own ok = tt
+  in-range few h [] [] (l ∷ ls) s own ok = absurd ok
+  in-range few h [] (d ∷ ds) ls s own ok = absurd ok
+  in-range few h (t ∷ ts) [] ls s own ok = absurd ok
+  in-range few h (t ∷ ts) (d ∷ ds) [] s own ok = absurd ok
+  in-range few h (t ∷ ts) (d ∷ ds) (l ∷ ls) s own ok = (
+    test (decLe (length wants) t),
+    below d (λ c. omega (arith, ok .0 .drops c, s c)),
+    below l (ok .0 .known),
+    in-range few (held h d l) ts ds ls (held-≼ h d l (allCurves curves) s (ok .0 .known)) (λ u e. omega (arith, own u e)) (ok .1),
+  )
+    where
+      test : Dec (length wants ≤ t) → t < length wants
+      test (yes e) = absurd (omega (arith, own t e, one-same t))
+      test (no e) = omega arith
+
+-- A PLAN THAT IS WRITTEN READS BACK
+pub plan-back : (places curves : ℕ) (wants order drops loads : List ℕ) (lent : ℕ) (bytes : List ℕ) → writePlan places curves wants order drops loads lent ≡ done bytes
+    → (ss : List Placed) × (planSteps curves (length wants) bytes ≡ done ss) × (map (λ s. s .step .test) ss ≡ order) × (map (λ s. s .step .drops) ss ≡ drops) × (map (λ s. s .step .loads) ss ≡ loads)
+unfolding writePlan planSteps countsKnown someTests curvesKnown testsKnown between
+plan-back places curves wants order drops loads lent bytes e =
+    let a = bind-done (checking places curves wants order drops loads) _ bytes e in
+    let b = both-done (room lent (length (planBytes order drops loads))) (done (planBytes order drops loads)) bytes (a .2) in
+    let p : Passes places curves wants order drops loads = passed places curves wants order drops loads (a .0) (a .1) in
+    let few = p .is-job .curves-bounds .1 in
+    let r : InRange curves (length wants) few order drops loads = in-range places curves wants few 0 order drops loads (λ c. omega (arith, bit-empty c)) (p .is-order .only) (p .steps) in
+    let ss = stepsOf curves (length wants) few 0 order drops loads in (
+      ss,
+      done-both _ _ (counts-done curves (length wants) (p .is-job .curves-bounds) (p .is-job .tests-bounds))
+          ∙ ap (readPlanBytes curves (length wants)) (sym (done-same (b .1)))
+          ∙ bytes-back curves (length wants) few order drops loads (order-length (length wants) order (p .is-order)) r,
+      of-tests curves (length wants) few 0 order drops loads r,
+      of-drops curves (length wants) few 0 order drops loads r,
+      of-loads curves (length wants) few 0 order drops loads r,
+    )
+  where
+    counts-done : (curves tests : ℕ) → (1 ≤ curves) × (curves ≤ 64) → (1 ≤ tests) × (tests ≤ 256) → countsKnown curves tests ≡ done tt
+    counts-done curves tests c t =
+        done-both _ _ (demand-done _ 5 0 (lt-ltb 0 tests (t .0)))
+        ∙ done-both _ _ (demand-done _ 10 1 (and _ _ (le-leb 1 curves (c .0)) (le-leb curves 64 (c .1))))
+        ∙ demand-done _ 10 2 (le-leb tests 256 (t .1))
+
+-- ---- read, then written
+module _ (curves tests : ℕ) where
+  record FieldRead (d : ℕ) (bs : List ℕ) (g : Got ℕ) : Type 0 where
+    bit-stands : d ≡ stands (g .value)
+    bytes : bs ≡ setField (g .value) ++ g .rest
+    tail : Bytes (g .rest)
+
+  field-read : (d i : ℕ) (bs : List ℕ) (g : Got ℕ) → d ≤ 1 → Bytes bs → readSet curves tests d i bs ≡ done g → FieldRead d bs g
+  unfolding readSet byteAt _>>=_
+  field-read zero i bs g l all e = subst (FieldRead zero bs) (done-same e) (record { bit-stands = unfold stands in refl; bytes = unfold setField in refl; tail = all })
+  field-read (suc d) i [] g l all e = absurd (refused≢done e)
+  field-read (suc d) i (M ∷ bs) g l all e =
+      let a = both-done (demand (ltb 0 M) 11 i) (readGroups 11 11 11 curves 8 0 M 0 (suc i) bs) g e in
+      let s : SetRead curves M (suc i) bs g = set-read 11 11 11 curves M (suc i) bs g (all .0) (all .1) (a .1) in
+      go (g .value) refl (s .map) (ltb-true 0 M (demand-true (ltb 0 M) 11 i (a .0))) (s .bytes) (s .tail)
+    where
+      go : (v : ℕ) → g .value ≡ v → groupMap 8 (g .value) ≡ M → 0 < M → bs ≡ groupBytes 8 (g .value) ++ g .rest → Bytes (g .rest) → FieldRead (suc d) (M ∷ bs) g
+      go zero v m p b t = absurd (omega (arith, m, ap (groupMap 8) v, map-zero))
+      go (suc v) q m p b t =
+          record {
+            bit-stands = rw q (unfold stands in (omega arith));
+            bytes = ap {B = List ℕ} (λ l. M ∷ l) b ∙ ap {B = List ℕ} (λ x. x ∷ (groupBytes 8 (g .value) ++ g .rest)) (sym m) ∙ sym (ap (λ (l : List ℕ). l ++ g .rest) (whole (g .value) v q));
+            tail = t;
+          }
+        where
+          whole : (s v : ℕ) → s ≡ suc v → setField s ≡ groupMap 8 s ∷ groupBytes 8 s
+          whole s v e = rw e (unfold setField setBytes in refl)
+
+  record StepRead (bs : List ℕ) (g : Got Placed) : Type 0 where
+    bytes : bs ≡ stepBytes (g .value .step) ++ g .rest
+    tail : Bytes (g .rest)
+
+  -- a map, the two sets and the test
+  step-bytes : (M t : ℕ) (bs rest : List ℕ) (ds ls : Got ℕ) → 4 ≤ M → M ≤ 7 → FieldRead (bit 0 M) bs ds → FieldRead (bit 1 M) (ds .rest) ls → ls .rest ≡ t ∷ rest
+      → M ∷ bs ≡ stepBytes (one t (ds .value) (ls .value)) ++ rest
+  unfolding stepBytes
+  step-bytes M t bs rest ds ls l h D L e =
+      let m : M ≡ stands (ds .value) + 2 * stands (ls .value) + 4 = omega (arith, step-map M l h, D .bit-stands, L .bit-stands) in
+      let b : bs ≡ setField (ds .value) ++ (setField (ls .value) ++ (t ∷ rest)) =
+      D .bytes ∙ ap (λ (x : List ℕ). setField (ds .value) ++ x) (L .bytes ∙ ap (λ (x : List ℕ). setField (ls .value) ++ x) e) in
+      ap {B = List ℕ} (λ x. M ∷ x) b ∙ ap {B = List ℕ} (λ x. x ∷ (setField (ds .value) ++ (setField (ls .value) ++ (t ∷ rest)))) m ∙ simp append-assoc
+
+  step-read : (i : ℕ) (bs : List ℕ) (g : Got Placed) → Bytes bs → readStep curves tests i bs ≡ done g → StepRead bs g
+  unfolding readStep byteAt between _>>=_
+  step-read i [] g all e = absurd (refused≢done e)
+  step-read i (M ∷ bs) g all e =
+      let a = both-done (demand (leb 4 M && leb M 7) 11 i) _ g e in
+      let m = both (leb 4 M) (leb M 7) (demand-true _ 11 i (a .0)) in
+      let d = bind-done (readSet curves tests (bit 0 M) (suc i) bs) _ g (a .1) in
+      let D : FieldRead (bit 0 M) bs (d .0) = field-read (bit 0 M) (suc i) bs (d .0) (omega arith) (all .1) (d .1) in
+      let l = bind-done (readSet curves tests (bit 1 M) (d .0 .next) (d .0 .rest)) _ g (d .2) in
+      let L : FieldRead (bit 1 M) (d .0 .rest) (l .0) = field-read (bit 1 M) (d .0 .next) (d .0 .rest) (l .0) (omega arith) (D .tail) (l .1) in
+      last (l .0 .rest) (l .0 .next) (d .0) (l .0) (leb-true 4 M (m .0)) (leb-true M 7 (m .1)) D L refl (L .tail) (l .2)
+    where
+      last : (r : List ℕ) (n : ℕ) (ds ls : Got ℕ) → 4 ≤ M → M ≤ 7 → FieldRead (bit 0 M) bs ds → FieldRead (bit 1 M) (ds .rest) ls → ls .rest ≡ r → Bytes (ls .rest)
+          → _>>=_ (byteAt 11 n r) (λ t. _>>_ (demand (ltb (t .value) tests) 11 n) (done (got (record { step = one (t .value) (ds .value) (ls .value); from = i; until = t .next }) (t .next) (t .rest)))) ≡ done g
+          → StepRead (M ∷ bs) g
+      last [] n ds ls lo hi D L q tl e = absurd (refused≢done e)
+      last (t ∷ rest) n ds ls lo hi D L q tl e =
+          let b = both-done (demand (ltb t tests) 11 n) (done (got (record { step = one t (ds .value) (ls .value); from = i; until = suc n }) (suc n) rest)) g e in
+          let tb : Bytes (t ∷ rest) = subst Bytes q tl in
+          subst (StepRead (M ∷ bs)) (done-same (b .1)) (record { bytes = step-bytes M t bs rest ds ls lo hi D L q; tail = tb .1 })
+
+  record StepsRead (k : ℕ) (acc : List Placed) (bs : List ℕ) (g : Got (List Placed)) : Type 0 where
+    steps : List Placed
+    value : g .value ≡ acc ++ steps
+    bytes : bs ≡ planBytes (map (λ s. s .step .test) steps) (map (λ s. s .step .drops) steps) (map (λ s. s .step .loads) steps) ++ g .rest
+    tail : Bytes (g .rest)
+
+  steps-read : (k : ℕ) (acc : List Placed) (i : ℕ) (bs : List ℕ) (g : Got (List Placed)) → Bytes bs → readSteps curves tests k acc i bs ≡ done g → StepsRead k acc bs g
+  unfolding readSteps stepsBytes steps
+  steps-read zero acc i bs g all e = subst (StepsRead zero acc bs) (done-same e) (record { steps = []; value = sym (append-nil acc); bytes = refl; tail = all })
+  steps-read (suc k) acc i bs g all e =
+      let x = bind-done (readStep curves tests i bs) _ g e in
+      let s : StepRead bs (x .0) = step-read i bs (x .0) all (x .1) in
+      let r : StepsRead k (acc ++ (x .0 .value ∷ [])) (x .0 .rest) g = steps-read k (acc ++ (x .0 .value ∷ [])) (x .0 .next) (x .0 .rest) g (s .tail) (x .2) in
+      record {
+        steps = x .0 .value ∷ r .steps;
+        value = r .value ∙ append-assoc acc (x .0 .value ∷ []) (r .steps);
+        bytes = s .bytes ∙ ap (λ (l : List ℕ). stepBytes (x .0 .value .step) ++ l) (r .bytes)
+            ∙ sym (append-assoc (stepBytes (x .0 .value .step)) (planBytes (map (λ s. s .step .test) (r .steps)) (map (λ s. s .step .drops) (r .steps)) (map (λ s. s .step .loads) (r .steps))) (g .rest));
+        tail = r .tail;
+      }
+
+  -- BYTES THAT READ AS A PLAN are those that are written for it
+  pub plan-bytes-read : (bs : List ℕ) (ss : List Placed) → Bytes bs → readPlanBytes curves tests bs ≡ done ss → planBytes (map (λ s. s .step .test) ss) (map (λ s. s .step .drops) ss) (map (λ s. s .step .loads) ss) ≡ bs
+  unfolding readPlanBytes
+  plan-bytes-read bs ss all e =
+      let x = bind-done (readSteps curves tests tests [] 0 bs) _ ss e in
+      let r : StepsRead tests [] bs (x .0) = steps-read tests [] 0 bs (x .0) all (x .1) in
+      let z = both-done (atEnd 11 (x .0 .next) (x .0 .rest)) (done (x .0 .value)) ss (x .2) in
+      found (r .steps) (x .0 .rest) (sym (r .value) ∙ done-same (z .1)) (r .bytes) (end-none 11 (x .0 .next) (x .0 .rest) (z .0))
+    where
+      found : (ts : List Placed) (rest : List ℕ) → ts ≡ ss → bs ≡ planBytes (map (λ s. s .step .test) ts) (map (λ s. s .step .drops) ts) (map (λ s. s .step .loads) ts) ++ rest → rest ≡ []
+          → planBytes (map (λ s. s .step .test) ss) (map (λ s. s .step .drops) ss) (map (λ s. s .step .loads) ss) ≡ bs
+      found ts rest q b n =
+          subst (λ (us : List Placed). planBytes (map (λ s. s .step .test) us) (map (λ s. s .step .drops) us) (map (λ s. s .step .loads) us) ≡ bs) q
+          (sym (b ∙ ap (λ (l : List ℕ). planBytes (map (λ s. s .step .test) ts) (map (λ s. s .step .drops) ts) (map (λ s. s .step .loads) ts) ++ l) n ∙ append-nil _))
+
+-- .. so a plan that reads and passes the check is written as the bytes that it was read from
+pub plan-read : (places curves : ℕ) (wants bs : List ℕ) (ss : List Placed) → Bytes bs → planSteps curves (length wants) bs ≡ done ss
+    → (n : ℕ) → checking places curves wants (map (λ s. s .step .test) ss) (map (λ s. s .step .drops) ss) (map (λ s. s .step .loads) ss) ≡ done n
+    → writePlan places curves wants (map (λ s. s .step .test) ss) (map (λ s. s .step .drops) ss) (map (λ s. s .step .loads) ss) (length bs) ≡ done bs
+unfolding writePlan planSteps _>>=_
+plan-read places curves wants bs ss all e n c =
+    let s = plan-bytes-read curves (length wants) bs ss all (both-done (countsKnown curves (length wants)) _ ss e .1) in
+    rw c (done-both _ _ (done-room (length bs) _ (omega (arith, ap length s))) ∙ ap done s)

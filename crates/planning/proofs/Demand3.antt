@@ -1,0 +1,204 @@
+-- DEMAND 3, proved: of planning and the plan check, for every job and every order of its tests.
+use mathlib.Core.Path.{_≡_, refl, sym, ap, _∙_, subst}
+use mathlib.Core.Logic.{_↔_, _⊎_, inl, inr}
+use mathlib.Core.Bool.{Bool, true, false, _&&_, false≢true}
+use mathlib.Core.List.{List, [], _∷_, _++_}
+use Prim.Native.Nat.{ℕ, zero, suc, _+_, _-_, _^_, _%_, _≤_, _<_, zero-le, min}
+use native.Mathlib.Omega.{arith}
+use native.Mathlib.Decide.{decLe}
+use native.Mathlib.Nat.{mod-eq-of-lt, mod-lt}
+use lib.Pow.{pow-pos}
+use lib.Dec.{leb, ltb, eqb}
+use lib.ListN.{length, getD, take, drop, List·getD-eq-default}
+use lib.Seq.{take-at}
+use lib.Bits.{and-mask}
+use borrow.Author.Tests.{ltb-true, leb-true, leb-false, eqb-true, le-leb, lt-ltb, lt-leb, eq-eqb}
+use Rattle.bitset.specs.Set.{_∖_, size, inside}
+use Rattle.bitset.proofs.Bits.{bit-empty, size-empty}
+use Rattle.job.specs.Refusal.{Outcome, done, refused, _>>=_, _>>_, mapped, demand, room, leaves, overwritten}
+use Rattle.job.specs.Handed.{between, allCurves, each, someTests, placesKnown, curvesKnown, testsKnown, wantsKnown, wantsFit, jobKnown}
+use Rattle.job.proofs.Laws.{both, and, refused≢done, demand-true, demand-done, both-done, done-both, each-true, true-each, each-cases, mapped-done, mapped-refused, leaves-done, leaves-refused, done-room}
+use Rattle.job.specs.Choice.{Found}
+use Rattle.planning.specs.Order.{orderKnown}
+use Rattle.planning.specs.Plan.{inOrder, loadCount, checkSteps, furthest, dropSets, loadSets}
+use Rattle.planning.specs.Planning.{Plan, ourPlan, planning, planned, planAnswer, planDrops, planLoads, setsKnown, checking}
+use Rattle.planning.proofs.Fewest.{_≼_, AllFit, inside-≼, ≼-inside}
+use Rattle.planning.proofs.Best.{furthest-passes, furthest-is-fewest}
+use Rattle.job.specs.Words.{IsJob, IsOrder}
+use Rattle.planning.specs.Demand3.{Demand3}
+use Rattle.job.proofs.Orders.{order-length}
+use Rattle.job.proofs.JobExact.{job-exact}
+use Rattle.planning.proofs.OrderExact.{order-passes, passed-order}
+
+-- ---- lengths
+
+length-inOrder : (wants order : List ℕ) → length (inOrder wants order) ≡ length order
+unfolding inOrder
+length-inOrder wants [] = refl
+length-inOrder wants (t ∷ ts) = ap suc (length-inOrder wants ts)
+
+length-dropSets : (pick : ℕ → List ℕ → Found ℕ) (p h : ℕ) (ws : List ℕ) → length (dropSets pick p h ws) ≡ length ws
+unfolding dropSets
+length-dropSets pick p h [] = refl
+length-dropSets pick p h (w ∷ ws) = ap suc (length-dropSets pick p _ ws)
+
+length-loadSets : (pick : ℕ → List ℕ → Found ℕ) (p h : ℕ) (ws : List ℕ) → length (loadSets pick p h ws) ≡ length ws
+unfolding loadSets
+length-loadSets pick p h [] = refl
+length-loadSets pick p h (w ∷ ws) = ap suc (length-loadSets pick p _ ws)
+
+take-overwritten : (n : ℕ) (new old : List ℕ) → length new ≡ n → take n (overwritten new old) ≡ new
+unfolding overwritten
+take-overwritten n new old e = take-at new (drop (length new) old) n e
+
+-- ---- planning that is done
+
+module _ (places curves : ℕ) (wants order : List ℕ) where
+  known-wants : jobKnown places curves wants ≡ done tt → wantsKnown curves wants ≡ done tt
+  unfolding jobKnown
+  known-wants e =
+      let a = both-done (someTests (length wants)) _ tt e in
+      let b = both-done (placesKnown places) _ tt (a .1) in
+      let c = both-done (curvesKnown curves) _ tt (b .1) in
+      both-done (testsKnown (length wants)) _ tt (c .1) .1
+
+  -- the wants of each step
+  steps-fit : wantsKnown curves wants ≡ done tt → wantsFit places wants ≡ done tt → (ts : List ℕ) → AllFit places (allCurves curves) (inOrder wants ts)
+  unfolding inOrder wantsKnown wantsFit
+  steps-fit k f [] = tt
+  steps-fit k f (t ∷ ts) = (one (decLe (length wants) t) .0, one (decLe (length wants) t) .1, steps-fit k f ts)
+    where
+      one : Dec (length wants ≤ t) → (getD wants t 0 ≼ allCurves curves) × (size (getD wants t 0) ≤ places)
+      one (yes l) = rw (List·getD-eq-default wants 0 l) ((λ c. omega (arith, bit-empty c)), omega (arith, size-empty))
+      one (no l) = (
+        inside-≼ (getD wants t 0) (allCurves curves) (each-true (λ w. inside w (allCurves curves)) 10 4 wants k t (omega arith)),
+        leb-true (size (getD wants t 0)) places (each-true (λ w. leb (size w) places) 7 0 wants f t (omega arith)),
+      )
+
+  empty-≼ : 0 ≼ allCurves curves
+  empty-≼ c = omega (arith, bit-empty c)
+
+  record Given (lentDrops lentLoads : ℕ) (plan : Plan) : Type 0 where
+    job : jobKnown places curves wants ≡ done tt
+    ord : orderKnown (length wants) order ≡ done tt
+    fit : wantsFit places wants ≡ done tt
+    is : ourPlan places curves wants order ≡ plan
+
+  given : (ld ll : ℕ) (plan : Plan) → planning places curves wants order ld ll ≡ done plan → Given ld ll plan
+  unfolding planning _>>=_
+  given ld ll plan e =
+      let a = both-done (jobKnown places curves wants) _ plan e in
+      let b = both-done (orderKnown (length wants) order) _ plan (a .1) in
+      let c = both-done (wantsFit places wants) _ plan (b .1) in
+      let d = both-done (room ld (length wants)) _ plan (c .1) in
+      record { job = a .0; ord = b .0; fit = c .0; is = go (room ll (length wants)) (d .1) }
+    where
+      go : (r : Outcome (Unit {0})) → _>>=_ r (λ ready. done (ourPlan places curves wants order)) ≡ done plan → ourPlan places curves wants order ≡ plan
+      go (done tt) e = cc
+      go (refused k i) e = absurd (refused≢done e)
+
+  planning-done : (ld ll : ℕ) → jobKnown places curves wants ≡ done tt → orderKnown (length wants) order ≡ done tt → wantsFit places wants ≡ done tt
+      → length wants ≤ ld → length wants ≤ ll → planning places curves wants order ld ll ≡ done (ourPlan places curves wants order)
+  unfolding planning _>>=_
+  planning-done ld ll j o f d l = done-both _ _ j ∙ done-both _ _ o ∙ done-both _ _ f ∙ done-both _ _ (done-room ld (length wants) d) ∙ rw (done-room ll (length wants) l) refl
+
+  planning-refused : (ld ll k i : ℕ) → jobKnown places curves wants ≡ done tt → orderKnown (length wants) order ≡ done tt → wantsFit places wants ≡ refused k i
+      → planning places curves wants order ld ll ≡ refused k i
+  unfolding planning _>>_
+  planning-refused ld ll k i j o f = done-both _ _ j ∙ done-both _ _ o ∙ rw f refl
+
+  abbrev steps : List ℕ
+  steps = inOrder wants order
+
+  steps-length : orderKnown (length wants) order ≡ done tt → length steps ≡ length wants
+  steps-length o = length-inOrder wants order ∙ order-length (length wants) order (passed-order (length wants) order o)
+
+  our-check : jobKnown places curves wants ≡ done tt → orderKnown (length wants) order ≡ done tt → wantsFit places wants ≡ done tt
+      → checking places curves wants order (dropSets (furthest curves) places 0 steps) (loadSets (furthest curves) places 0 steps) ≡ done (loadCount (loadSets (furthest curves) places 0 steps))
+  unfolding checking setsKnown
+  our-check j o f =
+      done-both _ _ j ∙ done-both _ _ o
+      ∙ done-both _ _ (demand-done _ 12 _ (and _ _ (eq-eqb _ (length wants) (length-dropSets (furthest curves) places 0 steps ∙ steps-length o)) (eq-eqb _ (length wants) (length-loadSets (furthest curves) places 0 steps ∙ steps-length o))))
+      ∙ done-both _ _ (furthest-passes curves places 0 0 steps empty-≼ (steps-fit (known-wants j) f order))
+
+  our-least : (ds ls : List ℕ) (m : ℕ) → checking places curves wants order ds ls ≡ done m → loadCount (loadSets (furthest curves) places 0 steps) ≤ loadCount ls
+  unfolding checking
+  our-least ds ls m e =
+      let a = both-done (jobKnown places curves wants) _ m e in
+      let b = both-done (orderKnown (length wants) order) _ m (a .1) in
+      let c = both-done (setsKnown (length wants) (length ds) (length ls)) _ m (b .1) in
+      let d = both-done (checkSteps places (allCurves curves) 0 0 steps ds ls) (done (loadCount ls)) m (c .1) in
+      furthest-is-fewest curves places 0 0 steps empty-≼ ds ls (d .0)
+
+  module _ (drops loads : List ℕ) where
+    abbrev plan : Outcome Plan
+    plan = planned places curves wants order drops loads
+
+    -- the plan that was given is ours
+    record Ours (n : ℕ) : Type 0 where
+      job : jobKnown places curves wants ≡ done tt
+      ord : orderKnown (length wants) order ≡ done tt
+      fit : wantsFit places wants ≡ done tt
+      total : n ≡ loadCount (loadSets (furthest curves) places 0 steps)
+      first-drops : take (length wants) (planDrops places curves wants order drops loads) ≡ dropSets (furthest curves) places 0 steps
+      first-loads : take (length wants) (planLoads places curves wants order drops loads) ≡ loadSets (furthest curves) places 0 steps
+
+    ours : (n : ℕ) → planAnswer places curves wants order drops loads ≡ done n → Ours n
+    unfolding planAnswer planDrops planLoads ourPlan
+    ours n e =
+        let m = mapped-done (λ p. loadCount (p .loads)) plan n e in
+        let g = given (length drops) (length loads) (m .0) (m .1) in
+        let d : plan ≡ done (ourPlan places curves wants order) = m .1 ∙ ap done (sym (g .is)) in
+        record {
+          job = g .job;
+          ord = g .ord;
+          fit = g .fit;
+          total = sym (m .2) ∙ ap (λ (p : Plan). loadCount (p .loads)) (sym (g .is));
+          first-drops = ap (take (length wants)) (leaves-done (λ p. p .drops) plan _ drops d) ∙ take-overwritten (length wants) _ drops (length-dropSets (furthest curves) places 0 steps ∙ steps-length (g .ord));
+          first-loads = ap (take (length wants)) (leaves-done (λ p. p .loads) plan _ loads d) ∙ take-overwritten (length wants) _ loads (length-loadSets (furthest curves) places 0 steps ∙ steps-length (g .ord));
+        }
+
+    too-large : (k i : ℕ) → jobKnown places curves wants ≡ done tt → orderKnown (length wants) order ≡ done tt
+        → length wants ≤ length (planDrops places curves wants order drops loads) → length wants ≤ length (planLoads places curves wants order drops loads)
+        → planAnswer places curves wants order drops loads ≡ refused k i → (t : ℕ) × (t < length wants) × (places < size (getD wants t 0))
+    unfolding planAnswer planDrops planLoads wantsFit
+    too-large k i j o hd hl e = go (each-cases (λ w. leb (size w) places) 7 0 wants)
+      where
+        r : plan ≡ refused k i
+        r = mapped-refused (λ p. loadCount (p .loads)) plan k i e
+
+        kept : (f : Plan → List ℕ) (old : List ℕ) → leaves (mapped f plan) old ≡ old
+        kept f old = leaves-refused f plan k i old r
+
+        go : (each (λ w. leb (size w) places) 7 0 wants ≡ done tt)
+            ⊎ ((t : ℕ) × (t < length wants) × (leb (size (getD wants t 0)) places ≡ false) × (each (λ w. leb (size w) places) 7 0 wants ≡ refused 7 (0 + t)))
+            → (t : ℕ) × (t < length wants) × (places < size (getD wants t 0))
+        go (inl f) =
+            absurd (refused≢done (sym r ∙ planning-done (length drops) (length loads) j o f
+            (omega (arith, ap length (kept (λ p. p .drops) drops))) (omega (arith, ap length (kept (λ p. p .loads) loads)))))
+        go (inr x) = (x .0, x .1, leb-false (size (getD wants (x .0) 0)) places (x .2))
+
+    missing-too-large : jobKnown places curves wants ≡ done tt → orderKnown (length wants) order ≡ done tt
+        → (t : ℕ) → t < length wants → places < size (getD wants t 0) → (k : ℕ) × (i : ℕ) × (planAnswer places curves wants order drops loads ≡ refused k i)
+    unfolding planAnswer wantsFit
+    missing-too-large j o t l h = go (each-cases (λ w. leb (size w) places) 7 0 wants)
+      where
+        go : (each (λ w. leb (size w) places) 7 0 wants ≡ done tt)
+            ⊎ ((t : ℕ) × (t < length wants) × (leb (size (getD wants t 0)) places ≡ false) × (each (λ w. leb (size w) places) 7 0 wants ≡ refused 7 (0 + t)))
+            → (k : ℕ) × (i : ℕ) × (mapped (λ p. loadCount (p .loads)) plan ≡ refused k i)
+        go (inl f) = absurd (omega (arith, leb-true (size (getD wants t 0)) places (each-true (λ w. leb (size w) places) 7 0 wants f t l)))
+        go (inr x) = (7, 0 + x .0, rw (planning-refused (length drops) (length loads) 7 (0 + x .0) j o (x .3)) (unfold mapped in refl))
+
+    -- DEMAND 3
+    pub demand3 : Demand3 places curves wants order (planAnswer places curves wants order drops loads) (planDrops places curves wants order drops loads) (planLoads places curves wants order drops loads)
+    demand3 =
+        record {
+          ours = λ n e. let g : Ours n = ours n e in rw (g .first-drops, g .first-loads) (unfold ourPlan in refl);
+          passes = λ n e. let g : Ours n = ours n e in rw (g .first-drops, g .first-loads, g .total) (our-check (g .job) (g .ord) (g .fit));
+          counted = λ n e. let g : Ours n = ours n e in g .total ∙ ap loadCount (sym (g .first-loads));
+          least = λ n e ds ls m c. omega (arith, ours n e .total, our-least ds ls m c);
+          missing = λ j o hd hl. (
+            (λ x. too-large (x .0) (x .1) (job-exact places curves wants .1 j) (order-passes (length wants) order o) hd hl (x .2)),
+            (λ x. missing-too-large (job-exact places curves wants .1 j) (order-passes (length wants) order o) (x .0) (x .1) (x .2)),
+          );
+        }

@@ -1,0 +1,13 @@
+-- What the rules of planning mean, and demand 3.
+--     OrderExact  refusal 8 is not given exactly where an order names each test once
+--     CheckExact  the check passes exactly the plans that keep every rule
+--     Fewest      the plan of any good choice of victims passes the check with the fewest loads
+--     Best        the furthest next use is a good choice
+--     Demand3     DEMAND 3, the proof
+--     Turns       one turn of a loop over steps
+pub mod OrderExact
+pub mod CheckExact
+pub mod Fewest
+pub mod Best
+pub mod Demand3
+pub mod Turns

@@ -1,0 +1,117 @@
+-- One turn of a loop over steps: what the rules of planning and checking come to at step i.
+use mathlib.Core.Path.{_≡_, refl, sym, ap, _∙_}
+use mathlib.Core.Bool.{Bool, true, false, not, _&&_}
+use mathlib.Core.List.{List, [], _∷_, _++_}
+use Prim.Native.Nat.{ℕ, zero, suc, _+_, _-_, _^_, _≤_, _<_}
+use native.Mathlib.Omega.{arith}
+use native.Mathlib.Numerals.{add-one}
+use native.Mathlib.Decide.{decLe}
+use lib.Dec.{leb, ltb}
+use lib.ListN.{length, getD, take, drop, drop-of-length-le, length-take}
+use lib.Seq.{drop-cons, take-suc, length-take-le}
+use borrow.Author.Tests.{ltb-true, ltb-false, lt-ltb, le-ltb}
+use Rattle.bitset.specs.Set.{_∪_, _∖_, size, bit}
+use Rattle.bitset.proofs.Bits.{bitwise, same-by-bits}
+use Rattle.job.specs.Refusal.{Outcome, done, refused, _>>_, demand}
+use Rattle.job.specs.Handed.{listed}
+use Rattle.job.specs.Choice.{Found, found}
+use Rattle.planning.specs.declared.NextUse.{NextUse}
+use Rattle.planning.specs.declared.NextUse.the-variants.{At, Never}
+use Rattle.planning.specs.Order.{orderFrom}
+use Rattle.planning.specs.Plan.{inOrder, loadCount, held, stepPasses, checkSteps, later, useBy, nextUse, further, andThen, victims, dropsFor, heldAfter, dropSets, loadSets}
+
+-- ---- the wants of step i
+pub wants-at : (wants order : List ℕ) (i : ℕ) → i < length order → getD (inOrder wants order) i 0 ≡ getD wants (getD order i 0) 0
+unfolding inOrder
+wants-at wants [] i h = absurd (omega arith)
+wants-at wants (t ∷ ts) zero h = refl
+wants-at wants (t ∷ ts) (suc i) h = wants-at wants ts i (omega arith)
+
+-- ---- the examination of an order, at position i
+module _ (n : ℕ) (order : List ℕ) (i : ℕ) where
+  pub order-next : i < length order
+      → orderFrom n (take i order) (drop i order) ≡ _>>_ (demand (ltb i n && ltb (getD order i 0) n && not (listed (take i order) (getD order i 0))) 8 i) (orderFrom n (take (i + 1) order) (drop (i + 1) order))
+  unfolding orderFrom
+  order-next h =
+      let l : length (take i order) ≡ i = length-take-le i order (omega arith) in
+      rw (add-one i, take-suc order i 0 h) (rw (drop-cons order i 0 h) (rw l refl))
+
+  pub order-end : length order ≤ i → i ≤ length order → orderFrom n (take i order) (drop i order) ≡ demand (leb n i) 8 i
+  unfolding orderFrom
+  order-end h g =
+      let l : length (take i order) ≡ i = length-take-le i order g in
+      rw (drop-of-length-le order h) (rw l refl)
+
+-- ---- dropping one by one: acc is dropped so far
+∪-assoc : (a b c : ℕ) → (a ∪ b) ∪ c ≡ a ∪ (b ∪ c)
+∪-assoc a b c = same-by-bits ((a ∪ b) ∪ c) (a ∪ (b ∪ c)) (λ k. simp bitwise (omega arith))
+
+pub victims-next : (pick : ℕ → List ℕ → Found ℕ) (acc e cs v : ℕ) (ws : List ℕ) → pick cs ws ≡ found v
+    → acc ∪ victims pick (suc e) cs ws ≡ (acc ∪ 2 ^ v) ∪ victims pick e (cs ∖ 2 ^ v) ws
+unfolding victims andThen
+victims-next pick acc e cs v ws p = rw p (sym (∪-assoc acc (2 ^ v) (victims pick e (cs ∖ 2 ^ v) ws)))
+
+-- ---- the steps of our plan, with h held before step i of the steps that want ws
+module _ (pick : ℕ → List ℕ → Found ℕ) (places h i : ℕ) (ws : List ℕ) (below : i < length ws) where
+  pub drops-next : dropSets pick places h (drop i ws)
+      ≡ dropsFor pick places h (getD ws i 0) (drop (i + 1) ws) ∷ dropSets pick places (heldAfter pick places h (getD ws i 0) (drop (i + 1) ws)) (drop (i + 1) ws)
+  unfolding dropSets
+  drops-next = rw (add-one i, drop-cons ws i 0 below) refl
+
+  pub loads-next : loadSets pick places h (drop i ws) ≡ getD ws i 0 ∖ h ∷ loadSets pick places (heldAfter pick places h (getD ws i 0) (drop (i + 1) ws)) (drop (i + 1) ws)
+  unfolding loadSets
+  loads-next = rw (add-one i, drop-cons ws i 0 below) refl
+
+-- ---- the check of step i
+module _ (places all h i : ℕ) (ws ds ls : List ℕ) (below : i < length ws) (drops : length ds ≡ length ws) (loads : length ls ≡ length ws) where
+  pub check-next : checkSteps places all i h (drop i ws) (drop i ds) (drop i ls)
+      ≡ _>>_ (demand (stepPasses places all h (getD ws i 0) (getD ds i 0) (getD ls i 0)) 12 i)
+      (checkSteps places all (i + 1) (held h (getD ds i 0) (getD ls i 0)) (drop (i + 1) ws) (drop (i + 1) ds) (drop (i + 1) ls))
+  unfolding checkSteps
+  check-next = rw (add-one i, drop-cons ws i 0 below, drop-cons ds i 0 (omega arith), drop-cons ls i 0 (omega arith)) refl
+
+pub check-end : (places all h i : ℕ) (ws ds ls : List ℕ) → length ws ≤ i → length ds ≡ length ws → length ls ≡ length ws
+    → checkSteps places all i h (drop i ws) (drop i ds) (drop i ls) ≡ done tt
+unfolding checkSteps
+check-end places all h i ws ds ls e d l =
+    let hd : length ds ≤ i = omega arith in
+    let hl : length ls ≤ i = omega arith in
+    rw (drop-of-length-le ws e, drop-of-length-le ds hd, drop-of-length-le ls hl) refl
+
+-- ---- the next use by the step's number: `stepOf s` where the first of the later steps is step s
+unfoldable pub stepOf : ℕ → NextUse → NextUse
+stepOf s (At m) = At (s + m)
+stepOf s Never = Never
+
+pub use-wanted : (c s : ℕ) (ws : List ℕ) → s < length ws → bit c (getD ws s 0) ≡ 1 → stepOf s (nextUse c (drop s ws)) ≡ At s
+unfolding stepOf nextUse useBy
+use-wanted c s ws h b = rw (drop-cons ws s 0 h, b) (ap At (omega arith))
+
+pub use-later : (c s : ℕ) (ws : List ℕ) → s < length ws → bit c (getD ws s 0) ≡ 0 → stepOf s (nextUse c (drop s ws)) ≡ stepOf (s + 1) (nextUse c (drop (s + 1) ws))
+unfolding nextUse useBy
+use-later c s ws h b = rw (add-one s, drop-cons ws s 0 h, b) (go (nextUse c (drop (suc s) ws)))
+  where
+    go : (u : NextUse) → stepOf s (later u) ≡ stepOf (suc s) u
+    go Never = unfold stepOf later in refl
+    go (At m) = unfold stepOf later in ap At (omega arith)
+
+pub use-never : (c s : ℕ) (ws : List ℕ) → length ws ≤ s → stepOf s (nextUse c (drop s ws)) ≡ Never
+unfolding stepOf nextUse
+use-never c s ws h = rw (drop-of-length-le ws h) refl
+
+pub further-step : (s : ℕ) (a b : NextUse) → further (stepOf s a) (stepOf s b) ≡ further a b
+unfolding further stepOf
+further-step s Never Never = refl
+further-step s Never (At n) = refl
+further-step s (At m) Never = refl
+further-step s (At m) (At n) = go (decLe m n)
+  where
+    go : Dec (m ≤ n) → ltb (s + n) (s + m) ≡ ltb n m
+    go (yes h) = le-ltb (s + n) (s + m) (omega arith) ∙ sym (le-ltb n m h)
+    go (no h) = lt-ltb (s + n) (s + m) (omega arith) ∙ sym (lt-ltb n m (omega arith))
+
+-- ---- the load count, one set more
+pub count-next : (ls : List ℕ) (l : ℕ) → loadCount (ls ++ (l ∷ [])) ≡ loadCount ls + size l
+unfolding loadCount
+count-next [] l = omega arith
+count-next (k ∷ ls) l = omega (arith, count-next ls l)

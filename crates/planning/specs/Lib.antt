@@ -1,0 +1,9 @@
+-- Plans: "Plans", "Our plan", and demand 3 of document 01.
+--     Order     the examination of an order: refusal 8
+--     Plan      steps, the plan check, and our plan, step by step
+--     Planning  planning and checking, with their refusals, and what planning leaves in the lent lists
+--     Demand3   DEMAND 3, the statement
+pub mod Order
+pub mod Plan
+pub mod Planning
+pub mod Demand3

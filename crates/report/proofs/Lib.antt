@@ -1,0 +1,2 @@
+-- The numbers of the sheet are in decimal.
+pub mod Decimal

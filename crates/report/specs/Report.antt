@@ -1,0 +1,74 @@
+-- "The sheet program prints test count, places and method; for each step its position, test, drops and loads in rising order; the load count."
+use mathlib.Core.List.{List, [], _∷_, _++_}
+use Prim.Native.Nat.{ℕ, zero, suc, _+_, _/_, _%_}
+use Prim.Native.Char.{code}
+use Prim.Native.String.{String}
+use lib.ListN.{length}
+use Rattle.bitset.specs.Set.{bit}
+use Rattle.job.specs.Refusal.{Outcome, done, refused, _>>=_, _>>_, mapped, room, leaves}
+use Rattle.planning.specs.Plan.{Step, steps, loadCount}
+use Rattle.curveplan.specs.Call.{Planned, planJob}
+
+-- the bytes of a text
+unfoldable pub text : String → List ℕ
+text String.[] = []
+text (String._∷_ c s) = code c ∷ text s
+
+-- "all other figures decimal": n in decimal digits, its last digit behind those of n / 10, of which there are at most h (`Decimal`: n are enough)
+unfoldable pub highDigits : ℕ → ℕ → List ℕ
+highDigits zero n = []
+highDigits (suc h) zero = []
+highDigits (suc h) (suc n) = highDigits h (suc n / 10) ++ ((48 + suc n % 10) ∷ [])
+
+unfoldable pub decimal : ℕ → List ℕ
+decimal n = highDigits n (n / 10) ++ ((48 + n % 10) ∷ [])
+
+-- "in rising order": of k curves from curve c on, those of the set s, behind a space each
+unfoldable pub curveText : ℕ → ℕ → List ℕ
+curveText zero c = []
+curveText (suc d) c = text " " ++ decimal c
+
+unfoldable pub curvesText : ℕ → ℕ → ℕ → List ℕ
+curvesText zero c s = []
+curvesText (suc k) c s = curveText (bit c s) c ++ curvesText k (suc c) s
+
+-- a set of at most 64 curves
+unfoldable pub setText : ℕ → List ℕ
+setText zero = text " none"
+setText (suc s) = curvesText 64 0 (suc s)
+
+-- the line of step i: "1: test 1 drop 0 load 2"
+unfoldable pub stepText : ℕ → Step → List ℕ
+stepText i s = decimal i ++ text ": test " ++ decimal (s .test) ++ text " drop" ++ setText (s .drops) ++ text " load" ++ setText (s .loads) ++ text "\n"
+
+unfoldable pub stepsText : ℕ → List Step → List ℕ
+stepsText i [] = []
+stepsText i (s ∷ ss) = stepText i s ++ stepsText (suc i) ss
+
+-- the first line: "4 tests, 2 places, method 0"
+unfoldable pub headText : Planned → List ℕ
+headText p = decimal (p .job .head .tests) ++ text " tests, " ++ decimal (p .job .head .places) ++ text " places, method " ++ decimal (p .job .head .method) ++ text "\n"
+
+unfoldable pub planText : Planned → List ℕ
+planText p = headText p ++ stepsText 0 (steps (p .order) (p .plan .drops) (p .plan .loads)) ++ text "loads " ++ decimal (loadCount (p .plan .loads)) ++ text "\n"
+
+-- "A refusal prints only `refused 7 at 0` with its own figures."
+unfoldable pub printed : Outcome Planned → List ℕ
+printed (done p) = planText p
+printed (refused number figure) = text "refused " ++ decimal number ++ text " at " ++ decimal figure ++ text "\n"
+
+-- what the program prints for the bytes on its standard input
+unfoldable pub sheet : List ℕ → List ℕ
+sheet bs = printed (planJob bs)
+
+-- the same text in a lent buffer: 9 where it is too short
+unfoldable pub writeSheet : List ℕ → ℕ → Outcome (List ℕ)
+writeSheet bs lent = do
+  room lent (length (sheet bs))
+  done (sheet bs)
+
+unfoldable pub sheetAnswer : List ℕ → List ℕ → Outcome ℕ
+sheetAnswer bs old = mapped length (writeSheet bs (length old))
+
+unfoldable pub sheetBuffer : List ℕ → List ℕ → List ℕ
+sheetBuffer bs old = leaves (writeSheet bs (length old)) old
