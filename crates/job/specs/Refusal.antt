@@ -11,6 +11,7 @@ use Rattle.job.specs.declared.Refusal.the-variants.{Truncated, BadHeader
 use Rattle.job.specs.declared.Head.{Head}
 use Rattle.job.specs.declared.JobRead.{JobRead}
 use Rattle.job.specs.declared.Counted.{Counted}
+use Rattle.job.specs.declared.Examined.{Examined}
 
 pub data Outcome (A : Type 0) : Type 0 where
   done : A → Outcome A
@@ -53,6 +54,10 @@ figure (PlanRejected i) = i
 unfoldable pub readOutcome : JobRead → Outcome Head
 readOutcome (JobRead.Read h) = done h
 readOutcome (JobRead.Refused r) = refused (number r) (figure r)
+
+unfoldable pub examinedOutcome : Examined → Outcome (Unit {0})
+examinedOutcome Examined.Passed = done tt
+examinedOutcome (Examined.Refused r) = refused (number r) (figure r)
 
 unfoldable pub countOutcome : Counted → Outcome ℕ
 countOutcome (Counted.Count n) = done n

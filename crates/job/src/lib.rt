@@ -43,6 +43,12 @@ pub enum JobRead {
     Refused(Refusal),
 }
 
+// What an examination of handed numbers and lists answers.
+pub enum Examined {
+    Passed,
+    Refused(Refusal),
+}
+
 // What a call answers that counts its result: entries, bytes or loads.
 pub enum Counted {
     Count(usize),
