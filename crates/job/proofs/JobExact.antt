@@ -9,7 +9,7 @@ use lib.ListN.{length, getD}
 use borrow.Author.Tests.{ltb-true, leb-true, lt-ltb, le-leb}
 use Rattle.bitset.specs.Set.{inside}
 use Rattle.job.specs.Refusal.{done, _>>_, demand}
-use Rattle.job.specs.Handed.{between, allCurves, someTests, placesKnown, curvesKnown, testsKnown, methodKnown, wantsKnown, jobKnown, jobKnownBy}
+use Rattle.job.specs.Handed.{between, allCurves, someTests, placesKnown, curvesKnown, testsKnown, methodKnown, wantsKnown, numbersKnown, jobKnown, jobKnownBy}
 use Rattle.job.specs.Words.{IsJob}
 use Rattle.job.proofs.Laws.{both, and, demand-true, demand-done, both-done, done-both, each-true, true-each}
 use Rattle.job.proofs.SetRoundTrip.{below-inside, inside-below}
@@ -48,16 +48,23 @@ module _ (places curves : ℕ) (wants : List ℕ) where
         own-curves = λ t l. inside-below curves (getD wants t 0) (each-true (λ w. inside w (allCurves curves)) 10 4 wants e t l);
       }
 
+  numbers-done : IsJob places curves wants → numbersKnown places curves (length wants) ≡ done tt
+  unfolding numbersKnown
+  numbers-done j = done-both _ _ (some-done j) ∙ done-both _ _ (places-done j) ∙ done-both _ _ (curves-done j) ∙ tests-done j
+
+  is-job-by : numbersKnown places curves (length wants) ≡ done tt → wantsKnown curves wants ≡ done tt → IsJob places curves wants
+  unfolding numbersKnown
+  is-job-by n w =
+      let a = both-done (someTests (length wants)) _ tt n in
+      let b = both-done (placesKnown places) _ tt (a .1) in
+      let c = both-done (curvesKnown curves) _ tt (b .1) in
+      is-job (a .0) (b .0) (c .0) (c .1) w
+
   pub job-exact : jobKnown places curves wants ≡ done tt ↔ IsJob places curves wants
   unfolding jobKnown
   job-exact = (
-    λ e.
-        let a = both-done (someTests (length wants)) _ tt e in
-        let b = both-done (placesKnown places) _ tt (a .1) in
-        let c = both-done (curvesKnown curves) _ tt (b .1) in
-        let d = both-done (testsKnown (length wants)) _ tt (c .1) in
-        is-job (a .0) (b .0) (c .0) (d .0) (d .1),
-    λ j. done-both _ _ (some-done j) ∙ done-both _ _ (places-done j) ∙ done-both _ _ (curves-done j) ∙ done-both _ _ (tests-done j) ∙ wants-done j,
+    λ e. let a = both-done (numbersKnown places curves (length wants)) _ tt e in is-job-by (a .0) (a .1),
+    λ j. done-both _ _ (numbers-done j) ∙ wants-done j,
   )
 
   -- the same with a method
@@ -74,13 +81,8 @@ module _ (places curves : ℕ) (wants : List ℕ) where
     unfolding jobKnownBy
     job-by-exact = (
       λ e.
-          let a = both-done (someTests (length wants)) _ tt e in
-          let b = both-done (placesKnown places) _ tt (a .1) in
-          let c = both-done (curvesKnown curves) _ tt (b .1) in
-          let d = both-done (testsKnown (length wants)) _ tt (c .1) in
-          let m = both-done (methodKnown method) _ tt (d .1) in
-          (is-job (a .0) (b .0) (c .0) (d .0) (m .1), method-le (m .0)),
-      λ j.
-          done-both _ _ (some-done (j .0)) ∙ done-both _ _ (places-done (j .0)) ∙ done-both _ _ (curves-done (j .0)) ∙ done-both _ _ (tests-done (j .0))
-          ∙ done-both _ _ (method-done (j .1)) ∙ wants-done (j .0),
+          let a = both-done (numbersKnown places curves (length wants)) _ tt e in
+          let m = both-done (methodKnown method) _ tt (a .1) in
+          (is-job-by (a .0) (m .1), method-le (m .0)),
+      λ j. done-both _ _ (numbers-done (j .0)) ∙ done-both _ _ (method-done (j .1)) ∙ wants-done (j .0),
     )

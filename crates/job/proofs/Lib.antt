@@ -1,5 +1,6 @@
 -- What the shared rules mean.
 --     Laws          outcomes that are done, and outcomes that are refused
+--     Examination   the examination of handed numbers, test by test
 --     Chosen        what is chosen by `Choice`
 --     Orders        counting in lists of tests
 --     Turns         one turn of a loop over bytes
@@ -7,6 +8,7 @@
 --     SetRoundTrip  a set that is written reads back, and the other way round
 --     JobRoundTrip  the same of a job
 pub mod Laws
+pub mod Examination
 pub mod Chosen
 pub mod Orders
 pub mod Turns

@@ -52,22 +52,24 @@ wantsKnown curves wants = each (λ w. inside w (allCurves curves)) 10 4 wants
 unfoldable pub wantsFit : ℕ → List ℕ → Outcome (Unit {0})
 wantsFit places wants = each (λ w. leb (size w) places) 7 0 wants
 
--- "5, 10 in its own order": of places, curves and wants, as planning and checking are handed them
-unfoldable pub jobKnown : ℕ → ℕ → List ℕ → Outcome (Unit {0})
-jobKnown places curves wants = do
-  someTests (length wants)
+-- "5, 10 in its own order": as far as the number of tests
+unfoldable pub numbersKnown : ℕ → ℕ → ℕ → Outcome (Unit {0})
+numbersKnown places curves tests = do
+  someTests tests
   placesKnown places
   curvesKnown curves
-  testsKnown (length wants)
+  testsKnown tests
+
+-- of places, curves and wants, as planning and checking are handed them
+unfoldable pub jobKnown : ℕ → ℕ → List ℕ → Outcome (Unit {0})
+jobKnown places curves wants = do
+  numbersKnown places curves (length wants)
   wantsKnown curves wants
 
 -- of places, curves, method and wants, as ordering and writing a job are handed them
 unfoldable pub jobKnownBy : ℕ → ℕ → ℕ → List ℕ → Outcome (Unit {0})
 jobKnownBy places curves method wants = do
-  someTests (length wants)
-  placesKnown places
-  curvesKnown curves
-  testsKnown (length wants)
+  numbersKnown places curves (length wants)
   methodKnown method
   wantsKnown curves wants
 

@@ -16,7 +16,7 @@ use borrow.Author.Tests.{ltb-true, leb-true, leb-false, eqb-true, le-leb, lt-ltb
 use Rattle.bitset.specs.Set.{_∖_, size, inside}
 use Rattle.bitset.proofs.Bits.{bit-empty, size-empty}
 use Rattle.job.specs.Refusal.{Outcome, done, refused, _>>=_, _>>_, mapped, demand, room, leaves, overwritten}
-use Rattle.job.specs.Handed.{between, allCurves, each, someTests, placesKnown, curvesKnown, testsKnown, wantsKnown, wantsFit, jobKnown}
+use Rattle.job.specs.Handed.{between, allCurves, each, numbersKnown, wantsKnown, wantsFit, jobKnown}
 use Rattle.job.proofs.Laws.{both, and, refused≢done, demand-true, demand-done, both-done, done-both, each-true, true-each, each-cases, mapped-done, mapped-refused, leaves-done, leaves-refused, done-room}
 use Rattle.job.specs.Choice.{Found}
 use Rattle.planning.specs.Order.{orderKnown}
@@ -56,11 +56,7 @@ take-overwritten n new old e = take-at new (drop (length new) old) n e
 module _ (places curves : ℕ) (wants order : List ℕ) where
   known-wants : jobKnown places curves wants ≡ done tt → wantsKnown curves wants ≡ done tt
   unfolding jobKnown
-  known-wants e =
-      let a = both-done (someTests (length wants)) _ tt e in
-      let b = both-done (placesKnown places) _ tt (a .1) in
-      let c = both-done (curvesKnown curves) _ tt (b .1) in
-      both-done (testsKnown (length wants)) _ tt (c .1) .1
+  known-wants e = both-done (numbersKnown places curves (length wants)) _ tt e .1
 
   -- the wants of each step
   steps-fit : wantsKnown curves wants ≡ done tt → wantsFit places wants ≡ done tt → (ts : List ℕ) → AllFit places (allCurves curves) (inOrder wants ts)
