@@ -1,6 +1,7 @@
 -- What the shared rules mean.
 --     Laws          outcomes that are done, and outcomes that are refused
 --     Examination   the examination of handed numbers, test by test
+--     Refuses       which refusals can come out
 --     Chosen        what is chosen by `Choice`
 --     Orders        counting in lists of tests
 --     Turns         one turn of a loop over bytes
@@ -9,6 +10,7 @@
 --     JobRoundTrip  the same of a job
 pub mod Laws
 pub mod Examination
+pub mod Refuses
 pub mod Chosen
 pub mod Orders
 pub mod Turns

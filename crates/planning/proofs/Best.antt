@@ -87,7 +87,7 @@ further-more Never b (At k) p q = absurd (false≢true (sym q))
 further-more (At m) Never (At k) p q = refl
 further-more (At m) (At n) (At k) p q = lt-ltb m n (omega (arith, ltb-true k n p, ltb-false k m q))
 
-ranked : (ws : List ℕ) → Ranked (λ b c. further (nextUse b ws) (nextUse c ws))
+pub ranked : (ws : List ℕ) → Ranked (λ b c. further (nextUse b ws) (nextUse c ws))
 ranked ws =
     record {
       self = λ x. further-self (nextUse x ws);
@@ -97,8 +97,8 @@ ranked ws =
 
 -- ---- the job's n curves
 module _ (n : ℕ) where
-  below : (cs : ℕ) → cs ≼ 2 ^ n - 1 → (c : ℕ) → bit c cs ≡ 1 → c < n
-  below cs s c e = ∈-lt c n (2 ^ n - 1) (omega (arith, s c)) (ones-lt n)
+  pub below-n : (cs : ℕ) → cs ≼ 2 ^ n - 1 → (c : ℕ) → bit c cs ≡ 1 → c < n
+  below-n cs s c e = ∈-lt c n (2 ^ n - 1) (omega (arith, s c)) (ones-lt n)
 
   picked : (cs : ℕ) (ws : List ℕ) → 0 < size cs → cs ≼ 2 ^ n - 1 → (b : Found ℕ)
       → BestOf (λ c. eqb (bit c cs) 1) (λ b c. further (nextUse b ws) (nextUse c ws)) n b → (v : ℕ) × (b ≡ found v) × Picked cs ws v
@@ -106,7 +106,7 @@ module _ (n : ℕ) where
     where
       go : (c d : ℕ) → bit c cs ≡ d → bit c cs ≡ bit c 0
       go c zero e = omega (arith, bit-empty c)
-      go c (suc d) e = let o : bit c cs ≡ 1 = omega arith in absurd (eqb-false (bit c cs) 1 (b c (below cs s c o)) o)
+      go c (suc d) e = let o : bit c cs ≡ 1 = omega arith in absurd (eqb-false (bit c cs) 1 (b c (below-n cs s c o)) o)
   picked cs ws h s (found v) b = (v, refl, record { member = eqb-true (bit v cs) 1 (b .fair); last = λ k i c. go k i c (bit c cs) refl })
     where
       go : (k : ℕ) → bit v (soon k ws) ≡ 1 → (c d : ℕ) → bit c cs ≡ d → bit c cs ≤ bit c (soon k ws)
@@ -117,10 +117,10 @@ module _ (n : ℕ) where
             arith,
             has-soon k ws c,
             has-soon k ws v,
-            within-further k (nextUse c ws) (nextUse v ws) (b .best c (below cs s c o) (eq-eqb (bit c cs) 1 o)),
+            within-further k (nextUse c ws) (nextUse v ws) (b .best c (below-n cs s c o) (eq-eqb (bit c cs) 1 o)),
           )
 
-  good : (cs : ℕ) (ws : List ℕ) → 0 < size cs → cs ≼ 2 ^ n - 1 → (v : ℕ) × (furthest n cs ws ≡ found v) × Picked cs ws v
+  pub good : (cs : ℕ) (ws : List ℕ) → 0 < size cs → cs ≼ 2 ^ n - 1 → (v : ℕ) × (furthest n cs ws ≡ found v) × Picked cs ws v
   unfolding furthest
   good cs ws h s = picked cs ws h s (furthest n cs ws) (best-of (λ c. eqb (bit c cs) 1) (λ b c. further (nextUse b ws) (nextUse c ws)) (ranked ws) n)
 

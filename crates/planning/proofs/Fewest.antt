@@ -208,7 +208,7 @@ module _ (all : ℕ) (pick : ℕ → List ℕ → Found ℕ)
       (chosen e (cs ∖ 2 ^ v) ws (omega (arith, size-single v, sizes-le (cs ∷ []) (cs ∖ 2 ^ v ∷ 2 ^ v ∷ []) (λ c. simp bitwise (omega arith)))) (without-≼ cs (2 ^ v) all s)))
 
   module _ (p : ℕ) where
-    our-drops : (g w : ℕ) (ws : List ℕ) → size w ≤ p → g ≼ all → Chosen (size (g ∪ w) - p) (g ∖ w) ws (dropsFor pick p g w ws)
+    pub our-drops : (g w : ℕ) (ws : List ℕ) → size w ≤ p → g ≼ all → Chosen (size (g ∪ w) - p) (g ∖ w) ws (dropsFor pick p g w ws)
     unfolding dropsFor
     our-drops g w ws h s =
         chosen (size (g ∪ w) - p) (g ∖ w) ws (omega (arith, sizes-le (g ∪ w ∷ []) (w ∷ g ∖ w ∷ []) (λ c. simp bitwise (omega arith)))) (without-≼ g w all s)

@@ -1,13 +1,19 @@
 -- What the rules of planning mean, and demand 3.
 --     OrderExact  refusal 8 is not given exactly where an order names each test once
 --     CheckExact  the check passes exactly the plans that keep every rule
+--     FirstFault  refusal 12 names the first step that breaks a rule
 --     Fewest      the plan of any good choice of victims passes the check with the fewest loads
 --     Best        the furthest next use is a good choice
+--     LeastUse    the next use is the least later step that wants the curve
+--     OurPlan     the victim is a maximum, and exactly the excess is dropped
 --     Demand3     DEMAND 3, the proof
 --     Turns       one turn of a loop over steps
 pub mod OrderExact
 pub mod CheckExact
+pub mod FirstFault
 pub mod Fewest
 pub mod Best
+pub mod LeastUse
+pub mod OurPlan
 pub mod Demand3
 pub mod Turns

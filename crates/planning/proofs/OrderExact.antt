@@ -6,7 +6,7 @@ use mathlib.Core.List.{List, [], _∷_, _++_, append-nil, append-assoc}
 use Prim.Native.Nat.{ℕ, zero, suc, _+_, _≤_, _<_}
 use native.Mathlib.Omega.{arith}
 use native.Mathlib.Decide.{decLe}
-use lib.ListN.{length, length-append}
+use lib.ListN.{length, getD, length-append}
 use lib.Dec.{leb, ltb, eqb}
 use borrow.Author.Tests.{ltb-true, leb-true, lt-ltb, le-leb, not-true}
 use Rattle.job.specs.Refusal.{Outcome, done, refused, _>>_, demand}
@@ -15,6 +15,8 @@ use Rattle.job.proofs.Laws.{both, and, demand-true, demand-done, both-done, don
 use Rattle.job.specs.Words.{digit, count, IsOrder}
 use Rattle.job.proofs.Orders.{count-append, one-same, unlisted, uncounted, Part, part-one, part-none, whole-part, order-length}
 use Rattle.planning.specs.Order.{orderFrom, orderKnown}
+use Rattle.planning.specs.Plan.{inOrder}
+use Rattle.job.proofs.Refuses.{Refuses, refuses-demand, refuses-both}
 
 -- ---- an order passes
 
@@ -65,3 +67,30 @@ passed-order n order e = let r = passed-from n [] order (part-none n) e in whole
 -- "An order of it names each of its tests exactly once." is exactly the condition under which refusal 8 is not given
 pub order-exact : (n : ℕ) (order : List ℕ) → orderKnown n order ≡ done tt ↔ IsOrder n order
 order-exact n order = (passed-order n order, order-passes n order)
+
+-- no other refusal is given
+pub order-refuses : (n : ℕ) (before rest : List ℕ) → Refuses (λ k i. k ≡ 8) (orderFrom n before rest)
+unfolding orderFrom
+order-refuses n before [] = refuses-demand (λ k i. k ≡ 8) (leb n (length before)) 8 (length before) refl
+order-refuses n before (t ∷ ts) = refuses-both (λ k i. k ≡ 8) _ _ (refuses-demand (λ k i. k ≡ 8) _ 8 (length before) refl) (order-refuses n (before ++ (t ∷ [])) ts)
+
+-- ---- the wants of the steps
+
+pub length-inOrder : (wants order : List ℕ) → length (inOrder wants order) ≡ length order
+unfolding inOrder
+length-inOrder wants [] = refl
+length-inOrder wants (t ∷ ts) = ap suc (length-inOrder wants ts)
+
+-- an order names only tests of the job, so the wants of each step are those of a test
+pub own-tests : (n : ℕ) (order : List ℕ) → IsOrder n order → (i : ℕ) → i < length order → getD order i 0 < n
+unfolding count
+own-tests n order o i h = go order (o .only) i h
+  where
+    go : (ts : List ℕ) → ((t : ℕ) → n ≤ t → count t ts ≡ 0) → (i : ℕ) → i < length ts → getD ts i 0 < n
+    go [] own i h = absurd (omega arith)
+    go (t ∷ ts) own zero h = below (decLe n t)
+      where
+        below : Dec (n ≤ t) → t < n
+        below (yes l) = absurd (omega (arith, own t l, one-same t))
+        below (no l) = omega arith
+    go (t ∷ ts) own (suc i) h = go ts (λ s l. omega (arith, own s l)) i (omega arith)

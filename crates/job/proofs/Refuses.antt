@@ -1,0 +1,70 @@
+-- Which refusals can come out: a property of the number and the figure that every refusal of an outcome has.
+use mathlib.Core.Path.{_≡_, refl, sym, ap, _∙_, subst}
+use mathlib.Core.Logic.{_⊎_, inl, inr}
+use mathlib.Core.Bool.{Bool, true, false}
+use mathlib.Core.List.{List, [], _∷_}
+use Prim.Native.Nat.{ℕ, zero, suc, _+_, _≤_, _<_}
+use native.Mathlib.Omega.{arith}
+use lib.ListN.{length}
+use Rattle.job.specs.Refusal.{Outcome, done, refused, _>>=_, _>>_, mapped, demand, room}
+use Rattle.job.specs.Handed.{each, someTests, placesKnown, curvesKnown, testsKnown, methodKnown, wantsKnown, numbersKnown, wantsFit, jobKnown, jobKnownBy, countsKnown}
+
+abbrev pub Refuses : {A : Type 0} → (ℕ → ℕ → Type 0) → Outcome A → Type 0
+Refuses P (done a) = Unit {0}
+Refuses P (refused k i) = P k i
+
+pub refuses : {A : Type 0} (P : ℕ → ℕ → Type 0) (o : Outcome A) (k i : ℕ) → Refuses P o → o ≡ refused k i → P k i
+refuses P o k i r e = rw e at r
+
+module _ (P : ℕ → ℕ → Type 0) where
+  pub refuses-demand : (t : Bool) (k i : ℕ) → P k i → Refuses P (demand t k i)
+  unfolding demand
+  refuses-demand true k i p = tt
+  refuses-demand false k i p = p
+
+  pub refuses-both : {A B : Type 0} (a : Outcome A) (b : Outcome B) → Refuses P a → Refuses P b → Refuses P (_>>_ a b)
+  unfolding _>>_
+  refuses-both (done a) b p q = q
+  refuses-both (refused k i) b p q = p
+
+  pub refuses-bind : {A B : Type 0} (a : Outcome A) (f : A → Outcome B) → Refuses P a → ((x : A) → a ≡ done x → Refuses P (f x)) → Refuses P (_>>=_ a f)
+  unfolding _>>=_
+  refuses-bind (done a) f p q = q a refl
+  refuses-bind (refused k i) f p q = p
+
+  pub refuses-mapped : {A B : Type 0} (f : A → B) (a : Outcome A) → Refuses P a → Refuses P (mapped f a)
+  unfolding mapped
+  refuses-mapped f (done a) p = tt
+  refuses-mapped f (refused k i) p = p
+
+  -- the place of the first entry that fails
+  pub refuses-each : (ok : ℕ → Bool) (k i : ℕ) (xs : List ℕ) → ((t : ℕ) → t < length xs → P k (i + t)) → Refuses P (each ok k i xs)
+  unfolding each
+  refuses-each ok k i [] p = tt
+  refuses-each ok k i (x ∷ xs) p =
+      let z : i + 0 ≡ i = omega arith in
+      refuses-both (demand (ok x) k i) (each ok k (suc i) xs) (refuses-demand (ok x) k i (rw z at (p 0 (omega arith))))
+      (refuses-each ok k (suc i) xs (λ t l. let n : i + suc t ≡ suc i + t = omega arith in rw n at (p (suc t) (omega arith))))
+
+-- ---- the examination refuses by 5 and 10 only
+abbrev pub HandedRefusal : ℕ → ℕ → Type 0
+HandedRefusal k i = (k ≡ 5) ⊎ (k ≡ 10)
+
+numbers-refuse : (places curves tests : ℕ) → Refuses HandedRefusal (numbersKnown places curves tests)
+unfolding numbersKnown someTests placesKnown curvesKnown testsKnown
+numbers-refuse places curves tests =
+    refuses-both HandedRefusal _ _ (refuses-demand HandedRefusal _ 5 0 (inl refl)) (refuses-both HandedRefusal _ _ (refuses-demand HandedRefusal _ 10 0 (inr refl))
+    (refuses-both HandedRefusal _ _ (refuses-demand HandedRefusal _ 10 1 (inr refl)) (refuses-demand HandedRefusal _ 10 2 (inr refl))))
+
+wants-refuse : (curves : ℕ) (wants : List ℕ) → Refuses HandedRefusal (wantsKnown curves wants)
+unfolding wantsKnown
+wants-refuse curves wants = refuses-each HandedRefusal _ 10 4 wants (λ t l. inr refl)
+
+pub job-refuses : (places curves : ℕ) (wants : List ℕ) → Refuses HandedRefusal (jobKnown places curves wants)
+unfolding jobKnown
+job-refuses places curves wants = refuses-both HandedRefusal _ _ (numbers-refuse places curves (length wants)) (wants-refuse curves wants)
+
+pub job-by-refuses : (places curves method : ℕ) (wants : List ℕ) → Refuses HandedRefusal (jobKnownBy places curves method wants)
+unfolding jobKnownBy methodKnown
+job-by-refuses places curves method wants =
+    refuses-both HandedRefusal _ _ (numbers-refuse places curves (length wants)) (refuses-both HandedRefusal _ _ (refuses-demand HandedRefusal _ 10 3 (inr refl)) (wants-refuse curves wants))
