@@ -5,6 +5,8 @@
 --     Chosen        what is chosen by `Choice`
 --     Orders        counting in lists of tests
 --     Turns         one turn of a loop over bytes
+--     Encoding      one turn of a loop that writes bytes, and runs of stores
+--     GroupByte     one group byte, and what its reader's answer says
 --     JobExact      what passes the examination is a job, and a job passes
 --     SetRoundTrip  a set that is written reads back, and the other way round
 --     JobRoundTrip  the same of a job
@@ -14,6 +16,8 @@ pub mod Refuses
 pub mod Chosen
 pub mod Orders
 pub mod Turns
+pub mod Encoding
 pub mod SetRoundTrip
+pub mod GroupByte
 pub mod JobExact
 pub mod JobRoundTrip

@@ -37,7 +37,7 @@ module _ (owed empty unknown curves map s a k j : ℕ) (bs : List ℕ) (below : 
   abbrev groupsNext : ℕ → ℕ → Outcome (Got ℕ)
   groupsNext t m = readGroups owed empty unknown curves (8 - (j + 1)) (j + 1) map t (a + m) (drop m bs)
 
-  cons-here : groupsHere ≡ _>>=_ (readGroup owed empty unknown curves (bit j map) j (a + k) (drop k bs)) (λ g. readGroups owed empty unknown curves (8 - (j + 1)) (j + 1) map (s ∪ g .value) (g .next) (g .rest))
+  pub cons-here : groupsHere ≡ _>>=_ (readGroup owed empty unknown curves (bit j map) j (a + k) (drop k bs)) (λ g. readGroups owed empty unknown curves (8 - (j + 1)) (j + 1) map (s ∪ g .value) (g .next) (g .rest))
   unfolding readGroups
   cons-here = let e : 8 - j ≡ suc (8 - (j + 1)) = omega arith in rw (e, add-one j) refl
 

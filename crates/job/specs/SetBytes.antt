@@ -3,6 +3,8 @@ use mathlib.Core.List.{List, [], _∷_, _++_}
 use Prim.Native.Nat.{ℕ, zero, suc, _+_, _*_, _/_, _%_, _^_}
 use lib.Dec.{ltb}
 use Rattle.bitset.specs.Set.{_∪_, bit, inside}
+use Rattle.job.specs.declared.set_bytes.GroupRead.{GroupRead}
+use Rattle.job.specs.declared.set_bytes.GroupRead.the-variants.{Curves, Owed, Empty, Unknown}
 use Rattle.job.specs.Refusal.{Outcome, done, refused, _>>=_, _>>_, demand}
 use Rattle.job.specs.Handed.{allCurves}
 
@@ -63,3 +65,10 @@ module _ (owed empty unknown curves : ℕ) where
   readGroups (suc k) j map s i bs = do
     g ← readGroup (bit j map) j i bs
     readGroups k (suc j) map (s ∪ g .value) (g .next) (g .rest)
+
+-- the answer to the reading of one group byte, which stands at offset i, in the numbers of the three refusals
+unfoldable pub groupOutcome : (owed empty unknown : ℕ) → ℕ → GroupRead → Outcome ℕ
+groupOutcome owed empty unknown i (Curves s) = done s
+groupOutcome owed empty unknown i Owed = refused owed i
+groupOutcome owed empty unknown i Empty = refused empty i
+groupOutcome owed empty unknown i Unknown = refused unknown i
