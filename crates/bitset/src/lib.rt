@@ -65,7 +65,7 @@ pub fn without_lowest(s: u64) -> u64
 pub fn inside(a: u64, b: u64) -> bool
     ensures { λ r. ⌜ r ≡ inside a b ⌝ }
 {
-    a & !b == 0
+    without(a, b) == 0
 }
 
 // The numbers below n, and below 64.

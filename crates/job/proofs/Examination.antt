@@ -28,17 +28,10 @@ module _ (places curves tests : ℕ) where
     unfolding numbersKnown someTests placesKnown demand _>>_
     bad-places e = rw (lt-ltb 0 tests some, e) refl
 
-    pub bad-curves : between 1 64 places ≡ true → between 1 64 curves ≡ false → numbersKnown places curves tests ≡ refused 10 1
-    unfolding numbersKnown someTests placesKnown curvesKnown demand _>>_
-    bad-curves p e = rw (lt-ltb 0 tests some, p, e) refl
-
-    pub many-tests : between 1 64 places ≡ true → between 1 64 curves ≡ true → 256 < tests → numbersKnown places curves tests ≡ refused 10 2
-    unfolding numbersKnown someTests placesKnown curvesKnown testsKnown demand _>>_
-    many-tests p q h = rw (lt-ltb 0 tests some, p, q, lt-leb tests 256 h) refl
-
-    pub numbers-known : between 1 64 places ≡ true → between 1 64 curves ≡ true → tests ≤ 256 → numbersKnown places curves tests ≡ done tt
-    unfolding numbersKnown someTests placesKnown curvesKnown testsKnown demand _>>_
-    numbers-known p q h = rw (lt-ltb 0 tests some, p, q, le-leb tests 256 h) refl
+    -- the rest is the examination of curves and tests
+    pub numbers-counts : between 1 64 places ≡ true → numbersKnown places curves tests ≡ countsKnown curves tests
+    unfolding numbersKnown countsKnown someTests placesKnown demand _>>_
+    numbers-counts p = rw (lt-ltb 0 tests some, p) refl
 
   pub known-bounds : numbersKnown places curves tests ≡ done tt → (curves ≤ 64) × (tests ≤ 256)
   unfolding numbersKnown curvesKnown testsKnown between

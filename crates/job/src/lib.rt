@@ -69,6 +69,22 @@ fn in_bounds(x: usize) -> bool
     if x < 1 { false } else { x <= 64 }
 }
 
+// 5 and 10, of curves and a number of tests.
+pub fn examine_counts(curves: usize, tests: usize) -> Examined
+    ensures { λ r. ⌜ examinedOutcome r ≡ countsKnown curves tests ⌝ }
+{
+    if tests == 0 {
+        return Examined::Refused(Refusal::NoTests);
+    }
+    if !in_bounds(curves) {
+        return Examined::Refused(Refusal::BadArgument(1));
+    }
+    if 256 < tests {
+        return Examined::Refused(Refusal::BadArgument(2));
+    }
+    Examined::Passed
+}
+
 // "5, 10 in its own order": as far as the number of tests.
 fn examine_numbers(places: usize, curves: usize, tests: usize) -> Examined
     ensures { λ r. ⌜ examinedOutcome r ≡ numbersKnown places curves tests ⌝ }
@@ -79,13 +95,7 @@ fn examine_numbers(places: usize, curves: usize, tests: usize) -> Examined
     if !in_bounds(places) {
         return Examined::Refused(Refusal::BadArgument(0));
     }
-    if !in_bounds(curves) {
-        return Examined::Refused(Refusal::BadArgument(1));
-    }
-    if 256 < tests {
-        return Examined::Refused(Refusal::BadArgument(2));
-    }
-    Examined::Passed
+    examine_counts(curves, tests)
 }
 
 // 10, 4 + t: "wants of test t name a foreign curve".
@@ -142,20 +152,4 @@ pub fn examine_by(places: usize, curves: usize, method: usize, wants: &[u64]) ->
             examine_wants(curves, wants)
         }
     }
-}
-
-// 5 and 10, of curves and a number of tests.
-pub fn examine_counts(curves: usize, tests: usize) -> Examined
-    ensures { λ r. ⌜ examinedOutcome r ≡ countsKnown curves tests ⌝ }
-{
-    if tests == 0 {
-        return Examined::Refused(Refusal::NoTests);
-    }
-    if !in_bounds(curves) {
-        return Examined::Refused(Refusal::BadArgument(1));
-    }
-    if 256 < tests {
-        return Examined::Refused(Refusal::BadArgument(2));
-    }
-    Examined::Passed
 }
