@@ -29,13 +29,9 @@ use Rattle.planning.specs.Demand3.{Demand3}
 use Rattle.job.proofs.Orders.{order-length}
 use Rattle.job.proofs.JobExact.{job-exact}
 use Rattle.planning.proofs.OrderExact.{order-passes, passed-order}
+use Rattle.planning.proofs.Turns.{length-inOrder}
 
 -- ---- lengths
-
-length-inOrder : (wants order : List ℕ) → length (inOrder wants order) ≡ length order
-unfolding inOrder
-length-inOrder wants [] = refl
-length-inOrder wants (t ∷ ts) = ap suc (length-inOrder wants ts)
 
 length-dropSets : (pick : ℕ → List ℕ → Found ℕ) (p h : ℕ) (ws : List ℕ) → length (dropSets pick p h ws) ≡ length ws
 unfolding dropSets

@@ -5,9 +5,11 @@
 --     Best        the furthest next use is a good choice
 --     Demand3     DEMAND 3, the proof
 --     Turns       one turn of a loop over steps
+--     Marks       flags of the tests that were met
 pub mod OrderExact
 pub mod CheckExact
 pub mod Fewest
 pub mod Best
 pub mod Demand3
 pub mod Turns
+pub mod Marks
