@@ -5,6 +5,7 @@
 --     Best        the furthest next use is a good choice
 --     Demand3     DEMAND 3, the proof
 --     Turns       one turn of a loop over steps
+--     Sequence    planning and checking, examination by examination
 --     Marks       flags of the tests that were met
 pub mod OrderExact
 pub mod CheckExact
@@ -12,4 +13,5 @@ pub mod Fewest
 pub mod Best
 pub mod Demand3
 pub mod Turns
+pub mod Sequence
 pub mod Marks

@@ -3,11 +3,12 @@ use job::Counted;
 use job::Examined;
 use job::Refusal;
 ghost use mathlib.Core.Path.{_≡_};
-ghost use Prim.Native.Nat.{ℕ, _≤_, _<_};
+ghost use Prim.Native.Nat.{ℕ, _≤_, _<_, min};
 ghost use lib.ListN.{length, getD};
 ghost use Rattle.job.specs.Refusal.{mapped, examinedOutcome, countOutcome};
 ghost use Rattle.planning.specs.Order.{orderKnown};
 ghost use Rattle.planning.specs.Plan.{inOrder, loadCount, stepPasses, checkSteps};
+ghost use Rattle.planning.specs.Planning.{setsKnown, checking};
 
 // Document 01: "its next use, which is a later step or never".
 pub enum NextUse {
@@ -46,6 +47,24 @@ fn examine_order(tests: usize, order: &[u16]) -> Examined
         return Examined::Refused(Refusal::BadOrder(i));
     }
     Examined::Passed
+}
+
+fn smaller(a: usize, b: usize) -> usize
+    ensures { λ r. ⌜ r ≡ min a b ⌝ }
+{
+    if a < b { a } else { b }
+}
+
+// 12: "first missing or surplus position of the drops or loads, the smaller", of the lengths of three lists.
+fn examine_sets(tests: usize, drops: usize, loads: usize) -> Examined
+    ensures { λ r. ⌜ examinedOutcome r ≡ setsKnown tests drops loads ⌝ }
+{
+    if drops == tests {
+        if loads == tests {
+            return Examined::Passed;
+        }
+    }
+    Examined::Refused(Refusal::PlanRejected(smaller(smaller(drops, loads), tests)))
 }
 
 // Whether a step keeps the rules: "every drop is held, no load is held after the drops, every load is a curve of the job, and after the loads the drive
@@ -92,4 +111,37 @@ fn check_steps(
         i += 1;
     }
     Counted::Count(count)
+}
+
+// Whether a plan from anywhere keeps the rules: its load count, or the first fault. "checking 8, 12", after 5 and 10.
+pub fn check_plan(
+    places: usize,
+    curves: usize,
+    wants: &[u64],
+    order: &[u16],
+    drops: &[u64],
+    loads: &[u64],
+) -> Counted
+    ensures { λ r. ⌜ countOutcome r ≡ checking places curves (now (wants .entry)) (now (order .entry)) (now (drops .entry)) (now (loads .entry)) ⌝ }
+{
+    match job::examine(places, curves, wants) {
+        Examined::Refused(r) => {
+            return Counted::Refused(r);
+        }
+        Examined::Passed => {}
+    }
+    let tests = wants.len();
+    match examine_order(tests, order) {
+        Examined::Refused(r) => {
+            return Counted::Refused(r);
+        }
+        Examined::Passed => {}
+    }
+    match examine_sets(tests, drops.len(), loads.len()) {
+        Examined::Refused(r) => {
+            return Counted::Refused(r);
+        }
+        Examined::Passed => {}
+    }
+    check_steps(places, bitset::below(curves), wants, order, drops, loads)
 }
