@@ -28,7 +28,8 @@ use Rattle.job.specs.Words.{IsJob, IsOrder}
 use Rattle.planning.specs.Demand3.{Demand3}
 use Rattle.job.proofs.Orders.{order-length}
 use Rattle.job.proofs.JobExact.{job-exact}
-use Rattle.planning.proofs.OrderExact.{length-inOrder, order-passes, passed-order}
+use Rattle.planning.proofs.OrderExact.{order-passes, passed-order}
+use Rattle.planning.proofs.Turns.{length-inOrder}
 
 -- ---- lengths
 

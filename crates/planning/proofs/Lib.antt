@@ -8,6 +8,8 @@
 --     OurPlan     the victim is a maximum, and exactly the excess is dropped
 --     Demand3     DEMAND 3, the proof
 --     Turns       one turn of a loop over steps
+--     Sequence    planning and checking, examination by examination
+--     Marks       flags of the tests that were met
 pub mod OrderExact
 pub mod CheckExact
 pub mod FirstFault
@@ -17,3 +19,5 @@ pub mod LeastUse
 pub mod OurPlan
 pub mod Demand3
 pub mod Turns
+pub mod Sequence
+pub mod Marks

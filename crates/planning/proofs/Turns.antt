@@ -21,6 +21,11 @@ use Rattle.planning.specs.Order.{orderFrom}
 use Rattle.planning.specs.Plan.{inOrder, loadCount, held, stepPasses, checkSteps, later, useBy, nextUse, further, andThen, victims, dropsFor, heldAfter, dropSets, loadSets}
 
 -- ---- the wants of step i
+pub length-inOrder : (wants order : List ℕ) → length (inOrder wants order) ≡ length order
+unfolding inOrder
+length-inOrder wants [] = refl
+length-inOrder wants (t ∷ ts) = ap suc (length-inOrder wants ts)
+
 pub wants-at : (wants order : List ℕ) (i : ℕ) → i < length order → getD (inOrder wants order) i 0 ≡ getD wants (getD order i 0) 0
 unfolding inOrder
 wants-at wants [] i h = absurd (omega arith)
@@ -35,6 +40,24 @@ module _ (n : ℕ) (order : List ℕ) (i : ℕ) where
   order-next h =
       let l : length (take i order) ≡ i = length-take-le i order (omega arith) in
       rw (add-one i, take-suc order i 0 h) (rw (drop-cons order i 0 h) (rw l refl))
+
+  module _ (h : i < length order) where
+    pub order-surplus : n ≤ i → orderFrom n (take i order) (drop i order) ≡ refused 8 i
+    unfolding demand _>>_
+    order-surplus s = order-next h ∙ rw (le-ltb i n s) refl
+
+    pub order-range : i < n → n ≤ getD order i 0 → orderFrom n (take i order) (drop i order) ≡ refused 8 i
+    unfolding demand _>>_
+    order-range b r = order-next h ∙ rw (lt-ltb i n b, le-ltb (getD order i 0) n r) refl
+
+    pub order-again : i < n → getD order i 0 < n → listed (take i order) (getD order i 0) ≡ true → orderFrom n (take i order) (drop i order) ≡ refused 8 i
+    unfolding demand _>>_
+    order-again b r l = order-next h ∙ rw (lt-ltb i n b, lt-ltb (getD order i 0) n r, l) refl
+
+    pub order-pass : i < n → getD order i 0 < n → listed (take i order) (getD order i 0) ≡ false
+        → orderFrom n (take i order) (drop i order) ≡ orderFrom n (take (i + 1) order) (drop (i + 1) order)
+    unfolding demand _>>_
+    order-pass b r l = order-next h ∙ rw (lt-ltb i n b, lt-ltb (getD order i 0) n r, l) refl
 
   pub order-end : length order ≤ i → i ≤ length order → orderFrom n (take i order) (drop i order) ≡ demand (leb n i) 8 i
   unfolding orderFrom
@@ -69,6 +92,15 @@ module _ (places all h i : ℕ) (ws ds ls : List ℕ) (below : i < length ws) (d
       (checkSteps places all (i + 1) (held h (getD ds i 0) (getD ls i 0)) (drop (i + 1) ws) (drop (i + 1) ds) (drop (i + 1) ls))
   unfolding checkSteps
   check-next = rw (add-one i, drop-cons ws i 0 below, drop-cons ds i 0 (omega arith), drop-cons ls i 0 (omega arith)) refl
+
+  pub check-pass : stepPasses places all h (getD ws i 0) (getD ds i 0) (getD ls i 0) ≡ true
+      → checkSteps places all i h (drop i ws) (drop i ds) (drop i ls) ≡ checkSteps places all (i + 1) (held h (getD ds i 0) (getD ls i 0)) (drop (i + 1) ws) (drop (i + 1) ds) (drop (i + 1) ls)
+  unfolding demand _>>_
+  check-pass e = check-next ∙ rw e refl
+
+  pub check-fail : stepPasses places all h (getD ws i 0) (getD ds i 0) (getD ls i 0) ≡ false → checkSteps places all i h (drop i ws) (drop i ds) (drop i ls) ≡ refused 12 i
+  unfolding demand _>>_
+  check-fail e = check-next ∙ rw e refl
 
 pub check-end : (places all h i : ℕ) (ws ds ls : List ℕ) → length ws ≤ i → length ds ≡ length ws → length ls ≡ length ws
     → checkSteps places all i h (drop i ws) (drop i ds) (drop i ls) ≡ done tt
@@ -109,6 +141,15 @@ further-step s (At m) (At n) = go (decLe m n)
     go : Dec (m ≤ n) → ltb (s + n) (s + m) ≡ ltb n m
     go (yes h) = le-ltb (s + n) (s + m) (omega arith) ∙ sym (le-ltb n m h)
     go (no h) = lt-ltb (s + n) (s + m) (omega arith) ∙ sym (lt-ltb n m (omega arith))
+
+-- ---- the load count, from set i on
+pub count-here : (ls : List ℕ) (i : ℕ) → i < length ls → loadCount (drop i ls) ≡ size (getD ls i 0) + loadCount (drop (i + 1) ls)
+unfolding loadCount
+count-here ls i h = rw (add-one i, drop-cons ls i 0 h) refl
+
+pub count-end : (ls : List ℕ) (i : ℕ) → length ls ≤ i → loadCount (drop i ls) ≡ 0
+unfolding loadCount
+count-end ls i h = rw (drop-of-length-le ls h) refl
 
 -- ---- the load count, one set more
 pub count-next : (ls : List ℕ) (l : ℕ) → loadCount (ls ++ (l ∷ [])) ≡ loadCount ls + size l
