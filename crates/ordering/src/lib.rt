@@ -1,1 +1,2 @@
 // The orders of the tests.
+mod growing;
