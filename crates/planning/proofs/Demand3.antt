@@ -29,19 +29,9 @@ use Rattle.planning.specs.Demand3.{Demand3}
 use Rattle.job.proofs.Orders.{order-length}
 use Rattle.job.proofs.JobExact.{job-exact}
 use Rattle.planning.proofs.OrderExact.{order-passes, passed-order}
-use Rattle.planning.proofs.Turns.{length-inOrder}
+use Rattle.planning.proofs.Turns.{length-inOrder, length-dropSets, length-loadSets}
 
 -- ---- lengths
-
-length-dropSets : (pick : ℕ → List ℕ → Found ℕ) (p h : ℕ) (ws : List ℕ) → length (dropSets pick p h ws) ≡ length ws
-unfolding dropSets
-length-dropSets pick p h [] = refl
-length-dropSets pick p h (w ∷ ws) = ap suc (length-dropSets pick p _ ws)
-
-length-loadSets : (pick : ℕ → List ℕ → Found ℕ) (p h : ℕ) (ws : List ℕ) → length (loadSets pick p h ws) ≡ length ws
-unfolding loadSets
-length-loadSets pick p h [] = refl
-length-loadSets pick p h (w ∷ ws) = ap suc (length-loadSets pick p _ ws)
 
 take-overwritten : (n : ℕ) (new old : List ℕ) → length new ≡ n → take n (overwritten new old) ≡ new
 unfolding overwritten

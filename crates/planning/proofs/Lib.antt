@@ -9,6 +9,7 @@
 --     Demand3     DEMAND 3, the proof
 --     Turns       one turn of a loop over steps
 --     Sequence    planning and checking, examination by examination
+--     Scan        a walk over the elements of a set, and the best that it finds
 --     Marks       flags of the tests that were met
 pub mod OrderExact
 pub mod CheckExact
@@ -20,4 +21,5 @@ pub mod OurPlan
 pub mod Demand3
 pub mod Turns
 pub mod Sequence
+pub mod Scan
 pub mod Marks

@@ -7,12 +7,14 @@ use native.Mathlib.Omega.{arith}
 use native.Mathlib.Numerals.{add-one}
 use native.Mathlib.Decide.{decLe}
 use lib.Dec.{leb, ltb}
-use lib.ListN.{length, getD, take, drop, drop-of-length-le, length-take}
-use lib.Seq.{drop-cons, take-suc, length-take-le}
+use lib.ListN.{length, getD, take, drop, set, drop-of-length-le, length-take}
+use lib.Seq.{drop-cons, take-suc, length-take-le, sets, sets-eq}
+use lib.Bits.{or-comm}
 use borrow.Author.Tests.{ltb-true, ltb-false, lt-ltb, le-ltb}
 use Rattle.bitset.specs.Set.{_∪_, _∖_, size, bit}
-use Rattle.bitset.proofs.Bits.{bitwise, same-by-bits}
-use Rattle.job.specs.Refusal.{Outcome, done, refused, _>>_, demand}
+use Rattle.bitset.proofs.Bits.{bit-∪, bit-empty, same-by-bits}
+use Rattle.bitset.proofs.Laws.{∪-assoc, size-∪}
+use Rattle.job.specs.Refusal.{Outcome, done, refused, _>>_, demand, overwritten}
 use Rattle.job.specs.Handed.{listed}
 use Rattle.job.specs.Choice.{Found, found}
 use Rattle.planning.specs.declared.NextUse.{NextUse}
@@ -66,13 +68,14 @@ module _ (n : ℕ) (order : List ℕ) (i : ℕ) where
       rw (drop-of-length-le order h) (rw l refl)
 
 -- ---- dropping one by one: acc is dropped so far
-∪-assoc : (a b c : ℕ) → (a ∪ b) ∪ c ≡ a ∪ (b ∪ c)
-∪-assoc a b c = same-by-bits ((a ∪ b) ∪ c) (a ∪ (b ∪ c)) (λ k. simp bitwise (omega arith))
-
 pub victims-next : (pick : ℕ → List ℕ → Found ℕ) (acc e cs v : ℕ) (ws : List ℕ) → pick cs ws ≡ found v
     → acc ∪ victims pick (suc e) cs ws ≡ (acc ∪ 2 ^ v) ∪ victims pick e (cs ∖ 2 ^ v) ws
 unfolding victims andThen
 victims-next pick acc e cs v ws p = rw p (sym (∪-assoc acc (2 ^ v) (victims pick e (cs ∖ 2 ^ v) ws)))
+
+pub victims-end : (pick : ℕ → List ℕ → Found ℕ) (acc cs : ℕ) (ws : List ℕ) → acc ∪ victims pick 0 cs ws ≡ acc
+unfolding victims
+victims-end pick acc cs ws = same-by-bits (acc ∪ 0) acc (λ c. omega (arith, bit-∪ c acc 0, bit-empty c))
 
 -- ---- the steps of our plan, with h held before step i of the steps that want ws
 module _ (pick : ℕ → List ℕ → Found ℕ) (places h i : ℕ) (ws : List ℕ) (below : i < length ws) where
@@ -84,6 +87,42 @@ module _ (pick : ℕ → List ℕ → Found ℕ) (places h i : ℕ) (ws : List �
   pub loads-next : loadSets pick places h (drop i ws) ≡ getD ws i 0 ∖ h ∷ loadSets pick places (heldAfter pick places h (getD ws i 0) (drop (i + 1) ws)) (drop (i + 1) ws)
   unfolding loadSets
   loads-next = rw (add-one i, drop-cons ws i 0 below) refl
+
+-- no step is left
+module _ (pick : ℕ → List ℕ → Found ℕ) (places h i : ℕ) (ws : List ℕ) (end : length ws ≤ i) where
+  pub drops-end : dropSets pick places h (drop i ws) ≡ []
+  unfolding dropSets
+  drops-end = rw (drop-of-length-le ws end) refl
+
+  pub loads-end : loadSets pick places h (drop i ws) ≡ []
+  unfolding loadSets
+  loads-end = rw (drop-of-length-le ws end) refl
+
+pub length-dropSets : (pick : ℕ → List ℕ → Found ℕ) (p h : ℕ) (ws : List ℕ) → length (dropSets pick p h ws) ≡ length ws
+unfolding dropSets
+length-dropSets pick p h [] = refl
+length-dropSets pick p h (w ∷ ws) = ap suc (length-dropSets pick p _ ws)
+
+pub length-loadSets : (pick : ℕ → List ℕ → Found ℕ) (p h : ℕ) (ws : List ℕ) → length (loadSets pick p h ws) ≡ length ws
+unfolding loadSets
+length-loadSets pick p h [] = refl
+length-loadSets pick p h (w ∷ ws) = ap suc (length-loadSets pick p _ ws)
+
+-- the drops where all have room, and how many candidates there are
+pub no-drops : (pick : ℕ → List ℕ → Found ℕ) (places h w : ℕ) (ws : List ℕ) → size (h ∪ w) ≤ places → dropsFor pick places h w ws ≡ 0
+unfolding dropsFor victims
+no-drops pick places h w ws e = let z : size (h ∪ w) - places ≡ 0 = omega arith in rw z refl
+
+pub excess-fits : (places h w : ℕ) → size w ≤ places → size (h ∪ w) - places ≤ size (h ∖ w)
+excess-fits places h w e = omega (arith, size-∪ w h, ap size (or-comm h w))
+
+-- ---- a list that is overwritten from its start, one entry a turn
+pub sets-cons : (l : List ℕ) (i v : ℕ) (vs : List ℕ) → sets l i (v ∷ vs) ≡ sets (set l i v) (i + 1) vs
+sets-cons l i v vs = rw (add-one i) refl
+
+pub sets-whole : (new old : List ℕ) → length new ≤ length old → sets old 0 new ≡ overwritten new old
+unfolding overwritten
+sets-whole new old h = let z : 0 + length new ≡ length new = omega arith in sets-eq new old 0 (omega arith) ∙ rw z refl
 
 -- ---- the check of step i
 module _ (places all h i : ℕ) (ws ds ls : List ℕ) (below : i < length ws) (drops : length ds ≡ length ws) (loads : length ls ≡ length ws) where
