@@ -64,7 +64,7 @@ module _ (better : ℕ → ℕ → Bool) (cs : ℕ) where
   abbrev pub scanned : ℕ → Found ℕ
   scanned m = bestOf (λ c. eqb (bit c cs) 1) better (λ c. c) m nobody
 
-  skip : (m k : ℕ) → m ≤ k → ((c : ℕ) → m ≤ c → c < k → bit c cs ≡ 0) → scanned k ≡ scanned m
+  pub skip : (m k : ℕ) → m ≤ k → ((c : ℕ) → m ≤ c → c < k → bit c cs ≡ 0) → scanned k ≡ scanned m
   skip m k h none =
       let e : (k - m) + m ≡ k = omega arith in
       rw (← e) (best-skip (λ c. eqb (bit c cs) 1) better (λ c. c) nobody (k - m) m (λ c l u. ne-eqb (bit c cs) 1 (λ q. omega (arith, none c l (omega arith)))))

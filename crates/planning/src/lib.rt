@@ -11,7 +11,8 @@ ghost use Rattle.job.specs.Choice.{found};
 ghost use Rattle.job.specs.Refusal.{mapped, overwritten, examinedOutcome, countOutcome};
 ghost use Rattle.planning.specs.Order.{orderKnown};
 ghost use Rattle.planning.specs.Plan.{inOrder, loadCount, stepPasses, checkSteps, nextUse, further, furthest, victims, dropsFor, dropSets, loadSets};
-ghost use Rattle.planning.specs.Planning.{setsKnown, checking};
+ghost use Rattle.planning.specs.Planning.{planAnswer, planDrops, planLoads, setsKnown, checking};
+ghost use Rattle.planning.specs.Demand3.{Demand3};
 
 // Document 01: "its next use, which is a later step or never".
 pub enum NextUse {
@@ -320,4 +321,50 @@ fn plan_steps(
         i = next;
     }
     count
+}
+
+// Our plan for one job and one order of its tests, in the first entries of the drops and loads lent; the load count. "planning 8, 7, 9", after 5 and 10.
+pub fn plan(
+    places: usize,
+    curves: usize,
+    wants: &[u64],
+    order: &[u16],
+    drops: &mut [u64],
+    loads: &mut [u64],
+) -> Counted
+    ensures answer { λ r. ⌜ countOutcome r ≡ planAnswer places curves (now (wants .entry)) (now (order .entry)) (now (drops .entry)) (now (loads .entry)) ⌝ }
+    ensures dropped { λ _. ⌜ now (drops .exit) ≡ planDrops places curves (now (wants .entry)) (now (order .entry)) (now (drops .entry)) (now (loads .entry)) ⌝ }
+    ensures loaded { λ _. ⌜ now (loads .exit) ≡ planLoads places curves (now (wants .entry)) (now (order .entry)) (now (drops .entry)) (now (loads .entry)) ⌝ }
+    ensures demand3 { λ r. ⌜ Demand3 places curves (now (wants .entry)) (now (order .entry)) (countOutcome r) (now (drops .exit)) (now (loads .exit)) ⌝ }
+{
+    match job::examine(places, curves, wants) {
+        Examined::Refused(r) => {
+            return Counted::Refused(r);
+        }
+        Examined::Passed => {}
+    }
+    let tests = wants.len();
+    match examine_order(tests, order) {
+        Examined::Refused(r) => {
+            return Counted::Refused(r);
+        }
+        Examined::Passed => {}
+    }
+    match job::examine_sizes(places, wants) {
+        Examined::Refused(r) => {
+            return Counted::Refused(r);
+        }
+        Examined::Passed => {}
+    }
+    if drops.len() < tests {
+        return Counted::Refused(Refusal::BufferTooSmall(tests));
+    }
+    if loads.len() < tests {
+        return Counted::Refused(Refusal::BufferTooSmall(tests));
+    }
+    let mut steps = [0u64; 256];
+    in_order(wants, order, &mut steps);
+    // "The drive is empty before step 0."
+    let count = plan_steps(places, 0, &steps[..tests], drops, loads);
+    Counted::Count(count)
 }
