@@ -6,6 +6,10 @@
 --     Reverse       a list whose first entries are reversed in place
 --     CuthillMcKee  the next test of method 1
 --     SpanningTree  the next test of method 2
+--     PackageLists  method 3: lists that are changed in place
+--     PackageRows   method 3: the closest pair, row by row
+--     PackageRuns   method 3: heads, tails and flipping
+--     PackageState  method 3: the packages as the code holds them, and a turn of the rounds
 pub mod Complete
 pub mod Rounds
 pub mod Scan
@@ -13,3 +17,7 @@ pub mod Append
 pub mod Reverse
 pub mod CuthillMcKee
 pub mod SpanningTree
+pub mod PackageLists
+pub mod PackageRows
+pub mod PackageRuns
+pub mod PackageState
