@@ -19,6 +19,8 @@ use Rattle.ordering.proofs.Rounds.{order-complete}
 use Rattle.planning.specs.Plan.{loadCount}
 use Rattle.planning.specs.Planning.{Plan, planning, planned, planAnswer, planDrops, planLoads}
 use Rattle.planning.proofs.Demand3.{plan-lengths}
+use Rattle.curveplan.specs.declared.JobPlanned.{JobPlanned}
+use Rattle.curveplan.specs.Answer.{plannedOutcome}
 use Rattle.curveplan.specs.Call.{Planned, orderAndPlan}
 
 -- a list that is as long as the result has the result
@@ -105,3 +107,48 @@ module _ (j : Job) (O : List ℕ) (wants : length (j .wants) ≡ j .head .tests)
       where
         planned-at : length D ≡ j .head .tests → length L ≡ j .head .tests → planned p c ws o D L ≡ planning p c ws o (j .head .tests) (j .head .tests)
         planned-at d l = rw (d, l) refl
+
+-- ---- the same, of the lists as the functions leave them
+
+same-planned : (h : Head) {w w′ o o′ d d′ l l′ : List ℕ} → w ≡ w′ → o ≡ o′ → d ≡ d′ → l ≡ l′
+    → _≡_ {A = Outcome Planned} (done (record { job = record { head = h; wants = w }; order = o; plan = record { drops = d; loads = l } }))
+    (done (record { job = record { head = h; wants = w′ }; order = o′; plan = record { drops = d′; loads = l′ } }))
+same-planned h p q r s i = done (record { job = record { head = h; wants = p i }; order = q i; plan = record { drops = r i; loads = s i } })
+
+module _ (j : Job) (O D L : List ℕ) (wants : length (j .wants) ≡ j .head .tests) (order : length O ≡ j .head .tests) (drops : length D ≡ j .head .tests) (loads : length L ≡ j .head .tests)
+    (n : ℕ) (ordered : orderAnswer (j .head .places) (j .head .curves) (j .head .method) (j .wants) O ≡ done n)
+    (O′ : List ℕ) (left : O′ ≡ orderList (j .head .places) (j .head .curves) (j .head .method) (j .wants) O) where
+  abbrev answer : Outcome ℕ
+  answer = planAnswer (j .head .places) (j .head .curves) (j .wants) O′ D L
+
+  got : Ordered j O wants order
+  got = order-done j O wants order n ordered
+
+  is : O′ ≡ got .order
+  is = left ∙ got .left
+
+  pub stage-refused : (k i : ℕ) → answer ≡ refused k i → orderAndPlan j ≡ refused k i
+  stage-refused k i e =
+      plan-refused j O wants order got D L drops loads k i (ap (λ (x : List ℕ). planAnswer (j .head .places) (j .head .curves) (j .wants) x D L) (sym is) ∙ e)
+
+  pub stage-done : (m count : ℕ) (D′ L′ : List ℕ) → answer ≡ done m
+      → D′ ≡ planDrops (j .head .places) (j .head .curves) (j .wants) O′ D L → L′ ≡ planLoads (j .head .places) (j .head .curves) (j .wants) O′ D L
+      → length D′ ≡ length D → length L′ ≡ length L
+      → plannedOutcome (JobPlanned.Planned (j .head) count) (j .wants) O′ D′ L′ ≡ orderAndPlan j
+  unfolding plannedOutcome
+  stage-done m count D′ L′ e d l dl ll =
+      let f = plan-done j O wants order got D L drops loads m (ap (λ (x : List ℕ). planAnswer (j .head .places) (j .head .curves) (j .wants) x D L) (sym is) ∙ e) in
+      let d′ : D′ ≡ planDrops (j .head .places) (j .head .curves) (j .wants) (got .order) D L = d ∙ ap (λ (x : List ℕ). planDrops (j .head .places) (j .head .curves) (j .wants) x D L) is in
+      let l′ : L′ ≡ planLoads (j .head .places) (j .head .curves) (j .wants) (got .order) D L = l ∙ ap (λ (x : List ℕ). planLoads (j .head .places) (j .head .curves) (j .wants) x D L) is in
+      same-planned (j .head) (take-whole (j .head .tests) (j .wants) wants) (take-whole (j .head .tests) O′ (ap length is ∙ got .tests) ∙ is)
+      (take-whole (j .head .tests) D′ (dl ∙ drops) ∙ d′) (take-whole (j .head .tests) L′ (ll ∙ loads) ∙ l′)
+      ∙ sym f
+
+-- ---- what a function answered
+pub counted-refused : (x : Counted) (r : Refusal) (o : Outcome ℕ) → x ≡ Counted.Refused r → countOutcome x ≡ o → o ≡ refused (number r) (figure r)
+unfolding countOutcome
+counted-refused x r o p q = sym q ∙ rw p refl
+
+pub counted-done : (x : Counted) (n : ℕ) (o : Outcome ℕ) → x ≡ Counted.Count n → countOutcome x ≡ o → o ≡ done n
+unfolding countOutcome
+counted-done x n o p q = sym q ∙ rw p refl
