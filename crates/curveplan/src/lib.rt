@@ -20,13 +20,6 @@ pub enum JobPlanned {
     Refused(Refusal),
 }
 
-fn read_job(job: &[u8], wants: &mut [u64]) -> JobRead
-    ensures { λ r. ⌜ readOutcome r ≡ readJobAnswer (now (job .entry)) (now (wants .entry)) ⌝ }
-    ensures { λ _. ⌜ now (wants .exit) ≡ readJobWants (now (job .entry)) (now (wants .entry)) ⌝ }
-{
-    JobRead::Refused(Refusal::NoTests)
-}
-
 fn write_plan(
     places: usize,
     curves: usize,
@@ -80,7 +73,7 @@ fn plan_into(
     requires { ⌜ (length (now wants) ≡ 256) × (length (now order) ≡ 256) × (length (now drops) ≡ 256) × (length (now loads) ≡ 256) ⌝ }
     ensures { λ r. ⌜ plannedOutcome r (now (wants .exit)) (now (order .exit)) (now (drops .exit)) (now (loads .exit)) ≡ planJob (now (job .entry)) ⌝ }
 {
-    match read_job(job, wants) {
+    match job::reading::read_job(job, wants) {
         JobRead::Refused(r) => JobPlanned::Refused(r),
         JobRead::Read(head) => {
             let n = head.tests;
