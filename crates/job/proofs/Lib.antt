@@ -11,6 +11,7 @@
 --     Front         a loop that copies the front of a list
 --     Records       reading the records and the whole job, step by step
 --     Spans         how many bytes a reading takes at most, and where its figures point
+--     JobWritten    writing a job, step by step
 --     JobExact      what passes the examination is a job, and a job passes
 --     SetRoundTrip  a set that is written reads back, and the other way round
 --     JobRoundTrip  the same of a job
@@ -26,6 +27,7 @@ pub mod Front
 pub mod Heads
 pub mod Spans
 pub mod Records
+pub mod JobWritten
 pub mod SetRoundTrip
 pub mod GroupByte
 pub mod JobExact
