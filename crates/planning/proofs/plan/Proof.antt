@@ -1,20 +1,18 @@
 -- `plan` meets its contract: the examinations in the rule's sequence, and then the steps.
-use mathlib.Core.Path.{_≡_, refl, sym, ap, _∙_}
-use mathlib.Core.List.{List}
-use Prim.Native.Nat.{ℕ, _≤_, _<_}
+use mathlib.Core.Path.{_≡_, sym, _∙_}
+use Prim.Native.Nat.{_≤_}
 use native.Mathlib.Omega.{arith}
-use lib.ListN.{length, getD, take}
+use lib.ListN.{length, take}
 use lib.Seq.{length-take-le}
 use denote.Ref.{now}
-use Rattle.bitset.specs.Set.{size}
-use Rattle.job.specs.Refusal.{done, countOutcome, number, figure, overwritten}
+use Rattle.job.specs.Refusal.{done, countOutcome, number, figure}
 use Rattle.job.specs.Handed.{jobKnown, wantsFit}
 use Rattle.job.proofs.Examination.{examined-refused, examined-passed}
 use Rattle.planning.specs.Order.{orderKnown}
-use Rattle.planning.specs.Plan.{inOrder, loadCount, furthest, dropSets, loadSets}
+use Rattle.planning.specs.Plan.{inOrder}
 use Rattle.planning.proofs.Turns.{length-inOrder}
 use Rattle.planning.proofs.Sequence.{job-of, order-long, order-below}
-use Rattle.planning.proofs.Planned.{refused-contract, done-contract, plan-job, plan-order, plan-sizes, plan-drops, plan-loads, plan-done, step-sizes, same-plan}
+use Rattle.planning.proofs.Planned.{refused-contract, steps-contract, plan-job, plan-order, plan-sizes, plan-drops, plan-loads, step-sizes}
 use borrow.Author.Needs.{needs}
 use Rattle.planning.proofs.plan.Statement.{statement}
 use Rattle.planning.proofs.plan.Tie as tie
@@ -163,16 +161,8 @@ returns-6 c =
     let j = k .before .before .before in
     let a = j .before .before .before .before .before .before .before .args in
     let p = c .before .before .before .before .plan-steps in
-    let steps = inOrder (now (a .wants)) (now (a .order)) in
-    let are = steps-are (c .before .before .before .before .before .before .before .before .before) in
-    let same = same-plan (a .places) (a .curves) (now (a .wants)) (now (a .order)) (now (a .drops)) (now (a .loads)) (job-passed j) (order-passed k) (sizes-passed t) in
-    let count : p .result ≡ loadCount (loadSets (furthest (a .curves)) (a .places) 0 steps) =
-    p .ensures .0 ∙ ap (λ (ws : List ℕ). loadCount (loadSets (furthest 64) (a .places) 0 ws)) are ∙ ap loadCount (same .1) in
-    let ds : p .last .1 .1 .1 .0 ≡ overwritten (dropSets (furthest (a .curves)) (a .places) 0 steps) (now (a .drops)) =
-    p .ensures .1 .0 ∙ ap (λ (ws : List ℕ). overwritten (dropSets (furthest 64) (a .places) 0 ws) (now (a .drops))) are ∙ ap (λ (new : List ℕ). overwritten new (now (a .drops))) (same .0) in
-    let ls : p .last .1 .1 .1 .1 .0 ≡ overwritten (loadSets (furthest (a .curves)) (a .places) 0 steps) (now (a .loads)) =
-    p .ensures .1 .1 ∙ ap (λ (ws : List ℕ). overwritten (loadSets (furthest 64) (a .places) 0 ws) (now (a .loads))) are ∙ ap (λ (new : List ℕ). overwritten new (now (a .loads))) (same .1) in
-    rw (count, ds, ls) (done-contract (a .places) (a .curves) (now (a .wants)) (now (a .order)) (now (a .drops)) (now (a .loads)) (plan-done (a .places) (a .curves) (now (a .wants)) (now (a .order)) (now (a .drops)) (now (a .loads)) (job-passed j) (order-passed k) (sizes-passed t) (c .before .before .before .before .before .before .before .before .before .before .before .before .if1 .left) (c .before .before .before .before .before .before .before .before .before .before .before .if2 .left)))
+    steps-contract (a .places) (a .curves) (now (a .wants)) (now (a .order)) (now (a .drops)) (now (a .loads)) (job-passed j) (order-passed k) (sizes-passed t) (c .before .before .before .before .before .before .before .before .before .before .before .before .if1 .left) (c .before .before .before .before .before .before .before .before .before .before .before .if2 .left) _ _ _ _
+    (steps-are (c .before .before .before .before .before .before .before .before .before)) (p .ensures .0) (p .ensures .1 .0) (p .ensures .1 .1)
 
 pub plan-spec : {M : Type 1} → statement M
 plan-spec =

@@ -1,16 +1,15 @@
 -- `plan_steps` meets its contract. The invariant: what is written in all comes to what is written and what the steps from i on will write, and so does the count.
 use mathlib.Core.Path.{_≡_, refl, sym, ap, _∙_}
 use mathlib.Core.List.{List, [], _∷_}
-use Prim.Native.Nat.{ℕ, _≤_, _<_, _-_, _+_, _*_, _^_}
+use Prim.Native.Nat.{ℕ, _≤_, _<_, _-_, _+_, _*_}
 use native.Mathlib.Omega.{arith}
-use borrow.Author.Needs.{needs, scaled-fits, set-long}
+use borrow.Author.Needs.{needs, set-long}
 use lib.ListN.{length, getD, drop}
 use lib.Seq.{sets}
 use borrow.Rule.Slice.PartAt.{part-to-end}
 use denote.Ref.{now}
 use Rattle.bitset.specs.Set.{_∪_, _∖_, size}
 use Rattle.bitset.proofs.Laws.{size-le}
-use Rattle.job.specs.Refusal.{overwritten}
 use Rattle.planning.specs.Plan.{furthest, dropsFor, heldAfter, dropSets, loadSets, loadCount}
 use Rattle.planning.proofs.Turns.{drops-next, loads-next, drops-end, loads-end, length-dropSets, length-loadSets, sets-cons, sets-whole}
 use Rattle.planning.proofs.plan_steps.Statement.{statement}
