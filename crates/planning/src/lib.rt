@@ -4,8 +4,8 @@ use job::Examined;
 use job::Refusal;
 ghost use mathlib.Core.Path.{_≡_};
 ghost use mathlib.Core.List.{List};
-ghost use Prim.Native.Nat.{ℕ, _≤_, _<_, min};
-ghost use lib.ListN.{length, getD, take};
+ghost use Prim.Native.Nat.{ℕ, _+_, _≤_, _<_, min};
+ghost use lib.ListN.{length, getD, take, drop};
 ghost use Rattle.bitset.specs.Set.{size, bit};
 ghost use Rattle.job.specs.Choice.{found};
 ghost use Rattle.job.specs.Refusal.{mapped, overwritten, examinedOutcome, countOutcome};
@@ -290,6 +290,15 @@ fn drops_for(places: usize, held: u64, want: u64, later: &[u64]) -> u64
     choose_drops(together - places, bitset::without(held, want), later)
 }
 
+// The wants of the steps after step i.
+fn later(steps: &[u64], i: usize) -> &[u64]
+    requires { ⌜ i < length (now steps) ⌝ }
+    ensures { λ r. ⌜ now r ≡ drop (i + 1) (now (steps .entry)) ⌝ }
+{
+    let next = i + 1;
+    &steps[next..]
+}
+
 // The drops and loads of all steps, with `start` held before the first, into the lists lent; answers the load count.
 fn plan_steps(
     places: usize,
@@ -307,21 +316,20 @@ fn plan_steps(
     ensures { λ _. ⌜ now (loads .exit) ≡ overwritten (loadSets (furthest 64) places start (now (steps .entry))) (now (loads .entry)) ⌝ }
 {
     let mut held = start;
-    let mut count: usize = 0;
+    let mut total: usize = 0;
     let mut i: usize = 0;
     while i < steps.len() {
         let want = steps[i];
-        let next = i + 1;
-        let dropped = drops_for(places, held, want, &steps[next..]);
+        let dropped = drops_for(places, held, want, later(steps, i));
         // "Load what is wanted and not held."
         let loaded = bitset::without(want, held);
         drops[i] = dropped;
         loads[i] = loaded;
         held = bitset::union(bitset::without(held, dropped), loaded);
-        count += bitset::size(loaded);
-        i = next;
+        total += bitset::size(loaded);
+        i += 1;
     }
-    count
+    total
 }
 
 // Our plan for one job and one order of its tests, into the first entries of the drops and loads lent; answers the load count. "planning 8, 7, 9", after 5 and 10.

@@ -127,7 +127,7 @@ in-order-requires c κs =
     (omega (arith, order-long _ _ (order-passed k), job-of _ _ _ (job-passed j) .tests-bounds), order-below _ _ (order-passed k))
 
 array-share-prefix-steps : tie.Need-array-share-prefix-steps
-array-share-prefix-steps c = enough c
+array-share-prefix-steps c = omega (arith, enough c)
 
 slice-aggregate-plan-steps : tie.Need-slice-aggregate-plan-steps
 slice-aggregate-plan-steps c = let a = c .before .before .before .before .before .before .before .before .before .before .before .before .before .before .before .before .before .before .before .args in sym (length-take-le (length (now (a .wants))) (c .before .before .in-order .last .1 .1 .0) (enough (c .before)))

@@ -6,7 +6,6 @@ use native.Mathlib.Omega.{arith}
 use borrow.Author.Needs.{needs, set-long}
 use lib.ListN.{length, getD, drop}
 use lib.Seq.{sets}
-use borrow.Rule.Slice.PartAt.{part-to-end}
 use denote.Ref.{now}
 use Rattle.bitset.specs.Set.{_∪_, _∖_, size}
 use Rattle.bitset.proofs.Laws.{size-le}
@@ -16,19 +15,19 @@ use Rattle.planning.proofs.plan_steps.Statement.{statement}
 use Rattle.planning.proofs.plan_steps.Tie as tie
 
 abbrev Inv-loop : tie.InvT-loop
-Inv-loop places start steps drops₀ loads₀ held₀ count₀ i₀ drops loads held count i =
+Inv-loop places start steps drops₀ loads₀ held₀ total₀ i₀ drops loads held total i =
     record {
       turns : i ≤ length steps;
       long-drops : length drops ≡ length drops₀;
       long-loads : length loads ≡ length loads₀;
-      few : count ≤ 64 * i;
-      counts : loadCount (loadSets (furthest 64) places start steps) ≡ count + loadCount (loadSets (furthest 64) places held (lib.ListN.drop i steps));
+      few : total ≤ 64 * i;
+      counts : loadCount (loadSets (furthest 64) places start steps) ≡ total + loadCount (loadSets (furthest 64) places held (lib.ListN.drop i steps));
       drop : lib.Seq.sets drops₀ 0 (dropSets (furthest 64) places start steps) ≡ lib.Seq.sets drops i (dropSets (furthest 64) places held (lib.ListN.drop i steps));
       load : lib.Seq.sets loads₀ 0 (loadSets (furthest 64) places start steps) ≡ lib.Seq.sets loads i (loadSets (furthest 64) places held (lib.ListN.drop i steps));
     }
 
 abbrev μ-loop : tie.MeasureT-loop
-μ-loop places start steps drops₀ loads₀ held₀ count₀ i₀ drops loads held count i = length steps - i
+μ-loop places start steps drops₀ loads₀ held₀ total₀ i₀ drops loads held total i = length steps - i
 
 few-loads : (c : tie.After-size Inv-loop μ-loop) → c .size .result ≤ 64
 few-loads c = rw (c .size .ensures) (size-le 64 _ (omega (arith, c .before .before .before .without .ok)))
@@ -59,20 +58,8 @@ mul-want c = search needs
 shared-slice-read-want : tie.Need-shared-slice-read-want Inv-loop μ-loop
 shared-slice-read-want c = search needs
 
-add-next : tie.Need-add-next Inv-loop μ-loop
-add-next c = search needs
-
-mul-drops-for : tie.Need-mul-drops-for Inv-loop μ-loop
-mul-drops-for c = omega (arith, c .before .before .before .before .before .before .pre .0)
-
-sub-drops-for : tie.Need-sub-drops-for Inv-loop μ-loop
-sub-drops-for c = omega arith
-
-part-drops-for-start : tie.Need-part-drops-for-start Inv-loop μ-loop
-part-drops-for-start c = search needs
-
-part-drops-for-end : tie.Need-part-drops-for-end Inv-loop μ-loop
-part-drops-for-end c = search needs
+later-requires : tie.Need-later-requires Inv-loop μ-loop
+later-requires c κs = omega arith
 
 drops-for-requires : tie.Need-drops-for-requires Inv-loop μ-loop
 drops-for-requires c κs = let k = c .before .before .before in k .before .before .before .before .pre .1 .1 .1 (k .loop .i) (c .before .before .loop-test .taken)
@@ -101,8 +88,11 @@ union-requires c κs = tt
 size-requires : tie.Need-size-requires Inv-loop μ-loop
 size-requires c κs = tt
 
-add-count : tie.Need-add-count Inv-loop μ-loop
-add-count c = omega (arith, few-loads c, c .before .before .before .before .before .before .before .before .before .before .before .before .pre .0)
+add-total : tie.Need-add-total Inv-loop μ-loop
+add-total c = omega (arith, few-loads c, c .before .before .before .before .before .before .before .before .before .before .before .before .pre .0)
+
+add-i : tie.Need-add-i Inv-loop μ-loop
+add-i c = search needs
 
 loop-less : tie.Need-loop-less Inv-loop μ-loop
 loop-less c = search needs
@@ -118,7 +108,7 @@ loop-again c =
     let f = furthest 64 in
     let d = dropsFor f (a .places) (q .held) w (drop (q .i + 1) ws) in
     let is-d : c .before .before .before .before .drops-for .result ≡ d =
-    c .before .before .before .before .drops-for .ensures ∙ ap (dropsFor f (a .places) (q .held) w) (part-to-end ws (q .i + 1)) in
+    c .before .before .before .before .drops-for .ensures ∙ ap (dropsFor f (a .places) (q .held) w) (c .before .before .before .before .before .later .ensures) in
     let is-l : c .before .before .before .without .result ≡ w ∖ q .held = c .before .before .before .without .ensures in
     let is-h : c .before .union .result ≡ heldAfter f (a .places) (q .held) w (drop (q .i + 1) ws) =
     after (a .places) (q .held) w (drop (q .i + 1) ws) _ _ _ _ (c .before .union .ensures) (c .before .before .without2 .ensures) is-d is-l in
@@ -132,7 +122,7 @@ loop-again c =
       long-drops = set-long ℕ (q .drops) (q .i) _ _ (q .inv .long-drops);
       long-loads = set-long ℕ (q .loads) (q .i) _ _ (q .inv .long-loads);
       few = omega (arith, q .inv .few);
-      counts = counted _ (q .count) (size (w ∖ q .held)) _ _ (q .inv .counts) (ap loadCount next ∙ one-more _ _);
+      counts = counted _ (q .total) (size (w ∖ q .held)) _ _ (q .inv .counts) (ap loadCount next ∙ one-more _ _);
       drop = q .inv .drop ∙ ap (sets (q .drops) (q .i)) (drops-next f (a .places) (q .held) (q .i) ws h) ∙ sets-cons (q .drops) (q .i) d (dropSets f (a .places) g (drop (q .i + 1) ws));
       load = q .inv .load ∙ ap (sets (q .loads) (q .i)) next ∙ sets-cons (q .loads) (q .i) (w ∖ q .held) (loadSets f (a .places) g (drop (q .i + 1) ws));
     }
@@ -171,11 +161,7 @@ plan-steps-spec =
     loop-holds
     mul-want
     shared-slice-read-want
-    add-next
-    mul-drops-for
-    sub-drops-for
-    part-drops-for-start
-    part-drops-for-end
+    later-requires
     drops-for-requires
     without-requires
     mul-drops
@@ -185,7 +171,8 @@ plan-steps-spec =
     without-requires-2
     union-requires
     size-requires
-    add-count
+    add-total
+    add-i
     loop-less
     loop-again
     same-length
