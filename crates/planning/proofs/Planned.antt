@@ -17,7 +17,7 @@ use Rattle.planning.specs.Plan.{inOrder, loadCount, furthest, dropSets, 
 use Rattle.planning.specs.Planning.{ourPlan, planning, planned, planAnswer, planDrops, planLoads}
 use Rattle.planning.specs.Demand3.{Demand3}
 use Rattle.planning.proofs.Turns.{length-inOrder, wants-at}
-use Rattle.planning.proofs.Sequence.{job-of, order-below}
+use Rattle.planning.proofs.Sequence.{job-of, order-long, order-below}
 use Rattle.planning.proofs.Width.{plan-width}
 use Rattle.planning.proofs.Demand3.{demand3, planning-done, planning-refused}
 
@@ -79,7 +79,7 @@ module _ (places curves : ℕ) (wants order drops loads : List ℕ) where
             let l : i < length order = omega (arith, length-inOrder wants order) in
             (wants-at wants order i l, order-below (length wants) order ord i l)
 
-        pub step-sizes : (i : ℕ) → i < length (inOrder wants order) → size (getD (inOrder wants order) i 0) ≤ places
+        step-sizes : (i : ℕ) → i < length (inOrder wants order) → size (getD (inOrder wants order) i 0) ≤ places
         unfolding wantsFit
         step-sizes i h =
             let s = step-of i h in
@@ -91,6 +91,13 @@ module _ (places curves : ℕ) (wants order drops loads : List ℕ) where
         same-plan : (dropSets (furthest 64) places 0 (inOrder wants order) ≡ dropSets (furthest curves) places 0 (inOrder wants order))
             × (loadSets (furthest 64) places 0 (inOrder wants order) ≡ loadSets (furthest curves) places 0 (inOrder wants order))
         same-plan = plan-width curves 64 (job-of places curves wants job .curves-bounds .1) places 0 (inOrder wants order) (pow-pos curves) step-curves
+
+        -- what the steps are asked, where they want ws
+        pub steps-asked : length wants ≤ length drops → length wants ≤ length loads → (ws : List ℕ) → ws ≡ inOrder wants order
+            → (length ws ≤ 256) × ((length ws ≤ length drops) × ((length ws ≤ length loads) × ((i : ℕ) → i < length ws → size (getD ws i 0) ≤ places)))
+        steps-asked hd hl ws e =
+            let long : length (inOrder wants order) ≡ length wants = length-inOrder wants order ∙ order-long (length wants) order ord in
+            rw e (omega (arith, job-of places curves wants job .tests-bounds), (omega arith, (omega arith, step-sizes)))
 
         -- ---- the whole: what was written for steps that want ws
         pub steps-contract : length wants ≤ length drops → length wants ≤ length loads → (ws : List ℕ) (count : ℕ) (ds ls : List ℕ) → ws ≡ inOrder wants order

@@ -1,5 +1,5 @@
 -- `plan` meets its contract: the examinations in the rule's sequence, and then the steps.
-use mathlib.Core.Path.{_≡_, sym, _∙_}
+use mathlib.Core.Path.{_≡_}
 use Prim.Native.Nat.{_≤_}
 use native.Mathlib.Omega.{arith}
 use lib.ListN.{length, take}
@@ -10,9 +10,8 @@ use Rattle.job.specs.Handed.{jobKnown, wantsFit}
 use Rattle.job.proofs.Examination.{examined-refused, examined-passed}
 use Rattle.planning.specs.Order.{orderKnown}
 use Rattle.planning.specs.Plan.{inOrder}
-use Rattle.planning.proofs.Turns.{length-inOrder}
 use Rattle.planning.proofs.Sequence.{job-of, order-long, order-below}
-use Rattle.planning.proofs.Planned.{refused-contract, steps-contract, plan-job, plan-order, plan-sizes, plan-drops, plan-loads, step-sizes}
+use Rattle.planning.proofs.Planned.{refused-contract, steps-contract, plan-job, plan-order, plan-sizes, plan-drops, plan-loads, steps-asked}
 use borrow.Author.Needs.{needs}
 use Rattle.planning.proofs.plan.Statement.{statement}
 use Rattle.planning.proofs.plan.Tie as tie
@@ -130,7 +129,9 @@ array-share-prefix-steps : tie.Need-array-share-prefix-steps
 array-share-prefix-steps c = omega (arith, enough c)
 
 slice-aggregate-plan-steps : tie.Need-slice-aggregate-plan-steps
-slice-aggregate-plan-steps c = let a = c .before .before .before .before .before .before .before .before .before .before .before .before .before .before .before .before .before .before .before .args in sym (length-take-le (length (now (a .wants))) (c .before .before .in-order .last .1 .1 .0) (enough (c .before)))
+slice-aggregate-plan-steps c =
+    let a = c .before .before .before .before .before .before .before .before .before .before .before .before .before .before .before .before .before .before .before .args in
+    omega (arith, length-take-le (length (now (a .wants))) (c .before .before .in-order .last .1 .1 .0) (enough (c .before)))
 
 plan-steps-requires : tie.Need-plan-steps-requires
 plan-steps-requires c κs =
@@ -138,14 +139,7 @@ plan-steps-requires c κs =
     let k = t .before .before .before in
     let j = k .before .before .before in
     let a = j .before .before .before .before .before .before .before .args in
-    let long : length (inOrder (now (a .wants)) (now (a .order))) ≡ length (now (a .wants)) = length-inOrder (now (a .wants)) (now (a .order)) ∙ order-long _ _ (order-passed k) in
-    rw (steps-are (c .before .before .before .before)) (
-      omega (arith, job-of _ _ _ (job-passed j) .tests-bounds),
-      (
-        omega (arith, c .before .before .before .before .before .before .before .if1 .left),
-        (omega (arith, c .before .before .before .before .before .before .if2 .left), step-sizes (a .places) (a .curves) (now (a .wants)) (now (a .order)) (now (a .drops)) (now (a .loads)) (job-passed j) (order-passed k) (sizes-passed t)),
-      ),
-    )
+    steps-asked (a .places) (a .curves) (now (a .wants)) (now (a .order)) (now (a .drops)) (now (a .loads)) (job-passed j) (order-passed k) (sizes-passed t) (c .before .before .before .before .before .before .before .if1 .left) (c .before .before .before .before .before .before .if2 .left) _ (steps-are (c .before .before .before .before))
 
 same-length : tie.Need-same-length
 same-length c = search needs

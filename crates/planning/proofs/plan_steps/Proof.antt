@@ -4,7 +4,7 @@ use mathlib.Core.List.{List, [], _∷_}
 use Prim.Native.Nat.{ℕ, _≤_, _<_, _-_, _+_, _*_}
 use native.Mathlib.Omega.{arith}
 use borrow.Author.Needs.{needs, set-long}
-use lib.ListN.{length, getD, drop}
+use lib.ListN.{length, getD, drop, set}
 use lib.Seq.{sets}
 use denote.Ref.{now}
 use Rattle.bitset.specs.Set.{_∪_, _∖_, size}
@@ -40,14 +40,18 @@ no-loads : loadCount [] ≡ 0
 unfolding loadCount
 no-loads = refl
 
+-- the drops, by the later steps
+handed : (places h w d : ℕ) (l ws : List ℕ) → d ≡ dropsFor (furthest 64) places h w l → l ≡ ws → d ≡ dropsFor (furthest 64) places h w ws
+handed places h w d l ws e p = e ∙ ap (dropsFor (furthest 64) places h w) p
+
 -- what is held after the step
 after : (places h w : ℕ) (ws : List ℕ) (d u x l : ℕ) → u ≡ x ∪ l → x ≡ h ∖ d → d ≡ dropsFor (furthest 64) places h w ws → l ≡ w ∖ h → u ≡ heldAfter (furthest 64) places h w ws
 unfolding heldAfter
 after places h w ws d u x l e p q r = e ∙ rw (p, q, r) refl
 
--- the count, with the loads of one step more
-counted : (total count load rest next : ℕ) → total ≡ count + rest → rest ≡ load + next → total ≡ count + load + next
-counted total count load rest next e f = omega arith
+-- one entry more is written
+wrote : (old : List ℕ) (i v w : ℕ) (vs ws : List ℕ) → v ≡ w → vs ≡ ws → sets old i (w ∷ ws) ≡ sets (set old i v) (i + 1) vs
+wrote old i v w vs ws e f = rw (e, f) (sets-cons old i w ws)
 
 loop-holds : tie.Need-loop-holds Inv-loop μ-loop
 loop-holds c = record { turns = omega arith; long-drops = refl; long-loads = refl; few = omega arith; counts = omega arith; drop = refl; load = refl }
@@ -108,23 +112,25 @@ loop-again c =
     let f = furthest 64 in
     let d = dropsFor f (a .places) (q .held) w (drop (q .i + 1) ws) in
     let is-d : c .before .before .before .before .drops-for .result ≡ d =
-    c .before .before .before .before .drops-for .ensures ∙ ap (dropsFor f (a .places) (q .held) w) (c .before .before .before .before .before .later .ensures) in
+    handed (a .places) (q .held) w _ _ (drop (q .i + 1) ws) (c .before .before .before .before .drops-for .ensures) (c .before .before .before .before .before .later .ensures) in
     let is-l : c .before .before .before .without .result ≡ w ∖ q .held = c .before .before .before .without .ensures in
     let is-h : c .before .union .result ≡ heldAfter f (a .places) (q .held) w (drop (q .i + 1) ws) =
     after (a .places) (q .held) w (drop (q .i + 1) ws) _ _ _ _ (c .before .union .ensures) (c .before .before .without2 .ensures) is-d is-l in
-    let few = few-loads c in
     let size-l : c .size .result ≡ size (w ∖ q .held) = c .size .ensures ∙ ap size is-l in
-    let g = heldAfter f (a .places) (q .held) w (drop (q .i + 1) ws) in
+    let rest = drop (q .i + 1) ws in
+    let ls : loadSets f (a .places) (c .before .union .result) rest ≡ loadSets f (a .places) (heldAfter f (a .places) (q .held) w rest) rest =
+    ap (λ (x : ℕ). loadSets f (a .places) x rest) is-h in
     let next = loads-next f (a .places) (q .held) (q .i) ws h in
-    rw (is-d, is-l, is-h, size-l)
     record {
       turns = omega arith;
       long-drops = set-long ℕ (q .drops) (q .i) _ _ (q .inv .long-drops);
       long-loads = set-long ℕ (q .loads) (q .i) _ _ (q .inv .long-loads);
-      few = omega (arith, q .inv .few);
-      counts = counted _ (q .total) (size (w ∖ q .held)) _ _ (q .inv .counts) (ap loadCount next ∙ one-more _ _);
-      drop = q .inv .drop ∙ ap (sets (q .drops) (q .i)) (drops-next f (a .places) (q .held) (q .i) ws h) ∙ sets-cons (q .drops) (q .i) d (dropSets f (a .places) g (drop (q .i + 1) ws));
-      load = q .inv .load ∙ ap (sets (q .loads) (q .i)) next ∙ sets-cons (q .loads) (q .i) (w ∖ q .held) (loadSets f (a .places) g (drop (q .i + 1) ws));
+      few = omega (arith, q .inv .few, few-loads c);
+      counts = omega (arith, q .inv .counts, ap loadCount next ∙ one-more _ _, ap loadCount ls);
+      drop =
+          q .inv .drop ∙ ap (sets (q .drops) (q .i)) (drops-next f (a .places) (q .held) (q .i) ws h)
+          ∙ wrote (q .drops) (q .i) _ _ _ _ is-d (ap (λ (x : ℕ). dropSets f (a .places) x rest) is-h);
+      load = q .inv .load ∙ ap (sets (q .loads) (q .i)) next ∙ wrote (q .loads) (q .i) _ _ _ _ is-l ls;
     }
 
 same-length : tie.Need-same-length Inv-loop μ-loop
