@@ -3,9 +3,11 @@
 --     Steps          one turn of a loop over the steps
 --     ReadPlan       what reading a plan answers and leaves
 --     Fetching       a step fetched by its position
+--     Writing        writing a plan
 --     PlanRoundTrip  writing and reading undo each other
 pub mod Reading
 pub mod Steps
 pub mod ReadPlan
 pub mod Fetching
+pub mod Writing
 pub mod PlanRoundTrip

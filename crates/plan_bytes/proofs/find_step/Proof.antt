@@ -13,9 +13,6 @@ use Rattle.plan_bytes.proofs.Steps.{Behind, placed, begin, step-more, s
 use Rattle.plan_bytes.proofs.Fetching.{PartIs, step-inside, part-none, part-here, part-other, part-refused, part-read}
 use Rattle.plan_bytes.proofs.find_step.Statement.{statement}
 use Rattle.plan_bytes.proofs.find_step.Tie as tie
-use Rattle.plan_bytes.proofs.find_step.Reads as reads
-use Rattle.plan_bytes.proofs.find_step.Lts as lts
-use Rattle.plan_bytes.proofs.read_step.Reads as read-step-reads
 
 abbrev Inv-loop : tie.InvT-loop
 Inv-loop curves tests plan position start₀ end₀ at₀ k₀ start end at k =
