@@ -20,21 +20,6 @@ pub enum JobPlanned {
     Refused(Refusal),
 }
 
-fn write_plan(
-    places: usize,
-    curves: usize,
-    wants: &[u64],
-    order: &[u16],
-    drops: &[u64],
-    loads: &[u64],
-    out: &mut [u8],
-) -> Counted
-    ensures { λ r. ⌜ countOutcome r ≡ writePlanAnswer places curves (now (wants .entry)) (now (order .entry)) (now (drops .entry)) (now (loads .entry)) (now (out .entry)) ⌝ }
-    ensures { λ _. ⌜ now (out .exit) ≡ writePlanBuffer places curves (now (wants .entry)) (now (order .entry)) (now (drops .entry)) (now (loads .entry)) (now (out .entry)) ⌝ }
-{
-    Counted::Refused(Refusal::NoTests)
-}
-
 // Ordering and planning the tests of a job that was read, into lists with an entry for each test. Under a refusal what the lists then hold is left open.
 fn order_and_plan(
     head: Head,
