@@ -15,6 +15,7 @@
 --     JobExact      what passes the examination is a job, and a job passes
 --     SetRoundTrip  a set that is written reads back, and the other way round
 --     JobRoundTrip  the same of a job
+--     JobBounds     how long job bytes are, how large their figures, and that bytes behind the 2,311th change nothing
 --     ReadExact     bytes that read give a job
 pub mod Laws
 pub mod Examination
@@ -32,4 +33,5 @@ pub mod SetRoundTrip
 pub mod GroupByte
 pub mod JobExact
 pub mod JobRoundTrip
+pub mod JobBounds
 pub mod ReadExact
