@@ -144,6 +144,15 @@ module _ (j : Job) (O D L : List ℕ) (wants : length (j .wants) ≡ j .head .te
       (take-whole (j .head .tests) D′ (dl ∙ drops) ∙ d′) (take-whole (j .head .tests) L′ (ll ∙ loads) ∙ l′)
       ∙ sym f
 
+  pub stage-count : (m : ℕ) (L′ : List ℕ) → answer ≡ done m → L′ ≡ planLoads (j .head .places) (j .head .curves) (j .wants) O′ D L → length L′ ≡ length L → m ≡ loadCount (take (j .head .tests) L′)
+  unfolding planAnswer planLoads
+  stage-count m L′ e l ll =
+      let x = mapped-done (λ q. loadCount (q .loads)) (planned (j .head .places) (j .head .curves) (j .wants) O′ D L) m e in
+      let q = x .0 in
+      let n = plan-lengths (j .head .places) (j .head .curves) (j .wants) O′ (length D) (length L) q (x .1) in
+      let k : L′ ≡ q .loads = l ∙ leaves-done (λ q. q .loads) (planned (j .head .places) (j .head .curves) (j .wants) O′ D L) q L (x .1) ∙ overwritten-whole (q .loads) L (n .1 ∙ wants ∙ sym loads) in
+      sym (x .2) ∙ ap loadCount (sym k) ∙ ap loadCount (sym (take-whole (j .head .tests) L′ (ll ∙ loads)))
+
 -- ---- what a function answered
 pub counted-refused : (x : Counted) (r : Refusal) (o : Outcome ℕ) → x ≡ Counted.Refused r → countOutcome x ≡ o → o ≡ refused (number r) (figure r)
 unfolding countOutcome

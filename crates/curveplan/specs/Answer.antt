@@ -1,9 +1,12 @@
 -- What the functions answer, in the words of the rule.
+use mathlib.Core.Path.{_≡_}
 use mathlib.Core.List.{List}
 use Prim.Native.Nat.{ℕ}
 use lib.ListN.{take}
 use Rattle.job.specs.Refusal.{Outcome, done, refused, number, figure}
+use Rattle.planning.specs.Plan.{loadCount}
 use Rattle.curveplan.specs.declared.JobPlanned.{JobPlanned}
+use Rattle.curveplan.specs.declared.PlannedJob.{PlannedJob}
 use Rattle.curveplan.specs.Call.{Planned}
 
 -- the job, its order and its plan, of which the lists have an entry for each test
@@ -16,6 +19,10 @@ plannedOutcome (JobPlanned.Planned h count) wants order drops loads =
     })
 plannedOutcome (JobPlanned.Refused r) wants order drops loads = refused (number r) (figure r)
 
-unfoldable pub countOf : JobPlanned → ℕ
-countOf (JobPlanned.Planned h count) = count
-countOf (JobPlanned.Refused r) = 0
+-- the count answered is that of the loads
+abbrev pub Counts : JobPlanned → List ℕ → Type 0
+Counts (JobPlanned.Planned h count) loads = count ≡ loadCount (take (h .tests) loads)
+Counts (JobPlanned.Refused r) loads = Unit {0}
+
+unfoldable pub jobOutcome : PlannedJob → Outcome Planned
+jobOutcome p = plannedOutcome (p .answer) (p .wants) (p .order) (p .drops) (p .loads)
