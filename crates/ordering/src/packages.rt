@@ -28,7 +28,7 @@ pub struct Meeting {
 fn shared(a: u64, b: u64) -> usize
     ensures { λ r. ⌜ r ≡ common a b ⌝ }
 {
-    bitset::size(bitset::common(a, b))
+    bitset::size(a & b)
 }
 
 // The set at a place of the list; the empty set where there is none.
@@ -45,11 +45,11 @@ fn head(wants: &[u64], places: usize, tests: &[u16]) -> u64
     let mut run: u64 = 0;
     let mut k: usize = 0;
     while k < tests.len() {
-        let longer = bitset::union(run, entry(wants, tests[k] as usize));
-        if places < bitset::size(longer) {
+        let wider = bitset::union(run, entry(wants, tests[k] as usize));
+        if places < bitset::size(wider) {
             return run;
         }
-        run = longer;
+        run = wider;
         k += 1;
     }
     run
@@ -256,11 +256,11 @@ fn closest(curves: &[u64], partners: &[usize]) -> PackagePair
     let mut most: usize = 0;
     let mut i: usize = 0;
     while i < partners.len() {
-        let common = score(curves, i, partners[i]);
-        if most < common {
+        let count = score(curves, i, partners[i]);
+        if most < count {
             first = i;
             second = partners[i];
-            most = common;
+            most = count;
         }
         i += 1;
     }
@@ -331,12 +331,12 @@ fn renewed(
         return first;
     }
     let other = moved(second, old);
-    let most = score(curves, row, other);
-    let common = score(curves, row, first);
-    if most < common {
+    let other_score = score(curves, row, other);
+    let first_score = score(curves, row, first);
+    if other_score < first_score {
         return first;
     }
-    if common < most {
+    if first_score < other_score {
         return other;
     }
     if first < other { first } else { other }

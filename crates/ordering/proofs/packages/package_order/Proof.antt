@@ -2,14 +2,14 @@
 use mathlib.Core.Path.{sym, ap, _∙_}
 use mathlib.Core.List.{List}
 use Prim.Native.Nat.{ℕ}
-use lib.ListN.{replicate, length, take}
+use lib.Seq.{take-append-seam}
+use lib.ListN.{drop, replicate, length, take}
 use borrow.Author.Needs.{needs}
 use denote.Ref.{now}
 use Rattle.job.specs.Refusal.{overwritten}
 use Rattle.job.proofs.Orders.{order-length}
 use Rattle.ordering.specs.Methods.{packages}
 use Rattle.ordering.proofs.Rounds.{packages-order}
-use Rattle.ordering.proofs.Append.{take-overwritten}
 use Rattle.ordering.proofs.packages.package_order.Statement.{statement}
 use Rattle.ordering.proofs.packages.package_order.Tie as tie
 
@@ -20,12 +20,13 @@ order-by-packages-requires : tie.Need-order-by-packages-requires
 order-by-packages-requires c κs = search needs
 
 returns : tie.Need-returns
+unfolding overwritten
 returns c =
     let a = c .before .before .before .before .args in
     let ts = packages (a .places) (now (a .wants)) in
     let old : List ℕ = replicate 256 0 in
     let n = order-length (length (now (a .wants))) ts (packages-order (a .places) (now (a .wants))) in
-    ap (take (length (now (a .wants)))) (c .before .order-by-packages .ensures) ∙ ap (λ (k : ℕ). take k (overwritten ts old)) (sym n) ∙ take-overwritten ts old
+    ap (take (length (now (a .wants)))) (c .before .order-by-packages .ensures) ∙ ap (λ (k : ℕ). take k (overwritten ts old)) (sym n) ∙ take-append-seam ts (drop (length ts) old)
 
 pub package-order-spec : {M : Type 1} → statement M
 package-order-spec =
