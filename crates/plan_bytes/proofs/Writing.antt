@@ -1,12 +1,11 @@
 -- Writing a plan: the bytes of a set, of a step and of the steps to come; and what is answered and left, case by case.
 use mathlib.Core.Path.{_≡_, refl, sym, ap, _∙_}
-use mathlib.Core.Bool.{Bool, true, false}
-use mathlib.Core.List.{List, [], _∷_, _++_, append-assoc, append-nil}
+use mathlib.Core.List.{List, [], _∷_, _++_, append-nil}
 use Prim.Native.Nat.{ℕ, zero, suc, _+_, _-_, _*_, _≤_, _<_}
 use native.Mathlib.Omega.{arith}
 use native.Mathlib.Numerals.{add-one}
-use lib.ListN.{length, getD, take, drop, set, length-append, length-drop, length-set, drop-of-length-le}
-use lib.Seq.{sets, sets-eq, length-sets, drop-cons, take-all}
+use lib.ListN.{length, getD, take, drop, set, length-append, length-drop, drop-of-length-le}
+use lib.Seq.{sets, sets-eq, drop-cons, take-all}
 use borrow.Rule.Slice.PartMut.{putMid}
 use borrow.Author.Tests.{lt-leb}
 use Rattle.job.specs.declared.Refusal.{Refusal}
@@ -14,11 +13,11 @@ use Rattle.job.specs.declared.Counted.{Counted}
 use Rattle.job.specs.Refusal.{Outcome, done, refused, number, figure, countOutcome, _>>=_, _>>_, mapped, demand, room, leaves, overwritten}
 use Rattle.job.specs.SetBytes.{stands, setBytes}
 use Rattle.job.proofs.Laws.{done-both, done-room}
-use Rattle.job.proofs.Encoding.{set-le, sets-cons, sets-append, sets-part, put, put-fits}
+use Rattle.job.proofs.Encoding.{set-le, sets-append, sets-part, put, put-fits}
 use Rattle.planning.specs.Plan.{Step, steps}
 use Rattle.planning.specs.Planning.{checking}
 use Rattle.planning.proofs.OrderExact.{own-tests}
-use Rattle.planning.proofs.CheckExact.{Passes, passed}
+use Rattle.planning.proofs.CheckExact.{passed}
 use Rattle.job.proofs.Orders.{order-length}
 use Rattle.plan_bytes.specs.PlanBytes.{setField, stepBytes, stepsBytes, planBytes, writePlan, writePlanAnswer, writePlanBuffer}
 

@@ -1,6 +1,6 @@
 // Plan bytes: written, read, and one step fetched by its position.
 ghost use mathlib.Core.Path.{_≡_};
-ghost use mathlib.Core.List.{[], map};
+ghost use mathlib.Core.List.{map};
 ghost use Prim.Native.Nat.{ℕ, _+_, _-_, _*_, _≤_, _<_};
 ghost use lib.ListN.{length, getD, drop};
 ghost use Rattle.job.specs.SetBytes.{stands, readGroups};
@@ -18,7 +18,7 @@ use job::set_bytes::set_len;
 use planning::check_plan;
 
 // What stands where a set is due.
-pub enum SetRead {
+enum SetRead {
     // the set, and the position behind it
     Set(u64, usize),
     // the position of the first malformed byte, or the end of the bytes
@@ -26,7 +26,7 @@ pub enum SetRead {
 }
 
 // What stands where a step is due.
-pub enum StepRead {
+enum StepRead {
     // the test, the drops, the loads, and the position behind the step
     Step(u16, u64, u64, usize),
     // the position of the first malformed byte, or the end of the bytes
@@ -142,7 +142,7 @@ fn examine_plan(curves: usize, tests: usize, plan: &[u8]) -> Examined
     }
 }
 
-// Writes the steps of a plan that reads: an entry of each list for each step.
+// Writes the steps of a plan that reads, which was seen before: an entry of each list for each step. "Nothing lent changes under a refusal".
 fn fill_lists(
     curves: usize,
     tests: usize,
@@ -161,6 +161,7 @@ fn fill_lists(
     let mut k: usize = 0;
     while k < tests {
         match read_step(plan, at, curves, tests) {
+            // never met: the plan reads
             StepRead::Fault(_) => {
                 return;
             }
@@ -208,9 +209,9 @@ pub fn read_plan(
 }
 
 // A part of the plan bytes: from `start` to before `end`.
-pub struct Span {
-    pub start: usize,
-    pub end: usize,
+struct Span {
+    start: usize,
+    end: usize,
 }
 
 // Where the step at a position lies in the bytes of a plan that reads; else at their end, and empty.
@@ -219,32 +220,33 @@ fn find_step(curves: usize, tests: usize, plan: &[u8], position: usize) -> Span
     ensures part { λ r. ⌜ partOf curves tests (now (plan .entry)) (fetched curves tests position (readPlanBytes curves tests (now (plan .entry)))) ≡ record { start = r .start; count = r .end - r .start } ⌝ }
     ensures bounds { λ r. ⌜ (r .start ≤ r .end) × (r .end ≤ length (now (plan .entry))) ⌝ }
 {
-    let mut start = plan.len();
-    let mut end = plan.len();
+    let size = plan.len();
+    let mut start = size;
+    let mut end = size;
     let mut at: usize = 0;
-    let mut k: usize = 0;
-    while k < tests {
+    let mut i: usize = 0;
+    while i < tests {
         match read_step(plan, at, curves, tests) {
             StepRead::Fault(_) => {
                 return Span {
-                    start: plan.len(),
-                    end: plan.len(),
+                    start: size,
+                    end: size,
                 };
             }
             StepRead::Step(_, _, _, next) => {
-                if k == position {
+                if i == position {
                     start = at;
                     end = next;
                 }
                 at = next;
             }
         }
-        k += 1;
+        i += 1;
     }
-    if at < plan.len() {
+    if at < size {
         return Span {
-            start: plan.len(),
-            end: plan.len(),
+            start: size,
+            end: size,
         };
     }
     Span { start, end }

@@ -1,5 +1,5 @@
 -- `plan_bytes::field_len` meets its contract.
-use mathlib.Core.Path.{_≡_, sym, ap, _∙_}
+use mathlib.Core.Path.{sym, ap, _∙_}
 use lib.ListN.{length}
 use Rattle.plan_bytes.proofs.Writing.{field-none, field-some}
 use borrow.Author.Needs.{needs}

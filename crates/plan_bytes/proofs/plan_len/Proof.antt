@@ -1,5 +1,5 @@
 -- `plan_bytes::plan_len` meets its contract. The invariant: the bytes counted, and those of the steps from i on, are all; a step takes at most 20.
-use Prim.Native.Nat.{_+_, _-_, _*_, _≤_, _<_}
+use Prim.Native.Nat.{_+_, _-_, _*_, _≤_}
 use mathlib.Core.Path.{_≡_, ap}
 use native.Mathlib.Omega.{arith}
 use lib.ListN.{length, getD, drop}

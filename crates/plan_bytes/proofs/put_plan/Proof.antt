@@ -1,5 +1,5 @@
 -- `plan_bytes::put_plan` meets its contract. The invariant: storing the bytes of the steps from i on, at `to`, leads to the same buffer as storing all.
-use Prim.Native.Nat.{ℕ, _+_, _-_, _≤_, _<_}
+use Prim.Native.Nat.{ℕ, _+_, _-_, _≤_}
 use mathlib.Core.Path.{_≡_, refl, sym, ap, _∙_}
 use mathlib.Core.List.{List}
 use native.Mathlib.Omega.{arith}

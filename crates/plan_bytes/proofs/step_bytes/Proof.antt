@@ -1,5 +1,5 @@
 -- `plan_bytes::step_bytes` meets its contract.
-use mathlib.Core.Path.{_≡_, refl}
+use mathlib.Core.Path.{refl}
 use borrow.Author.Needs.{needs}
 use Rattle.plan_bytes.proofs.step_bytes.Statement.{statement}
 use Rattle.plan_bytes.proofs.step_bytes.Tie as tie

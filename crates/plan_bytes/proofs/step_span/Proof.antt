@@ -1,5 +1,5 @@
 -- `plan_bytes::step_span` meets its contract.
-use mathlib.Core.Path.{_≡_, _∙_}
+use mathlib.Core.Path.{_∙_}
 use native.Mathlib.Omega.{arith}
 use denote.Ref.{now}
 use Rattle.job.proofs.Examination.{examined-refused, examined-passed}
