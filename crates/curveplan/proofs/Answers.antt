@@ -17,11 +17,11 @@ use Rattle.job.proofs.SetRoundTrip.{Bytes}
 use Rattle.job.proofs.ReadExact.{ReadJob, read-exact}
 use Rattle.job.proofs.JobBounds.{figure-short}
 use Rattle.planning.specs.Plan.{loadCount}
-use Rattle.planning.specs.Planning.{checking}
+use Rattle.planning.specs.Planning.{ourPlan, checking}
 use Rattle.planning.proofs.Demand3.{our-least}
 use Rattle.plan_bytes.specs.PlanBytes.{Placed, planSteps, writePlan}
 use Rattle.plan_bytes.proofs.PlanRoundTrip.{plan-back}
-use Rattle.plan_bytes.proofs.PlanBounds.{written-short}
+use Rattle.plan_bytes.proofs.PlanLength.{passed-length}
 use Rattle.curveplan.specs.Call.{jobToPlan, numberOf, callAnswer}
 use Rattle.curveplan.proofs.Composed.{orderOf, planOf, bytesOf, checked, call-written, call-too-large, call-unread}
 use Rattle.curveplan.proofs.ReadRefuses.{ByReading, read-refuses}
@@ -49,7 +49,7 @@ module _ (bs : List ℕ) (all : Bytes bs) (lent : ℕ) where
           → (wantsFit (j .head .places) (j .wants) ≡ done tt) ⊎ ((t : ℕ) × (t < length (j .wants)) × (wantsFit (j .head .places) (j .wants) ≡ refused 7 t)) → Refuses CallRefusal (jobToPlan bs lent)
       by-size j e (inl f) =
           rw (call-written bs j all e f lent)
-          (refuses-both CallRefusal (room lent (length (bytesOf j))) (done (bytesOf j)) (unfold room in refuses-demand CallRefusal _ 9 (length (bytesOf j)) (inr refl, written-short _ _ _ _ _ _ _ (checked j (read-exact bs j all e) f))) tt)
+          (refuses-both CallRefusal (room lent (length (bytesOf j))) (done (bytesOf j)) (unfold room in refuses-demand CallRefusal _ 9 (length (bytesOf j)) (inr refl, passed-length _ _ _ _ _ _ _ (checked j (read-exact bs j all e) f))) tt)
       by-size j e (inr x) =
           let r : ReadJob j = read-exact bs j all e in
           rw (call-too-large bs j all e 7 (x .0) (x .2) lent) (inl (omega arith, omega arith), omega (arith, x .1, r .is-job .tests-bounds .1))
@@ -72,6 +72,7 @@ module _ (bs : List ℕ) (all : Bytes bs) (lent : ℕ) where
     pub least : (drops loads : List ℕ) (m : ℕ) → checking (job .head .places) (job .head .curves) (job .wants) (orderOf job) drops loads ≡ done m → count ≤ loadCount loads
 
   pub call-planned : (plan : List ℕ) → jobToPlan bs lent ≡ done plan → Planned plan
+  unfolding ourPlan
   call-planned plan p = go (readBytes bs) refl
     where
       by-size : (j : Job) → readBytes bs ≡ done j
