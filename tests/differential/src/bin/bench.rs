@@ -13,7 +13,7 @@ use differential::tuned;
 use std::hint::black_box;
 use std::time::Instant;
 
-#[cfg(feature = "product")]
+#[cfg(feature = "whole")]
 use differential::product;
 
 const JOBS: usize = 16;
@@ -68,7 +68,7 @@ fn main() {
     };
     #[allow(unused_mut)]
     let mut calls: Vec<(&str, Call)> = vec![("tuned", tuned::call)];
-    #[cfg(feature = "product")]
+    #[cfg(feature = "whole")]
     calls.push(("product", product::call));
 
     println!(
