@@ -1,2 +1,11 @@
--- The numbers of the sheet are in decimal.
+-- The text of the sheet.
+--     Decimal  the numbers of the sheet are in decimal
+--     Digits   the last digit of a number, and how many there are
+--     Curves   the curves of a set, from the lowest on
+--     Writing  texts that are put one behind the other
+--     Lines    the lines of the sheet, grouped as they are put
 pub mod Decimal
+pub mod Digits
+pub mod Curves
+pub mod Writing
+pub mod Lines
