@@ -10,6 +10,7 @@
 --     JobExact      what passes the examination is a job, and a job passes
 --     SetRoundTrip  a set that is written reads back, and the other way round
 --     JobRoundTrip  the same of a job
+--     ReadExact     bytes that read give a job
 pub mod Laws
 pub mod Examination
 pub mod Refuses
@@ -21,3 +22,4 @@ pub mod SetRoundTrip
 pub mod GroupByte
 pub mod JobExact
 pub mod JobRoundTrip
+pub mod ReadExact

@@ -21,7 +21,7 @@ use Rattle.ordering.specs.Methods.{upTo, appended, grown, bestUnlisted, 
 
 -- ---- smaller and larger keys rank
 
-ranked-least : (key : ℕ → ℕ) → Ranked (λ s t. ltb (key s) (key t))
+pub ranked-least : (key : ℕ → ℕ) → Ranked (λ s t. ltb (key s) (key t))
 ranked-least key =
     record {
       self = λ x. le-ltb (key x) (key x) (omega arith);
@@ -29,7 +29,7 @@ ranked-least key =
       more = λ x y z p q. lt-ltb (key y) (key x) (omega (arith, ltb-true (key y) (key z) p, ltb-false (key x) (key z) q));
     }
 
-ranked-most : (key : ℕ → ℕ) → Ranked (λ s t. ltb (key t) (key s))
+pub ranked-most : (key : ℕ → ℕ) → Ranked (λ s t. ltb (key t) (key s))
 ranked-most key =
     record {
       self = λ x. le-ltb (key x) (key x) (omega arith);
@@ -40,7 +40,7 @@ ranked-most key =
 -- ---- a list that grows by unlisted tests
 
 -- what may be appended to ts: an unlisted test of the n; nothing only where all are listed
-abbrev Fresh : ℕ → List ℕ → Found ℕ → Type 0
+abbrev pub Fresh : ℕ → List ℕ → Found ℕ → Type 0
 Fresh n ts nobody = (t : ℕ) → t < n → listed ts t ≡ true
 Fresh n ts (found t) = (t < n) × (listed ts t ≡ false)
 
@@ -67,12 +67,12 @@ module _ (better : ℕ → ℕ → Bool) (ranked : Ranked better) (n : ℕ) (ts 
   remaining nobody c = λ t l. not-none (listed ts t) (c t l)
   remaining (found t) c = (c .below, not-both (listed ts t) true (c .fair))
 
-  best-remaining : Fresh n ts (bestUnlisted (λ t. true) better n ts)
+  pub best-remaining : Fresh n ts (bestUnlisted (λ t. true) better n ts)
   unfolding bestUnlisted
   best-remaining = remaining (bestUnlisted (λ t. true) better n ts) (best-of (λ t. not (listed ts t) && true) better ranked n)
 
 -- all are listed: there are n
-full : (n : ℕ) (ts : List ℕ) → Part n ts → ((t : ℕ) → t < n → listed ts t ≡ true) → n ≤ length ts
+pub full : (n : ℕ) (ts : List ℕ) → Part n ts → ((t : ℕ) → t < n → listed ts t ≡ true) → n ≤ length ts
 unfolding sum
 full n ts p h = omega (arith, sum-count n ts (p .own), at-least n (λ t. count t ts) (λ t l. pos t (ℕ-discrete (count t ts) 0) l))
   where
@@ -120,12 +120,12 @@ count-reverse t [] = refl
 count-reverse t (s ∷ ss) = ap (count t) (reverse-cons s ss) ∙ omega (arith, count-append t (reverse ss) (s ∷ []), count-reverse t ss)
 
 module _ (wants degrees : List ℕ) where
-  fresh-next : (ts ss : List ℕ) → Fresh (length wants) ts (nextOf wants degrees ts ss)
+  pub fresh-next : (ts ss : List ℕ) → Fresh (length wants) ts (nextOf wants degrees ts ss)
   unfolding nextOf neighbour
   fresh-next ts [] = best-remaining (smaller wants degrees) (ranked-least (λ t. getD degrees t 0)) (length wants) ts
   fresh-next ts (s ∷ ss) = best-or-else _ (smaller wants degrees) (ranked-least (λ t. getD degrees t 0)) (length wants) ts (nextOf wants degrees ts ss) (fresh-next ts ss)
 
-  cuthill-order : IsOrder (length wants) (cuthillMcKee wants degrees)
+  pub cuthill-order : IsOrder (length wants) (cuthillMcKee wants degrees)
   unfolding cuthillMcKee
   cuthill-order = grown-order (length wants) (λ ts. nextOf wants degrees ts ts) (λ ts. fresh-next ts ts)
 

@@ -18,7 +18,7 @@ use Rattle.ordering.proofs.Complete.{count-reverse, as-listed, reverse-
 
 -- ---- what is found
 
-abbrev Good : {A : Type 0} → (A → Type 0) → Found A → Type 0
+abbrev pub Good : {A : Type 0} → (A → Type 0) → Found A → Type 0
 Good P nobody = Unit {0}
 Good P (found x) = P x
 
@@ -77,7 +77,7 @@ module _ {A : Type 0} (fair : A → Bool) (better : A → A → Bool) where
 
 -- ---- the pair
 
-abbrev InOrder : ℕ → Pair → Type 0
+abbrev pub InOrder : ℕ → Pair → Type 0
 InOrder n q = (q .first < q .second) × (q .second < n)
 
 module _ (fits : ℕ → Bool) (cs : List ℕ) where
@@ -150,7 +150,7 @@ module _ (t : ℕ) where
           keeps (getD ps i []) (getD ps j []),
         )
 
-length-joined : (join : List ℕ → List ℕ → List ℕ) (ps : List (List ℕ)) (q : Pair) → InOrder (length ps) q → suc (length (joined join ps q)) ≡ length ps
+pub length-joined : (join : List ℕ → List ℕ → List ℕ) (ps : List (List ℕ)) (q : Pair) → InOrder (length ps) q → suc (length (joined join ps q)) ≡ length ps
 unfolding joined without
 length-joined join ps q h =
     let qs = set ps (q .first) (join (getD ps (q .first) []) (getD ps (q .second) [])) in
@@ -166,7 +166,7 @@ length-joined join ps q h =
 
 -- ---- the rounds
 module _ (wants : List ℕ) (fits : ℕ → Bool) (join : List ℕ → List ℕ → List ℕ) where
-  closest-good : (ps : List (List ℕ)) → Good (InOrder (length ps)) (closest wants fits join ps)
+  pub closest-good : (ps : List (List ℕ)) → Good (InOrder (length ps)) (closest wants fits join ps)
   closest-good ps = subst (λ (n : ℕ). Good (InOrder n) (closest wants fits join ps)) (length-map ps (curvesOf wants)) (pair-good fits (map (curvesOf wants) ps) (length ps))
 
   -- THE ROUND ENDS only where no pair is left
@@ -209,7 +209,7 @@ count-flipped wants places t a b =
     count-try t _ _ _ (count-try t _ _ _ (count-try t _ _ _ (count-append t a b) (omega (arith, count-append t a (reverse b), count-reverse t b)))
     (omega (arith, count-append t (reverse a) b, count-reverse t a))) (omega (arith, count-append t (reverse a) (reverse b), count-reverse t a, count-reverse t b))
 
-singles : (ts : List ℕ) → flat (map (λ t. t ∷ []) ts) ≡ ts
+pub singles : (ts : List ℕ) → flat (map (λ t. t ∷ []) ts) ≡ ts
 unfolding flat
 singles [] = refl
 singles (t ∷ ts) = ap {B = List ℕ} (λ r. t ∷ r) (singles ts)

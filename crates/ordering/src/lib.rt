@@ -1,1 +1,3 @@
 // The orders of the tests.
+mod growing;
+mod packages;

@@ -1,2 +1,9 @@
--- Writing and reading a plan undo each other.
+-- What the rules of plan bytes mean, and the laws that the code's proofs cite.
+--     Reading        a group, a set and a step, read: case by case
+--     Steps          one turn of a loop over the steps
+--     ReadPlan       what reading a plan answers and leaves
+--     PlanRoundTrip  writing and reading undo each other
+pub mod Reading
+pub mod Steps
+pub mod ReadPlan
 pub mod PlanRoundTrip

@@ -28,19 +28,10 @@ use Rattle.job.specs.Words.{IsJob, IsOrder}
 use Rattle.planning.specs.Demand3.{Demand3}
 use Rattle.job.proofs.Orders.{order-length}
 use Rattle.job.proofs.JobExact.{job-exact}
-use Rattle.planning.proofs.OrderExact.{length-inOrder, order-passes, passed-order}
+use Rattle.planning.proofs.OrderExact.{order-passes, passed-order}
+use Rattle.planning.proofs.Turns.{length-inOrder, length-dropSets, length-loadSets}
 
 -- ---- lengths
-
-length-dropSets : (pick : ℕ → List ℕ → Found ℕ) (p h : ℕ) (ws : List ℕ) → length (dropSets pick p h ws) ≡ length ws
-unfolding dropSets
-length-dropSets pick p h [] = refl
-length-dropSets pick p h (w ∷ ws) = ap suc (length-dropSets pick p _ ws)
-
-length-loadSets : (pick : ℕ → List ℕ → Found ℕ) (p h : ℕ) (ws : List ℕ) → length (loadSets pick p h ws) ≡ length ws
-unfolding loadSets
-length-loadSets pick p h [] = refl
-length-loadSets pick p h (w ∷ ws) = ap suc (length-loadSets pick p _ ws)
 
 take-overwritten : (n : ℕ) (new old : List ℕ) → length new ≡ n → take n (overwritten new old) ≡ new
 unfolding overwritten
@@ -88,12 +79,12 @@ module _ (places curves : ℕ) (wants order : List ℕ) where
       go (done tt) e = cc
       go (refused k i) e = absurd (refused≢done e)
 
-  planning-done : (ld ll : ℕ) → jobKnown places curves wants ≡ done tt → orderKnown (length wants) order ≡ done tt → wantsFit places wants ≡ done tt
+  pub planning-done : (ld ll : ℕ) → jobKnown places curves wants ≡ done tt → orderKnown (length wants) order ≡ done tt → wantsFit places wants ≡ done tt
       → length wants ≤ ld → length wants ≤ ll → planning places curves wants order ld ll ≡ done (ourPlan places curves wants order)
   unfolding planning _>>=_
   planning-done ld ll j o f d l = done-both _ _ j ∙ done-both _ _ o ∙ done-both _ _ f ∙ done-both _ _ (done-room ld (length wants) d) ∙ rw (done-room ll (length wants) l) refl
 
-  planning-refused : (ld ll k i : ℕ) → jobKnown places curves wants ≡ done tt → orderKnown (length wants) order ≡ done tt → wantsFit places wants ≡ refused k i
+  pub planning-refused : (ld ll k i : ℕ) → jobKnown places curves wants ≡ done tt → orderKnown (length wants) order ≡ done tt → wantsFit places wants ≡ refused k i
       → planning places curves wants order ld ll ≡ refused k i
   unfolding planning _>>_
   planning-refused ld ll k i j o f = done-both _ _ j ∙ done-both _ _ o ∙ rw f refl
@@ -104,7 +95,7 @@ module _ (places curves : ℕ) (wants order : List ℕ) where
   steps-length : orderKnown (length wants) order ≡ done tt → length steps ≡ length wants
   steps-length o = length-inOrder wants order ∙ order-length (length wants) order (passed-order (length wants) order o)
 
-  our-check : jobKnown places curves wants ≡ done tt → orderKnown (length wants) order ≡ done tt → wantsFit places wants ≡ done tt
+  pub our-check : jobKnown places curves wants ≡ done tt → orderKnown (length wants) order ≡ done tt → wantsFit places wants ≡ done tt
       → checking places curves wants order (dropSets (furthest curves) places 0 steps) (loadSets (furthest curves) places 0 steps) ≡ done (loadCount (loadSets (furthest curves) places 0 steps))
   unfolding checking setsKnown
   our-check j o f =
@@ -112,7 +103,7 @@ module _ (places curves : ℕ) (wants order : List ℕ) where
       ∙ done-both _ _ (demand-done _ 12 _ (and _ _ (eq-eqb _ (length wants) (length-dropSets (furthest curves) places 0 steps ∙ steps-length o)) (eq-eqb _ (length wants) (length-loadSets (furthest curves) places 0 steps ∙ steps-length o))))
       ∙ done-both _ _ (furthest-passes curves places 0 0 steps empty-≼ (steps-fit (known-wants j) f order))
 
-  our-least : (ds ls : List ℕ) (m : ℕ) → checking places curves wants order ds ls ≡ done m → loadCount (loadSets (furthest curves) places 0 steps) ≤ loadCount ls
+  pub our-least : (ds ls : List ℕ) (m : ℕ) → checking places curves wants order ds ls ≡ done m → loadCount (loadSets (furthest curves) places 0 steps) ≤ loadCount ls
   unfolding checking
   our-least ds ls m e =
       let a = both-done (jobKnown places curves wants) _ m e in

@@ -19,7 +19,8 @@ use Rattle.job.proofs.JobExact.{job-exact}
 use Rattle.planning.specs.Order.{orderKnown}
 use Rattle.planning.specs.Plan.{inOrder, loadCount, held, stepPasses, checkSteps}
 use Rattle.planning.specs.Planning.{setsKnown, checking}
-use Rattle.planning.proofs.OrderExact.{order-exact, order-refuses, length-inOrder}
+use Rattle.planning.proofs.OrderExact.{order-exact, order-refuses}
+use Rattle.planning.proofs.Turns.{length-inOrder}
 use Rattle.planning.proofs.Fewest.{StepOk, step-ok, ok-step}
 use Rattle.planning.proofs.CheckExact.{StepsOk}
 

@@ -8,6 +8,11 @@
 --     OurPlan     the victim is a maximum, and exactly the excess is dropped
 --     Demand3     DEMAND 3, the proof
 --     Turns       one turn of a loop over steps
+--     Sequence    planning and checking, examination by examination
+--     Width       our plan does not depend on a bound on curves above the job's
+--     Planned     what planning answers and leaves, behind each examination
+--     Scan        a walk over the elements of a set, and the best that it finds
+--     Marks       flags of the tests that were met
 pub mod OrderExact
 pub mod CheckExact
 pub mod FirstFault
@@ -17,3 +22,8 @@ pub mod LeastUse
 pub mod OurPlan
 pub mod Demand3
 pub mod Turns
+pub mod Sequence
+pub mod Width
+pub mod Planned
+pub mod Scan
+pub mod Marks

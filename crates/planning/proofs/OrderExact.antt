@@ -15,7 +15,6 @@ use Rattle.job.proofs.Laws.{both, and, demand-true, demand-done, both-done, don
 use Rattle.job.specs.Words.{digit, count, IsOrder}
 use Rattle.job.proofs.Orders.{count-append, one-same, unlisted, uncounted, Part, part-one, part-none, whole-part, order-length}
 use Rattle.planning.specs.Order.{orderFrom, orderKnown}
-use Rattle.planning.specs.Plan.{inOrder}
 use Rattle.job.proofs.Refuses.{Refuses, refuses-demand, refuses-both}
 
 -- ---- an order passes
@@ -73,13 +72,6 @@ pub order-refuses : (n : ℕ) (before rest : List ℕ) → Refuses (λ k i. k �
 unfolding orderFrom
 order-refuses n before [] = refuses-demand (λ k i. k ≡ 8) (leb n (length before)) 8 (length before) refl
 order-refuses n before (t ∷ ts) = refuses-both (λ k i. k ≡ 8) _ _ (refuses-demand (λ k i. k ≡ 8) _ 8 (length before) refl) (order-refuses n (before ++ (t ∷ [])) ts)
-
--- ---- the wants of the steps
-
-pub length-inOrder : (wants order : List ℕ) → length (inOrder wants order) ≡ length order
-unfolding inOrder
-length-inOrder wants [] = refl
-length-inOrder wants (t ∷ ts) = ap suc (length-inOrder wants ts)
 
 -- an order names only tests of the job, so the wants of each step are those of a test
 pub own-tests : (n : ℕ) (order : List ℕ) → IsOrder n order → (i : ℕ) → i < length order → getD order i 0 < n

@@ -1,0 +1,128 @@
+-- Reading plan bytes, case by case: what the rule comes to at position k of the plan bytes bs.
+use mathlib.Core.Path.{_≡_, refl, sym, ap, _∙_}
+use mathlib.Core.Logic.{_⊎_, inl, inr}
+use mathlib.Core.Bool.{Bool, true, false, _&&_}
+use mathlib.Core.List.{List, [], _∷_, _++_}
+use Prim.Native.Nat.{ℕ, zero, suc, _+_, _-_, _%_, _≤_, _<_}
+use native.Mathlib.Omega.{arith}
+use native.Mathlib.Nat.{zero-add}
+use lib.Dec.{leb, ltb}
+use lib.ListN.{length, getD, drop}
+use borrow.Author.Tests.{lt-ltb, le-ltb, le-leb, lt-leb}
+use Rattle.bitset.specs.Set.{_∪_, bit}
+use Rattle.bitset.proofs.Bits.{bit-zero}
+use Rattle.job.specs.declared.set_bytes.GroupRead.{GroupRead}
+use Rattle.job.specs.declared.set_bytes.GroupRead.the-variants.{Curves, Owed, Empty, Unknown}
+use Rattle.job.specs.Refusal.{Outcome, done, refused, _>>=_, _>>_, demand}
+use Rattle.job.specs.Handed.{between}
+use Rattle.job.specs.SetBytes.{Got, got, byteAt, readGroups}
+use Rattle.job.proofs.Turns.{byte-here, byte-owed, group-absent, groups-end}
+use Rattle.job.proofs.GroupByte.{Answers, answer-owed, answer-empty, answer-unknown, answer-curves}
+use Rattle.plan_bytes.specs.declared.SetRead.{SetRead}
+use Rattle.plan_bytes.specs.declared.StepRead.{StepRead}
+use Rattle.plan_bytes.specs.PlanBytes.{Placed, readSet, readStep, readSteps}
+use Rattle.plan_bytes.specs.Answers.{setOutcome, stepOutcome}
+
+-- ---- one group: j is the next, the groups before it gave the set s
+module _ (curves map s k j : ℕ) (bs : List ℕ) (few : curves ≤ 64) (below : j < 8) where
+  abbrev groupsAt : ℕ → ℕ → ℕ → Outcome (Got ℕ)
+  groupsAt j s k = readGroups 11 11 11 curves (8 - j) j map s k (drop k bs)
+
+  pub group-skipped : bit j map ≡ 0 → groupsAt j s k ≡ groupsAt (j + 1) s k
+  group-skipped z = rw zero-add at (group-absent 11 11 11 curves map s 0 k j bs below z)
+
+  module _ (there : bit j map ≡ 1) where
+    pub group-taken : (x : ℕ) → Answers bs k j curves (Curves x) → (k < length bs) × (groupsAt j s k ≡ groupsAt (j + 1) (s ∪ x) (k + 1))
+    group-taken x f =
+        let r = answer-curves 11 11 11 curves map s 0 k j bs below few there x f in
+        (r .0, rw (zero-add k, zero-add (k + 1)) at (r .1))
+
+    -- a group byte that is owed, or zero, or names a curve that the job lacks
+    pub group-faulty : (r : GroupRead) → ((x : ℕ) → r ≡ Curves x → ⊥) → Answers bs k j curves r → groupsAt j s k ≡ refused 11 k
+    group-faulty (Curves x) n f = absurd (n x refl)
+    group-faulty Owed n f = rw (zero-add k) at (answer-owed 11 11 11 curves map s 0 k j bs below few there f)
+    group-faulty Empty n f = rw (zero-add k) at (answer-empty 11 11 11 curves map s 0 k j bs below few there f)
+    group-faulty Unknown n f = rw (zero-add k) at (answer-unknown 11 11 11 curves map s 0 k j bs below few there f)
+
+-- ---- a byte of the whole plan
+module _ (k : ℕ) (bs : List ℕ) where
+  byte-read : k < length bs → byteAt 11 k (drop k bs) ≡ done (got (getD bs k 0) (k + 1) (drop (k + 1) bs))
+  byte-read h = rw (zero-add k, zero-add (k + 1)) at (byte-here 11 0 k bs h)
+
+  byte-cut : length bs ≤ k → byteAt 11 k (drop k bs) ≡ refused 11 k
+  byte-cut h = rw (zero-add k) at (byte-owed 11 0 k bs h)
+
+  -- ---- a set
+  module _ (curves tests : ℕ) where
+    pub set-absent : (d : ℕ) → d ≡ 0 → readSet curves tests d k (drop k bs) ≡ done (got 0 k (drop k bs))
+    unfolding readSet
+    set-absent d e = rw e refl
+
+    pub set-cut : (d : ℕ) → 0 < d → length bs ≤ k → readSet curves tests d k (drop k bs) ≡ refused 11 k
+    unfolding readSet _>>=_
+    set-cut zero p h = absurd (omega arith)
+    set-cut (suc d) p h = rw (byte-cut h) refl
+
+    pub set-empty : (d : ℕ) → 0 < d → k < length bs → getD bs k 0 ≡ 0 → readSet curves tests d k (drop k bs) ≡ refused 11 k
+    unfolding readSet _>>=_ _>>_ demand
+    set-empty zero p h z = absurd (omega arith)
+    set-empty (suc d) p h z = rw (byte-read h, le-ltb 0 (getD bs k 0) (omega arith)) refl
+
+    pub set-groups : (d : ℕ) → 0 < d → k < length bs → 0 < getD bs k 0
+        → readSet curves tests d k (drop k bs) ≡ readGroups 11 11 11 curves 8 0 (getD bs k 0) 0 (k + 1) (drop (k + 1) bs)
+    unfolding readSet _>>=_ _>>_ demand
+    set-groups zero p h z = absurd (omega arith)
+    set-groups (suc d) p h z = rw (byte-read h, lt-ltb 0 (getD bs k 0) z) refl
+
+-- ---- what the answer of the reader of a set says
+module _ (bs : List ℕ) (r : SetRead) (o : Outcome (Got ℕ)) (e : setOutcome bs r ≡ o) where
+  pub set-answered : (s next : ℕ) → r ≡ SetRead.Set s next → o ≡ done (got s next (drop next bs))
+  unfolding setOutcome
+  set-answered s next p = sym e ∙ rw p refl
+
+  pub set-refused : (i : ℕ) → r ≡ SetRead.Fault i → o ≡ refused 11 i
+  unfolding setOutcome
+  set-refused i p = sym e ∙ rw p refl
+
+-- ---- a step, whose first byte stands at position k
+module _ (curves tests k : ℕ) (bs : List ℕ) where
+  abbrev here : Outcome (Got Placed)
+  here = readStep curves tests k (drop k bs)
+
+  pub step-cut : length bs ≤ k → here ≡ refused 11 k
+  unfolding readStep _>>=_
+  step-cut h = rw (byte-cut k bs h) refl
+
+  module _ (there : k < length bs) where
+    pub step-low : getD bs k 0 < 4 → here ≡ refused 11 k
+    unfolding readStep between _>>=_ _>>_ demand
+    step-low h = rw (byte-read k bs there, lt-leb 4 (getD bs k 0) h) refl
+
+    pub step-high : 4 ≤ getD bs k 0 → 7 < getD bs k 0 → here ≡ refused 11 k
+    unfolding readStep between _>>=_ _>>_ demand
+    step-high l h = rw (byte-read k bs there, le-leb 4 (getD bs k 0) l, lt-leb (getD bs k 0) 7 h) refl
+
+    module _ (low : 4 ≤ getD bs k 0) (high : getD bs k 0 ≤ 7) where
+      pub drops-faulty : (i : ℕ) → readSet curves tests (getD bs k 0 % 2) (k + 1) (drop (k + 1) bs) ≡ refused 11 i → here ≡ refused 11 i
+      unfolding readStep between _>>=_ _>>_ demand
+      drops-faulty i d = rw (byte-read k bs there, le-leb 4 (getD bs k 0) low, le-leb (getD bs k 0) 7 high, bit-zero (getD bs k 0), d) refl
+
+      module _ (ds n : ℕ) (d : readSet curves tests (getD bs k 0 % 2) (k + 1) (drop (k + 1) bs) ≡ done (got ds n (drop n bs))) where
+        pub loads-faulty : (i : ℕ) → readSet curves tests (bit 1 (getD bs k 0)) n (drop n bs) ≡ refused 11 i → here ≡ refused 11 i
+        unfolding readStep between _>>=_ _>>_ demand
+        loads-faulty i l = rw (byte-read k bs there, le-leb 4 (getD bs k 0) low, le-leb (getD bs k 0) 7 high, bit-zero (getD bs k 0), d, l) refl
+
+        module _ (ls m : ℕ) (l : readSet curves tests (bit 1 (getD bs k 0)) n (drop n bs) ≡ done (got ls m (drop m bs))) where
+          pub test-cut : length bs ≤ m → here ≡ refused 11 m
+          unfolding readStep between _>>=_ _>>_ demand
+          test-cut h = rw (byte-read k bs there, le-leb 4 (getD bs k 0) low, le-leb (getD bs k 0) 7 high, bit-zero (getD bs k 0), d, l, byte-cut m bs h) refl
+
+          pub test-unknown : m < length bs → tests ≤ getD bs m 0 → here ≡ refused 11 m
+          unfolding readStep between _>>=_ _>>_ demand
+          test-unknown h t =
+              rw (byte-read k bs there, le-leb 4 (getD bs k 0) low, le-leb (getD bs k 0) 7 high, bit-zero (getD bs k 0), d, l, byte-read m bs h, le-ltb (getD bs m 0) tests t) refl
+
+          pub step-whole : m < length bs → getD bs m 0 < tests → stepOutcome bs k (StepRead.Step (getD bs m 0) ds ls (m + 1)) ≡ here
+          unfolding stepOutcome readStep between _>>=_ _>>_ demand
+          step-whole h t =
+              rw (byte-read k bs there, le-leb 4 (getD bs k 0) low, le-leb (getD bs k 0) 7 high, bit-zero (getD bs k 0), d, l, byte-read m bs h, lt-ltb (getD bs m 0) tests t) refl

@@ -1,0 +1,122 @@
+-- The steps of plan bytes, one turn of a loop over them: what the rule comes to at the step whose first byte stands at offset i of the bytes bs, the steps
+-- before it having been read.
+use mathlib.Core.Path.{_≡_, refl, sym, ap, _∙_}
+use mathlib.Core.Bool.{Bool, true, false}
+use mathlib.Core.List.{List, [], _∷_, _++_, map, map-append, append-assoc}
+use Prim.Native.Nat.{ℕ, zero, suc, _+_, _-_, _≤_, _<_}
+use native.Mathlib.Omega.{arith}
+use native.Mathlib.Decide.{decLt}
+use lib.Dec.{leb}
+use borrow.Author.Tests.{leb-true}
+use lib.ListN.{length, getD, take, drop, set, length-set, length-map, length-append, drop-of-length-le}
+use lib.Seq.{drop-cons, set-at}
+use Rattle.job.specs.Refusal.{Outcome, done, refused, _>>=_, _>>_, mapped, leaves, overwritten}
+use Rattle.job.specs.SetBytes.{Got, got}
+use Rattle.job.specs.JobBytes.{atEnd}
+use Rattle.job.specs.Handed.{between, someTests, curvesKnown, testsKnown, countsKnown}
+use Rattle.job.proofs.Laws.{done-same, refused≢done, mapped-done, both, both-done, done-both, demand-true}
+use Rattle.job.proofs.Examination.{refused-both}
+use Rattle.plan_bytes.specs.declared.StepRead.{StepRead}
+use Rattle.plan_bytes.specs.PlanBytes.{Placed, readStep, readSteps, readPlanBytes, planSteps}
+use Rattle.plan_bytes.specs.Answers.{stepOutcome}
+
+-- a step that was read at offset i
+abbrev pub placed : ℕ → ℕ → ℕ → ℕ → ℕ → Placed
+placed i t d l next = record { step = record { test = t; drops = d; loads = l }; from = i; until = next }
+
+-- k of the steps have been read, acc, and the next one stands at offset i
+pub record Behind (curves tests k i : ℕ) (bs : List ℕ) (acc : List Placed) : Type 0 where
+  pub count : length acc ≡ k
+  pub goes : readSteps curves tests tests [] 0 bs ≡ readSteps curves tests (tests - k) acc i (drop i bs)
+
+module _ (curves tests : ℕ) (bs : List ℕ) where
+  pub start : Behind curves tests 0 0 bs []
+  start = record { count = refl; goes = let e : tests - 0 ≡ tests = omega arith in rw e refl }
+
+  module _ (k i : ℕ) (acc : List Placed) (b : Behind curves tests k i bs acc) where
+    -- one step more
+    module _ (h : k < tests) (r : StepRead) (e : stepOutcome bs i r ≡ readStep curves tests i (drop i bs)) where
+      turn : readSteps curves tests tests [] 0 bs ≡ _>>=_ (stepOutcome bs i r) (λ s. readSteps curves tests (tests - (k + 1)) (acc ++ (s .value ∷ [])) (s .next) (s .rest))
+      unfolding readSteps
+      turn = let n : tests - k ≡ suc (tests - (k + 1)) = omega arith in b .goes ∙ rw (n, e) refl
+
+      pub step-more : (t d l next : ℕ) → r ≡ StepRead.Step t d l next → Behind curves tests (k + 1) next bs (acc ++ (placed i t d l next ∷ []))
+      unfolding stepOutcome _>>=_
+      step-more t d l next p = record { count = simp length-append (omega (arith, b .count)); goes = turn ∙ rw p refl }
+
+      pub step-faulty : (f : ℕ) → r ≡ StepRead.Fault f → readPlanBytes curves tests bs ≡ refused 11 f
+      unfolding stepOutcome readPlanBytes _>>=_
+      step-faulty f p = rw (turn, p) refl
+
+    -- behind the last step
+    module _ (h : tests ≤ k) where
+      last : readSteps curves tests tests [] 0 bs ≡ done (got acc i (drop i bs))
+      unfolding readSteps
+      last = let n : tests - k ≡ 0 = omega arith in b .goes ∙ rw n refl
+
+      pub surplus : i < length bs → readPlanBytes curves tests bs ≡ refused 11 i
+      unfolding readPlanBytes atEnd _>>=_ _>>_
+      surplus l = rw (last, drop-cons bs i 0 l) refl
+
+      pub whole : length bs ≤ i → readPlanBytes curves tests bs ≡ done acc
+      unfolding readPlanBytes atEnd _>>=_ _>>_
+      whole l = rw (last, drop-of-length-le bs l) refl
+
+-- ---- the counts, and then the steps
+module _ (curves tests : ℕ) (bs : List ℕ) where
+  pub counts-refused : (k i : ℕ) → countsKnown curves tests ≡ refused k i → planSteps curves tests bs ≡ refused k i
+  unfolding planSteps
+  counts-refused k i e = refused-both _ _ k i e
+
+  pub counts-passed : countsKnown curves tests ≡ done tt → planSteps curves tests bs ≡ readPlanBytes curves tests bs
+  unfolding planSteps
+  counts-passed e = done-both _ _ e
+
+pub counts-bounds : (curves tests : ℕ) → countsKnown curves tests ≡ done tt → (curves ≤ 64) × (tests ≤ 256)
+unfolding countsKnown curvesKnown testsKnown between
+counts-bounds curves tests e =
+    let a = both-done (someTests tests) _ tt e in
+    let b = both-done (curvesKnown curves) _ tt (a .1) in
+    (leb-true curves 64 (both (leb 1 curves) (leb curves 64) (demand-true _ 10 1 (b .0)) .1), leb-true tests 256 (demand-true _ 10 2 (b .1)))
+
+-- ---- lists that are filled step by step
+
+-- one entry more
+put-next : (new old : List ℕ) (k v : ℕ) → length new ≡ k → k < length old → set (overwritten new old) k v ≡ overwritten (new ++ (v ∷ [])) old
+unfolding overwritten
+put-next new old k v n h =
+    let e : length (new ++ (v ∷ [])) ≡ suc k = simp length-append (omega arith) in
+    rw (e, n, drop-cons old k 0 h) (set-at new (getD old k 0) (drop (suc k) old) v k n ∙ sym (append-assoc new (v ∷ []) (drop (suc k) old)))
+
+-- a list that held `old` and now has an entry for each of the steps acc
+pub record Filled (f : Placed → ℕ) (acc : List Placed) (old new : List ℕ) : Type 0 where
+  pub entries : new ≡ overwritten (map f acc) old
+  pub long : length new ≡ length old
+
+module _ (f : Placed → ℕ) (old : List ℕ) where
+  pub fill-none : Filled f [] old old
+  unfolding overwritten
+  fill-none = record { entries = refl; long = refl }
+
+  pub fill-more : (acc : List Placed) (new : List ℕ) (k : ℕ) (s : Placed) → length acc ≡ k → k < length old → Filled f acc old new → Filled f (acc ++ (s ∷ [])) old (set new k (f s))
+  fill-more acc new k s n h F =
+      let m : length (map f acc) ≡ k = length-map acc f ∙ n in
+      record { entries = rw (map-append f acc (s ∷ []), F .entries) (put-next (map f acc) old k (f s) m h); long = simp length-set (F .long) }
+
+  -- what is left of it, where the plan reads
+  pub fill-all : (acc : List Placed) (new : List ℕ) (o : Outcome (List Placed)) → o ≡ done acc → Filled f acc old new → new ≡ leaves (mapped (map f) o) old
+  unfolding leaves mapped
+  fill-all acc new o e F = rw e (F .entries)
+
+-- a plan that reads, all of whose steps have been read
+pub all-read : (curves tests : ℕ) (bs : List ℕ) (k i : ℕ) (acc : List Placed) → Behind curves tests k i bs acc → tests ≤ k → mapped (λ _. tt) (readPlanBytes curves tests bs) ≡ done (tt {0})
+    → readPlanBytes curves tests bs ≡ done acc
+all-read curves tests bs k i acc b h e = go (decLt i (length bs))
+  where
+    go : Dec (i < length bs) → readPlanBytes curves tests bs ≡ done acc
+    go (yes l) = absurd (refused≢done (sym (surplus curves tests bs k i acc b h l) ∙ mapped-done (λ _. tt) (readPlanBytes curves tests bs) tt e .1))
+    go (no l) = whole curves tests bs k i acc b h (omega arith)
+
+-- a plan that reads has no fault
+pub no-fault : {A : Type 0} (o : Outcome A) (f : ℕ) → mapped (λ _. tt) o ≡ done (tt {0}) → o ≡ refused 11 f → ⊥
+no-fault o f e r = refused≢done (sym r ∙ mapped-done (λ _. tt) o tt e .1)

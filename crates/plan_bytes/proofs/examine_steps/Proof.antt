@@ -1,0 +1,80 @@
+-- `plan_bytes::examine_steps` meets its contract. The invariant: k steps have been read, and the next one stands at `at`.
+use Prim.Native.Nat.{_-_}
+use mathlib.Core.Path.{_≡_, refl}
+use mathlib.Core.List.{List, []}
+use native.Mathlib.Omega.{arith}
+use denote.Ref.{now}
+use borrow.Author.Needs.{needs}
+use Rattle.job.specs.Refusal.{mapped, examinedOutcome, number, figure}
+use Rattle.plan_bytes.specs.PlanBytes.{Placed}
+use Rattle.plan_bytes.proofs.Steps.{Behind, start, step-more, step-faulty, surplus, whole}
+use Rattle.plan_bytes.proofs.examine_steps.Statement.{statement}
+use Rattle.plan_bytes.proofs.examine_steps.Tie as tie
+
+abbrev Inv-loop : tie.InvT-loop
+Inv-loop curves tests plan at₀ k₀ at k = (acc : List Placed) × Behind curves tests k at plan acc
+
+abbrev μ-loop : tie.MeasureT-loop
+μ-loop curves tests plan at₀ k₀ at k = tests - k
+
+loop-holds : tie.Need-loop-holds Inv-loop μ-loop
+loop-holds c = let a = c .before .args in ([], start (a .curves) (a .tests) (now (a .plan)))
+
+read-step-requires : tie.Need-read-step-requires Inv-loop μ-loop
+read-step-requires c κs = search needs
+
+enum-known-i : tie.Need-enum-known-i Inv-loop μ-loop
+enum-known-i c = search needs
+
+returns : tie.Need-returns Inv-loop μ-loop
+unfolding mapped examinedOutcome number figure
+returns c =
+    let l = c .before .before .before .before .before .loop in
+    let a = c .before .before .before .before .before .before .before .args in
+    rw (step-faulty (a .curves) (a .tests) (now (a .plan)) (l .k) (l .at) (l .inv .0) (l .inv .1) (c .before .before .before .before .loop-test .taken) _ (c .before .before .before .read-step .ensures) _ (c .before .i .given .1)) refl
+
+enum-known-next : tie.Need-enum-known-next Inv-loop μ-loop
+enum-known-next c = search needs
+
+add-k : tie.Need-add-k Inv-loop μ-loop
+add-k c = search needs
+
+loop-less : tie.Need-loop-less Inv-loop μ-loop
+loop-less c = search needs
+
+loop-again : tie.Need-loop-again Inv-loop μ-loop
+loop-again c =
+    let l = c .before .before .before .before .before .loop in
+    let a = c .before .before .before .before .before .before .before .args in
+    (_, step-more (a .curves) (a .tests) (now (a .plan)) (l .k) (l .at) (l .inv .0) (l .inv .1) (c .before .before .before .before .loop-test .taken) _ (c .before .before .before .read-step .ensures) _ _ _ _ (c .before .next .given .1))
+
+returns-2 : tie.Need-returns-2 Inv-loop μ-loop
+unfolding mapped examinedOutcome number figure
+returns-2 c =
+    let l = c .before .before .loop in
+    let a = c .before .before .before .before .args in
+    rw (surplus (a .curves) (a .tests) (now (a .plan)) (l .k) (l .at) (l .inv .0) (l .inv .1) (c .before .loop-test .left) (c .if1 .taken)) refl
+
+returns-3 : tie.Need-returns-3 Inv-loop μ-loop
+unfolding mapped examinedOutcome number figure
+returns-3 c =
+    let l = c .before .before .loop in
+    let a = c .before .before .before .before .args in
+    rw (whole (a .curves) (a .tests) (now (a .plan)) (l .k) (l .at) (l .inv .0) (l .inv .1) (c .before .loop-test .left) (c .if1 .left)) refl
+
+pub examine-steps-spec : {M : Type 1} → statement M
+examine-steps-spec =
+    tie.close
+    (tie.spec
+    Inv-loop
+    μ-loop
+    loop-holds
+    read-step-requires
+    enum-known-i
+    returns
+    enum-known-next
+    add-k
+    loop-less
+    loop-again
+    returns-2
+    returns-3)

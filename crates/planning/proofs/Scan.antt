@@ -1,0 +1,110 @@
+-- A walk over the elements of a set from the lowest on, and the best of them that it finds.
+use mathlib.Core.Path.{_≡_, refl, sym, ap, _∙_}
+use mathlib.Core.Bool.{Bool, true, false, _&&_}
+use Prim.Native.Nat.{ℕ, zero, suc, _+_, _-_, _^_, _≤_, _<_}
+use native.Mathlib.Omega.{arith}
+use native.Mathlib.Decide.{ℕ-discrete, decLe}
+use lib.Dec.{eqb}
+use lib.Pow.{pow-pos}
+use lib.Count.{trailingZeros}
+use borrow.Author.Tests.{eq-eqb, ne-eqb, eqb-true}
+use Rattle.bitset.specs.Set.{_∖_, bit}
+use Rattle.bitset.proofs.Bits.{bit-∖, bit-single, bit-other, bit-empty}
+use Rattle.bitset.proofs.Element.{remove, lowest-in, lowest-least}
+use Rattle.job.specs.Choice.{Found, nobody, found, keep, choose, bestOf}
+use Rattle.job.proofs.Chosen.{best-skip}
+
+-- ---- a set without its lowest element
+pub rest-less : (W s : ℕ) → 0 < s → s < 2 ^ W → s ∖ 2 ^ trailingZeros W s < s
+rest-less W s p h = omega (arith, remove (trailingZeros W s) s (lowest-in W s p h), pow-pos (trailingZeros W s))
+
+pub rest-same : (k s : ℕ) → bit k (s ∖ 2 ^ k) ≡ 0
+rest-same k s = omega (arith, bit-∖ k s (2 ^ k), bit-single k)
+
+pub rest-other : (c k s : ℕ) → (c ≡ k → ⊥) → bit c (s ∖ 2 ^ k) ≡ bit c s
+rest-other c k s d = omega (arith, bit-∖ c s (2 ^ k), bit-other c k d)
+
+-- ---- the best element of cs, by a walk: those from m on are left
+pub record From (cs m rest : ℕ) : Type 0 where
+  pub gone : (c : ℕ) → c < m → bit c rest ≡ 0
+  pub same : (c : ℕ) → m ≤ c → bit c rest ≡ bit c cs
+
+pub from-start : (cs : ℕ) → From cs 0 cs
+from-start cs = record { gone = λ c h. absurd (omega arith); same = λ c h. refl }
+
+module _ (W cs m rest : ℕ) (f : From cs m rest) (some : 0 < rest) (range : rest < 2 ^ W) where
+  abbrev t : ℕ
+  t = trailingZeros W rest
+
+  here : bit t rest ≡ 1
+  here = lowest-in W rest some range
+
+  pub from-below : m ≤ t
+  from-below = go (decLe m t)
+    where
+      go : Dec (m ≤ t) → m ≤ t
+      go (yes h) = h
+      go (no h) = absurd (omega (arith, f .gone t (omega arith), here))
+
+  pub from-in : bit t cs ≡ 1
+  from-in = sym (f .same t from-below) ∙ here
+
+  pub from-next : From cs (suc t) (rest ∖ 2 ^ t)
+  from-next =
+      record {
+        gone = λ c h. gone' c h (ℕ-discrete c t);
+        same = λ c h. rest-other c t rest (λ e. omega arith) ∙ f .same c (omega (arith, from-below));
+      }
+    where
+      gone' : (c : ℕ) → c < suc t → Dec (c ≡ t) → bit c (rest ∖ 2 ^ t) ≡ 0
+      gone' c h (yes e) = rw e (rest-same t rest)
+      gone' c h (no d) = rest-other c t rest d ∙ lowest-least W rest c (omega arith)
+
+module _ (better : ℕ → ℕ → Bool) (cs : ℕ) where
+  abbrev pub scanned : ℕ → Found ℕ
+  scanned m = bestOf (λ c. eqb (bit c cs) 1) better (λ c. c) m nobody
+
+  pub skip : (m k : ℕ) → m ≤ k → ((c : ℕ) → m ≤ c → c < k → bit c cs ≡ 0) → scanned k ≡ scanned m
+  skip m k h none =
+      let e : (k - m) + m ≡ k = omega arith in
+      rw (← e) (best-skip (λ c. eqb (bit c cs) 1) better (λ c. c) nobody (k - m) m (λ c l u. ne-eqb (bit c cs) 1 (λ q. omega (arith, none c l (omega arith)))))
+
+  -- what is found is an element
+  member : (m v : ℕ) (b : Found ℕ) → ((y : ℕ) → b ≡ found y → (y < m) × (bit y cs ≡ 1)) → choose (λ c. eqb (bit c cs) 1) better m b ≡ found v → (v < suc m) × (bit v cs ≡ 1)
+  unfolding choose keep
+  member m v nobody ih e = go (eqb (bit m cs) 1) refl e
+    where
+      go : (t : Bool) → eqb (bit m cs) 1 ≡ t → keep t m nobody ≡ found v → (v < suc m) × (bit v cs ≡ 1)
+      go true p q = let s : m ≡ v = cc in rw (← s) (omega arith, eqb-true (bit m cs) 1 p)
+      go false p q = let z : _≡_ {A = ℕ} 0 1 = cc in absurd (omega arith)
+  member m v (found y) ih e = go (eqb (bit m cs) 1) (better m y) refl e
+    where
+      go : (t u : Bool) → eqb (bit m cs) 1 ≡ t → keep (t && u) m (found y) ≡ found v → (v < suc m) × (bit v cs ≡ 1)
+      go true true p q = let s : m ≡ v = cc in rw (← s) (omega arith, eqb-true (bit m cs) 1 p)
+      go true false p q = let r = ih v q in (omega arith, r .1)
+      go false u p q = let r = ih v q in (omega arith, r .1)
+
+  pub scan-found : (m v : ℕ) → scanned m ≡ found v → (v < m) × (bit v cs ≡ 1)
+  unfolding bestOf
+  scan-found zero v e = let z : _≡_ {A = ℕ} 0 1 = cc in absurd (omega arith)
+  scan-found (suc m) v e = member m v (scanned m) (scan-found m) e
+
+  pub scan-end : (m k : ℕ) → From cs m 0 → m ≤ k → scanned k ≡ scanned m
+  scan-end m k f h = skip m k h (λ c l u. sym (f .same c l) ∙ bit-empty c)
+
+  module _ (W m rest : ℕ) (f : From cs m rest) (some : 0 < rest) (range : rest < 2 ^ W) where
+    abbrev low : ℕ
+    low = trailingZeros W rest
+
+    upto : scanned low ≡ scanned m
+    upto =
+        skip m low (from-below W cs m rest f some range)
+        (λ c l u. sym (f .same c l) ∙ lowest-least W rest c u)
+
+    pub scan-first : scanned m ≡ nobody → scanned (suc low) ≡ found low
+    unfolding bestOf choose keep
+    scan-first e = rw (upto ∙ e, eq-eqb (bit low cs) 1 (from-in W cs m rest f some range)) refl
+
+    pub scan-next : (b : ℕ) → scanned m ≡ found b → scanned (suc low) ≡ keep (better low b) low (found b)
+    unfolding bestOf choose
+    scan-next b e = rw (upto ∙ e, eq-eqb (bit low cs) 1 (from-in W cs m rest f some range)) refl

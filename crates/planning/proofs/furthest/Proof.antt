@@ -1,0 +1,167 @@
+-- `furthest` meets its contract. The invariant: `best` is the best of the candidates below m, with its next use, and `rest` has those from m on.
+use mathlib.Core.Bool.{Bool, true, false}
+use mathlib.Core.Path.{_≡_, refl, sym, ap, subst, _∙_}
+use mathlib.Core.List.{List}
+use mathlib.Core.Logic.{⊎-elim}
+use Prim.Native.Nat.{ℕ, zero, suc, _≤_, _<_, _-_, _^_}
+use native.Mathlib.Omega.{arith}
+use borrow.Author.Needs.{needs}
+use lib.ListN.{getD}
+use lib.Count.{trailingZeros}
+use denote.Ref.{now}
+use Rattle.bitset.specs.Set.{bit}
+use Rattle.bitset.proofs.Element.{lowest-in, lowest-lt}
+use Rattle.job.specs.Choice.{nobody, found, keep, bestOf}
+use Rattle.planning.specs.declared.NextUse.{NextUse}
+use Rattle.planning.specs.declared.NextUse.the-variants.{At, Never}
+use Rattle.planning.specs.declared.Candidate.{Candidate}
+use Rattle.planning.specs.Plan.{nextUse, further, furthest}
+use Rattle.planning.proofs.Scan.{rest-less, From, from-start, from-below, from-in, from-next, scanned, scan-end, scan-first, scan-next}
+use Rattle.planning.proofs.furthest.Statement.{statement}
+use Rattle.planning.proofs.furthest.Tie as tie
+
+-- the next uses are those of later steps that want ws
+abbrev Told : ℕ → ℕ → List ℕ → List ℕ → Type 0
+Told cs never uses ws =
+    ((c : ℕ) → bit c cs ≡ 1 → bit c never ≡ 1 → nextUse c ws ≡ Never) × ((c : ℕ) → bit c cs ≡ 1 → bit c never ≡ 0 → nextUse c ws ≡ At (getD uses c 0))
+
+-- the best of the candidates below m, with its next use
+abbrev Best : ℕ → List ℕ → ℕ → Candidate → Type 0
+Best cs ws m b = (scanned (λ x y. further (nextUse x ws) (nextUse y ws)) cs m ≡ found (b .curve)) × (b .next ≡ nextUse (b .curve) ws)
+
+abbrev Inv-loop : tie.InvT-loop
+Inv-loop candidates never uses best₀ rest₀ best rest =
+    record {
+      range : rest < 2 ^ 64;
+      m : ℕ;
+      small : m ≤ 64;
+      left : From candidates m rest;
+      ahead : (ws : List ℕ) → Told candidates never uses ws → Best candidates ws m best;
+    }
+
+abbrev μ-loop : tie.MeasureT-loop
+μ-loop candidates never uses best₀ rest₀ best rest = rest
+
+lowest-requires : tie.Need-lowest-requires Inv-loop μ-loop
+lowest-requires c κs = tt
+
+with-next-use-requires : tie.Need-with-next-use-requires Inv-loop μ-loop
+with-next-use-requires c κs = rw (c .lowest .ensures) (lowest-lt 64 (c .before .args .candidates) (c .before .pre) (search needs))
+
+without-lowest-requires : tie.Need-without-lowest-requires Inv-loop μ-loop
+without-lowest-requires c κs = tt
+
+start : (better : ℕ → ℕ → Bool) (cs : ℕ) → scanned better cs 0 ≡ nobody
+unfolding bestOf
+start better cs = refl
+
+-- a curve with its next use, as `with_next_use` gives it
+used : (cs never : ℕ) (uses ws : List ℕ) (v t : ℕ) (n : Candidate) → Told cs never uses ws → v ≡ t → bit t cs ≡ 1
+    → (n .curve ≡ v) × ((bit v never ≡ 1 → n .next ≡ Never) × (bit v never ≡ 0 → n .next ≡ At (getD uses v 0)))
+    → (n .curve ≡ t) × (n .next ≡ nextUse (n .curve) ws)
+used cs never uses ws v t n told e i r = (r .0 ∙ e, go (bit v never) refl ∙ ap (λ (x : ℕ). nextUse x ws) (sym (r .0)))
+  where
+    in' : bit v cs ≡ 1
+    in' = rw e i
+
+    go : (d : ℕ) → bit v never ≡ d → n .next ≡ nextUse v ws
+    go zero p = r .1 .1 p ∙ sym (told .1 v in' p)
+    go (suc d) p = let o : bit v never ≡ 1 = omega arith in r .1 .0 o ∙ sym (told .0 v in' o)
+
+-- the newcomer n, whose curve is t, against b
+module _ (cs : ℕ) (ws : List ℕ) (t : ℕ) (b n : Candidate) (old : b .next ≡ nextUse (b .curve) ws) (new : (n .curve ≡ t) × (n .next ≡ nextUse (n .curve) ws)) where
+  same-test : further (nextUse t ws) (nextUse (b .curve) ws) ≡ further (n .next) (b .next)
+  same-test = rw (old, new .1, new .0) refl
+
+  abbrev Turn : Type 0
+  Turn = scanned (λ x y. further (nextUse x ws) (nextUse y ws)) cs (suc t) ≡ keep (further (nextUse t ws) (nextUse (b .curve) ws)) t (found (b .curve))
+
+  replaced : further (n .next) (b .next) ≡ true → Turn → Best cs ws (suc t) n
+  unfolding keep
+  replaced e next = (next ∙ rw (same-test ∙ e) (ap found (sym (new .0))), new .1)
+
+  stays : further (n .next) (b .next) ≡ false → Turn → Best cs ws (suc t) b
+  unfolding keep
+  stays e next = (next ∙ rw (same-test ∙ e) refl, old)
+
+loop-holds : tie.Need-loop-holds Inv-loop μ-loop
+loop-holds c =
+    let a = c .before .before .before .args in
+    let some : 0 < a .candidates = c .before .before .before .pre in
+    let range : a .candidates < 2 ^ 64 = search needs in
+    let t = trailingZeros 64 (a .candidates) in
+    let f = from-start (a .candidates) in
+    rw (c .without-lowest .ensures)
+    record {
+      range = omega (arith, c .without-lowest .ok);
+      m = suc t;
+      small = omega (arith, lowest-lt 64 (a .candidates) some range);
+      left = from-next 64 (a .candidates) 0 (a .candidates) f some range;
+      ahead =
+          λ ws told. let n = used (a .candidates) (a .never) (now (a .uses)) ws _ t _ told (c .before .before .lowest .ensures) (lowest-in 64 (a .candidates) some range) (c .before .with-next-use .ensures) in
+          (scan-first _ (a .candidates) 64 0 (a .candidates) f some range (start _ _) ∙ ap found (sym (n .0)), n .1);
+    }
+
+lowest-requires-2 : tie.Need-lowest-requires-2 Inv-loop μ-loop
+lowest-requires-2 c κs = tt
+
+with-next-use-requires-2 : tie.Need-with-next-use-requires-2 Inv-loop μ-loop
+with-next-use-requires-2 c κs = let k = c .before in rw (c .lowest2 .ensures) (lowest-lt 64 (k .before .loop .rest) (omega (arith, k .loop-test .taken)) (k .before .loop .inv .range))
+
+further-requires : tie.Need-further-requires Inv-loop μ-loop
+further-requires c κs = tt
+
+without-lowest-requires-2 : tie.Need-without-lowest-requires-2 Inv-loop μ-loop
+without-lowest-requires-2 c κs = tt
+
+loop-less : tie.Need-loop-less Inv-loop μ-loop
+loop-less c = let l = c .before .before .before .before .before in rw (c .without-lowest2 .ensures) (rest-less 64 (l .before .loop .rest) (omega (arith, l .loop-test .taken)) (l .before .loop .inv .range))
+
+loop-again : tie.Need-loop-again Inv-loop μ-loop
+loop-again c =
+    let k = c .before .before .before .before .before in
+    let q = k .before .loop in
+    let a = k .before .before .before .before .before .args in
+    let some : 0 < q .rest = omega (arith, k .loop-test .taken) in
+    let range = q .inv .range in
+    let t = trailingZeros 64 (q .rest) in
+    rw (c .without-lowest2 .ensures)
+    record {
+      range = omega (arith, c .without-lowest2 .ok);
+      m = suc t;
+      small = omega (arith, lowest-lt 64 (q .rest) some range);
+      left = from-next 64 (a .candidates) (q .inv .m) (q .rest) (q .inv .left) some range;
+      ahead =
+          λ ws told. let n = used (a .candidates) (a .never) (now (a .uses)) ws _ t _ told (c .before .before .before .before .lowest2 .ensures) (from-in 64 (a .candidates) (q .inv .m) (q .rest) (q .inv .left) some range) (c .before .before .before .with-next-use2 .ensures) in
+          let old = q .inv .ahead ws told in
+          let next = scan-next (λ x y. further (nextUse x ws) (nextUse y ws)) (a .candidates) 64 (q .inv .m) (q .rest) (q .inv .left) some range (q .best .curve) (old .0) in
+          ⊎-elim
+          (λ w. rw (w .1) (replaced (a .candidates) ws t (q .best) _ (old .1) n (sym (c .before .before .further .ensures) ∙ w .0 .taken) next))
+          (λ w. rw (w .1) (stays (a .candidates) ws t (q .best) _ (old .1) n (sym (c .before .before .further .ensures) ∙ w .0 .left) next))
+          (c .before .if1 .came);
+    }
+
+returns : tie.Need-returns Inv-loop μ-loop
+unfolding furthest
+returns c =
+    let q = c .before .loop in
+    let a = c .before .before .before .before .before .args in
+    λ ws never at. scan-end _ (a .candidates) (q .inv .m) 64 (subst (From (a .candidates) (q .inv .m)) (c .loop-test .left) (q .inv .left)) (q .inv .small) ∙ q .inv .ahead ws (never, at) .0
+
+pub furthest-spec : {M : Type 1} → statement M
+furthest-spec =
+    tie.close
+    (tie.spec
+    Inv-loop
+    μ-loop
+    lowest-requires
+    with-next-use-requires
+    without-lowest-requires
+    loop-holds
+    lowest-requires-2
+    with-next-use-requires-2
+    further-requires
+    without-lowest-requires-2
+    loop-less
+    loop-again
+    returns)

@@ -1,0 +1,202 @@
+-- `plan` meets its contract: the examinations in the rule's sequence, and then the steps.
+use mathlib.Core.Path.{_≡_, refl, sym, ap, _∙_}
+use mathlib.Core.List.{List}
+use Prim.Native.Nat.{ℕ, _≤_, _<_}
+use native.Mathlib.Omega.{arith}
+use lib.ListN.{length, getD, take}
+use lib.Seq.{length-take-le}
+use denote.Ref.{now}
+use Rattle.bitset.specs.Set.{size}
+use Rattle.job.specs.Refusal.{done, countOutcome, number, figure, overwritten}
+use Rattle.job.specs.Handed.{jobKnown, wantsFit}
+use Rattle.job.proofs.Examination.{examined-refused, examined-passed}
+use Rattle.planning.specs.Order.{orderKnown}
+use Rattle.planning.specs.Plan.{inOrder, loadCount, furthest, dropSets, loadSets}
+use Rattle.planning.proofs.Turns.{length-inOrder}
+use Rattle.planning.proofs.Sequence.{job-of, order-long, order-below}
+use Rattle.planning.proofs.Planned.{refused-contract, done-contract, plan-job, plan-order, plan-sizes, plan-drops, plan-loads, plan-done, step-sizes, same-plan}
+use borrow.Author.Needs.{needs}
+use Rattle.planning.proofs.plan.Statement.{statement}
+use Rattle.planning.proofs.plan.Tie as tie
+
+-- behind each examination
+job-passed : (c : tie.After-enum-told)
+    → let a = c .before .before .before .before .before .before .before .args in
+    jobKnown (a .places) (a .curves) (now (a .wants)) ≡ done tt
+job-passed c = examined-passed _ _ (c .enum-told .given .1) (c .before .before .examine .ensures)
+
+order-passed : (c : tie.After-enum-told2)
+    → let a = c .before .before .before .before .before .before .before .before .before .before .args in
+    orderKnown (length (now (a .wants))) (now (a .order)) ≡ done tt
+order-passed c = examined-passed _ _ (c .enum-told2 .given .1) (c .before .before .examine-order .ensures)
+
+sizes-passed : (c : tie.After-enum-told3)
+    → let a = c .before .before .before .before .before .before .before .before .before .before .before .before .before .args in
+    wantsFit (a .places) (now (a .wants)) ≡ done tt
+sizes-passed c = examined-passed _ _ (c .enum-told3 .given .1) (c .before .before .examine-sizes .ensures)
+
+-- the local list has an entry for each test
+enough : (c : tie.After-steps2)
+    → let a = c .before .before .before .before .before .before .before .before .before .before .before .before .before .before .before .before .before .before .args in
+    length (now (a .wants)) ≤ length (c .before .in-order .last .1 .1 .0)
+enough c =
+    let j = c .before .before .before .before .before .before .before .before .before .before .before in
+    omega (arith, c .before .in-order .kept .1 .1 .0, job-of _ _ _ (job-passed j) .tests-bounds)
+
+-- and its first entries are the steps' wants
+steps-are : (c : tie.After-in-order)
+    → let a = c .before .before .before .before .before .before .before .before .before .before .before .before .before .before .before .before .before .args in
+    take (length (now (a .wants))) (c .in-order .last .1 .1 .0) ≡ inOrder (now (a .wants)) (now (a .order))
+steps-are c =
+    let a = c .before .before .before .before .before .before .before .before .before .before .before .before .before .before .before .before .before .args in
+    let long : length (now (a .order)) ≡ length (now (a .wants)) = order-long _ _ (order-passed (c .before .before .before .before .before .before .before)) in
+    rw (← long) (c .in-order .ensures)
+
+examine-requires : tie.Need-examine-requires
+examine-requires c κs = search needs
+
+enum-known-r : tie.Need-enum-known-r
+enum-known-r c = search needs
+
+returns : tie.Need-returns
+unfolding countOutcome
+returns c =
+    let a = c .before .before .before .before .before .before .before .before .args in
+    refused-contract (a .places) (a .curves) (now (a .wants)) (now (a .order)) (now (a .drops)) (now (a .loads)) _ _ (plan-job (a .places) (a .curves) (now (a .wants)) (now (a .order)) (now (a .drops)) (now (a .loads)) _ _ (examined-refused _ _ _ (c .before .r .given .1) (c .before .before .before .examine .ensures)))
+
+enum-told : tie.Need-enum-told
+enum-told c = search needs
+
+examine-order-requires : tie.Need-examine-order-requires
+examine-order-requires c κs = omega (arith, job-of _ _ _ (job-passed c) .tests-bounds)
+
+enum-known-r-2 : tie.Need-enum-known-r-2
+enum-known-r-2 c = search needs
+
+returns-2 : tie.Need-returns-2
+unfolding countOutcome
+returns-2 c =
+    let a = c .before .before .before .before .before .before .before .before .before .before .before .args in
+    refused-contract (a .places) (a .curves) (now (a .wants)) (now (a .order)) (now (a .drops)) (now (a .loads)) _ _
+    (plan-order (a .places) (a .curves) (now (a .wants)) (now (a .order)) (now (a .drops)) (now (a .loads)) (job-passed (c .before .before .before .before)) _ _
+    (examined-refused _ _ _ (c .before .r2 .given .1) (c .before .before .before .examine-order .ensures)))
+
+enum-told-2 : tie.Need-enum-told-2
+enum-told-2 c = search needs
+
+examine-sizes-requires : tie.Need-examine-sizes-requires
+examine-sizes-requires c κs = search needs
+
+enum-known-r-3 : tie.Need-enum-known-r-3
+enum-known-r-3 c = search needs
+
+returns-3 : tie.Need-returns-3
+unfolding countOutcome
+returns-3 c =
+    let a = c .before .before .before .before .before .before .before .before .before .before .before .before .before .before .args in
+    let k = c .before .before .before .before in
+    refused-contract (a .places) (a .curves) (now (a .wants)) (now (a .order)) (now (a .drops)) (now (a .loads)) _ _
+    (plan-sizes (a .places) (a .curves) (now (a .wants)) (now (a .order)) (now (a .drops)) (now (a .loads)) (job-passed (k .before .before .before)) (order-passed k) _ _
+    (examined-refused _ _ _ (c .before .r3 .given .1) (c .before .before .before .examine-sizes .ensures)))
+
+enum-told-3 : tie.Need-enum-told-3
+enum-told-3 c = search needs
+
+returns-4 : tie.Need-returns-4
+unfolding countOutcome number figure
+returns-4 c =
+    let a = c .before .before .before .before .before .before .before .before .before .before .before .before .before .before .args in
+    let t = c .before in
+    let k = t .before .before .before in
+    refused-contract (a .places) (a .curves) (now (a .wants)) (now (a .order)) (now (a .drops)) (now (a .loads)) _ _ (plan-drops (a .places) (a .curves) (now (a .wants)) (now (a .order)) (now (a .drops)) (now (a .loads)) (job-passed (k .before .before .before)) (order-passed k) (sizes-passed t) (c .if1 .taken))
+
+returns-5 : tie.Need-returns-5
+unfolding countOutcome number figure
+returns-5 c =
+    let a = c .before .before .before .before .before .before .before .before .before .before .before .before .before .before .before .args in
+    let t = c .before .before in
+    let k = t .before .before .before in
+    refused-contract (a .places) (a .curves) (now (a .wants)) (now (a .order)) (now (a .drops)) (now (a .loads)) _ _
+    (plan-loads (a .places) (a .curves) (now (a .wants)) (now (a .order)) (now (a .drops)) (now (a .loads)) (job-passed (k .before .before .before)) (order-passed k) (sizes-passed t) (c .before .if1 .left) (c .if2 .taken))
+
+slice-aggregate-in-order : tie.Need-slice-aggregate-in-order
+slice-aggregate-in-order c = search needs
+
+in-order-requires : tie.Need-in-order-requires
+in-order-requires c κs =
+    let k = c .before .before .before .before .before .before in
+    let j = k .before .before .before in
+    (omega (arith, order-long _ _ (order-passed k), job-of _ _ _ (job-passed j) .tests-bounds), order-below _ _ (order-passed k))
+
+array-share-prefix-steps : tie.Need-array-share-prefix-steps
+array-share-prefix-steps c = enough c
+
+slice-aggregate-plan-steps : tie.Need-slice-aggregate-plan-steps
+slice-aggregate-plan-steps c = let a = c .before .before .before .before .before .before .before .before .before .before .before .before .before .before .before .before .before .before .before .args in sym (length-take-le (length (now (a .wants))) (c .before .before .in-order .last .1 .1 .0) (enough (c .before)))
+
+plan-steps-requires : tie.Need-plan-steps-requires
+plan-steps-requires c κs =
+    let t = c .before .before .before .before .before .before .before .before in
+    let k = t .before .before .before in
+    let j = k .before .before .before in
+    let a = j .before .before .before .before .before .before .before .args in
+    let long : length (inOrder (now (a .wants)) (now (a .order))) ≡ length (now (a .wants)) = length-inOrder (now (a .wants)) (now (a .order)) ∙ order-long _ _ (order-passed k) in
+    rw (steps-are (c .before .before .before .before)) (
+      omega (arith, job-of _ _ _ (job-passed j) .tests-bounds),
+      (
+        omega (arith, c .before .before .before .before .before .before .before .if1 .left),
+        (omega (arith, c .before .before .before .before .before .before .if2 .left), step-sizes (a .places) (a .curves) (now (a .wants)) (now (a .order)) (now (a .drops)) (now (a .loads)) (job-passed j) (order-passed k) (sizes-passed t)),
+      ),
+    )
+
+same-length : tie.Need-same-length
+same-length c = search needs
+
+same-length-2 : tie.Need-same-length-2
+same-length-2 c = search needs
+
+returns-6 : tie.Need-returns-6
+unfolding countOutcome
+returns-6 c =
+    let t = c .before .before .before .before .before .before .before .before .before .before .before .before .before in
+    let k = t .before .before .before in
+    let j = k .before .before .before in
+    let a = j .before .before .before .before .before .before .before .args in
+    let p = c .before .before .before .before .plan-steps in
+    let steps = inOrder (now (a .wants)) (now (a .order)) in
+    let are = steps-are (c .before .before .before .before .before .before .before .before .before) in
+    let same = same-plan (a .places) (a .curves) (now (a .wants)) (now (a .order)) (now (a .drops)) (now (a .loads)) (job-passed j) (order-passed k) (sizes-passed t) in
+    let count : p .result ≡ loadCount (loadSets (furthest (a .curves)) (a .places) 0 steps) =
+    p .ensures .0 ∙ ap (λ (ws : List ℕ). loadCount (loadSets (furthest 64) (a .places) 0 ws)) are ∙ ap loadCount (same .1) in
+    let ds : p .last .1 .1 .1 .0 ≡ overwritten (dropSets (furthest (a .curves)) (a .places) 0 steps) (now (a .drops)) =
+    p .ensures .1 .0 ∙ ap (λ (ws : List ℕ). overwritten (dropSets (furthest 64) (a .places) 0 ws) (now (a .drops))) are ∙ ap (λ (new : List ℕ). overwritten new (now (a .drops))) (same .0) in
+    let ls : p .last .1 .1 .1 .1 .0 ≡ overwritten (loadSets (furthest (a .curves)) (a .places) 0 steps) (now (a .loads)) =
+    p .ensures .1 .1 ∙ ap (λ (ws : List ℕ). overwritten (loadSets (furthest 64) (a .places) 0 ws) (now (a .loads))) are ∙ ap (λ (new : List ℕ). overwritten new (now (a .loads))) (same .1) in
+    rw (count, ds, ls) (done-contract (a .places) (a .curves) (now (a .wants)) (now (a .order)) (now (a .drops)) (now (a .loads)) (plan-done (a .places) (a .curves) (now (a .wants)) (now (a .order)) (now (a .drops)) (now (a .loads)) (job-passed j) (order-passed k) (sizes-passed t) (c .before .before .before .before .before .before .before .before .before .before .before .before .if1 .left) (c .before .before .before .before .before .before .before .before .before .before .before .if2 .left)))
+
+pub plan-spec : {M : Type 1} → statement M
+plan-spec =
+    tie.close
+    (tie.spec
+    examine-requires
+    enum-known-r
+    returns
+    enum-told
+    examine-order-requires
+    enum-known-r-2
+    returns-2
+    enum-told-2
+    examine-sizes-requires
+    enum-known-r-3
+    returns-3
+    enum-told-3
+    returns-4
+    returns-5
+    slice-aggregate-in-order
+    in-order-requires
+    array-share-prefix-steps
+    slice-aggregate-plan-steps
+    plan-steps-requires
+    same-length
+    same-length-2
+    returns-6)
