@@ -88,3 +88,8 @@ curves-length : (n c s : ℕ) → c + n ≤ 100 → length (curvesText n c s) �
 unfolding curvesText
 curves-length zero c s h = omega arith
 curves-length (suc n) c s h = omega (arith, length-append (curveText (bit c s) c) (curvesText n (suc c) s), one-length (bit c s) c (omega arith), curves-length n (suc c) s (omega arith))
+
+pub set-length : (s : ℕ) → length (setText s) ≤ 192
+unfolding setText text
+set-length zero = omega arith
+set-length (suc s) = curves-length 64 0 (suc s) (omega arith)

@@ -4,8 +4,10 @@
 --     Curves   the curves of a set, from the lowest on
 --     Writing  texts that are put one behind the other
 --     Lines    the lines of the sheet, grouped as they are put
+--     Fitted   a text that was measured, and is then refused or written
 pub mod Decimal
 pub mod Digits
 pub mod Curves
 pub mod Writing
 pub mod Lines
+pub mod Fitted

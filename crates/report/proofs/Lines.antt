@@ -1,8 +1,10 @@
 -- The lines of the sheet, grouped as they are put.
 use mathlib.Core.Path.{_≡_, refl}
-use mathlib.Core.List.{List, [], _++_, append-assoc}
-use Prim.Native.Nat.{ℕ, _+_, _<_}
+use mathlib.Core.List.{List, [], _∷_, _++_, append-assoc}
+use Prim.Native.Nat.{ℕ, suc, _+_, _*_, _^_, _≤_, _<_, zero-le}
+use native.Mathlib.Nat.{mul-suc}
 use native.Mathlib.Numerals.{add-one}
+use native.Mathlib.Omega.{arith}
 use lib.ListN.{length, getD, drop, length-append}
 use lib.Seq.{drop-cons}
 use Rattle.job.specs.Refusal.{refused}
@@ -10,6 +12,8 @@ use Rattle.job.specs.declared.Head.{Head}
 use Rattle.planning.specs.Plan.{steps, loadCount}
 use Rattle.report.specs.Report.{text, decimal, setText, stepText, stepsText, headText, planText, printed}
 use Rattle.report.specs.Text.{shown}
+use Rattle.report.proofs.Digits.{decimal-length, decimal-word}
+use Rattle.report.proofs.Curves.{set-length}
 
 pub head-line : (h : Head) (order drops loads : List ℕ) →
     headText (shown h order drops loads)
@@ -80,3 +84,63 @@ plan-length h order drops loads =
 
 pub refusal-length : (k i : ℕ) → length (printed (refused k i)) ≡ length (text "refused ") + length (decimal k ++ text " at ") + length (decimal i ++ text "\n")
 refusal-length k i = rw (refusal-line k i) (lengths₃ (text "refused ") (decimal k ++ text " at ") (decimal i ++ text "\n"))
+
+-- ---- bounds
+
+record Short (bound most : ℕ) : Type 0 where
+  step : (i t d l : ℕ) → i < bound → t < bound → length (stepText i (record { test = t; drops = d; loads = l })) ≤ most
+
+steps-short : (bound most i : ℕ) (order drops loads : List ℕ) → Short bound most → ((j : ℕ) → j < length order → getD order j 0 < bound) → i + length order ≤ bound
+    → length (stepsText i (steps order drops loads)) ≤ most * length order
+unfolding steps stepsText
+steps-short bound most i [] drops loads s h l = zero-le
+steps-short bound most i (t ∷ order) [] loads s h l = zero-le
+steps-short bound most i (t ∷ order) (d ∷ drops) [] s h l = zero-le
+steps-short bound most i (t ∷ order) (d ∷ drops) (e ∷ loads) s h l =
+    omega (
+      arith,
+      mul-suc most (length order),
+      length-append (stepText i (record { test = t; drops = d; loads = e })) (stepsText (suc i) (steps order drops loads)),
+      s .step i t d e (omega arith) (h 0 (omega arith)),
+      steps-short bound most (suc i) order drops loads s (λ j g. h (suc j) (omega arith)) (omega arith),
+    )
+
+-- a step's line, of positions and tests with at most k + 1 digits
+step-short : (k : ℕ) → Short (10 ^ suc k) (2 * k + 404)
+unfolding text
+step-short k =
+    record {
+      step = λ i t d l p q.
+          omega (
+            arith,
+            step-length i t d l,
+            length-append (decimal i) (text ": test "),
+            length-append (decimal t) (text " drop"),
+            decimal-length k i p,
+            decimal-length k t q,
+            set-length d,
+            set-length l,
+          );
+    }
+
+-- the whole: of at most 256 steps, all of whose numbers a word holds
+pub plan-word : (h : Head) (order drops loads : List ℕ) → h .tests < 2 ^ 64 → h .places < 2 ^ 64 → h .method < 2 ^ 64 → length order ≤ 256
+    → ((j : ℕ) → j < length order → getD order j 0 < 2 ^ 64) → loadCount loads < 2 ^ 64
+    → length (planText (shown h order drops loads)) < 2 ^ 64
+unfolding text
+plan-word h order drops loads t p m n o c =
+    omega (
+      arith,
+      plan-length h order drops loads,
+      head-length h [] [] [],
+      length-append (decimal (h .tests)) (text " tests, "),
+      length-append (decimal (h .places)) (text " places, method "),
+      length-append (decimal (h .method)) (text "\n"),
+      decimal-word (h .tests) t,
+      decimal-word (h .places) p,
+      decimal-word (h .method) m,
+      loads-length (loadCount loads),
+      length-append (decimal (loadCount loads)) (text "\n"),
+      decimal-word (loadCount loads) c,
+      steps-short (10 ^ 20) 442 0 order drops loads (step-short 19) (λ j l. omega (arith, o j l)) (omega arith),
+    )

@@ -1,12 +1,14 @@
 // The text of the sheet, as bytes in a lent buffer.
+use job::Counted;
 use job::Head;
+use job::Refusal;
 ghost use mathlib.Core.Path.{_≡_};
 ghost use mathlib.Core.List.{[], _∷_, _++_};
 ghost use Prim.Native.Nat.{_+_, _^_, _<_};
 ghost use lib.ListN.{length};
 ghost use Rattle.report.specs.Report.{text, decimal, setText, stepText, stepsText, headText, planText, printed};
-ghost use Rattle.report.specs.Text.{Wrote, shown};
-ghost use Rattle.job.specs.Refusal.{refused};
+ghost use Rattle.report.specs.Text.{Wrote, shown, fitted};
+ghost use Rattle.job.specs.Refusal.{refused, number, figure, countOutcome, mapped, leaves};
 ghost use Rattle.planning.specs.Plan.{steps, loadCount};
 
 // Each function that puts a text takes the buffer and a position, and answers the position behind the text. It writes the bytes that the buffer has room
@@ -153,4 +155,82 @@ fn put_refusal(out: &mut [u8], number: usize, figure: usize) -> usize
     let mut to = put_text(out, 0, b"refused ");
     to = put_number(out, to, number, b" at ");
     put_number(out, to, figure, b"\n")
+}
+
+// The sheet of a plan, where the buffer has room for it.
+fn write_plan(
+    head: Head,
+    order: &[u16],
+    drops: &[u64],
+    loads: &[u64],
+    count: usize,
+    out: &mut [u8],
+) -> Counted
+    requires { ⌜ (length (now drops) ≡ length (now order)) × (length (now loads) ≡ length (now order)) ⌝ }
+    requires { ⌜ count ≡ loadCount (now loads) ⌝ }
+    requires { ⌜ length (planText (shown head (now order) (now drops) (now loads))) < 2 ^ 64 ⌝ }
+    ensures answer { λ r. ⌜ countOutcome r ≡ mapped length (fitted (planText (shown head (now (order .entry)) (now (drops .entry)) (now (loads .entry)))) (length (now (out .entry)))) ⌝ }
+    ensures bytes { λ _. ⌜ now (out .exit) ≡ leaves (fitted (planText (shown head (now (order .entry)) (now (drops .entry)) (now (loads .entry)))) (length (now (out .entry)))) (now (out .entry)) ⌝ }
+{
+    let mut none = [0u8; 1];
+    let needed = put_plan(&mut none, head, order, drops, loads, count);
+    if out.len() < needed {
+        return Counted::Refused(Refusal::BufferTooSmall(needed));
+    }
+    Counted::Count(put_plan(out, head, order, drops, loads, count))
+}
+
+// A refusal's number ..
+fn refusal_number(r: Refusal) -> usize
+    ensures { λ n. ⌜ n ≡ number r ⌝ }
+{
+    match r {
+        Refusal::Truncated(_) => 1,
+        Refusal::BadHeader(_) => 2,
+        Refusal::EmptyGroup(_) => 3,
+        Refusal::UnknownCurve(_) => 4,
+        Refusal::NoTests => 5,
+        Refusal::TrailingBytes(_) => 6,
+        Refusal::TestTooLarge(_) => 7,
+        Refusal::BadOrder(_) => 8,
+        Refusal::BufferTooSmall(_) => 9,
+        Refusal::BadArgument(_) => 10,
+        Refusal::BadPlanBytes(_) => 11,
+        Refusal::PlanRejected(_) => 12,
+    }
+}
+
+// .. and its figure.
+fn refusal_figure(r: Refusal) -> usize
+    ensures { λ n. ⌜ n ≡ figure r ⌝ }
+{
+    match r {
+        Refusal::Truncated(i) => i,
+        Refusal::BadHeader(i) => i,
+        Refusal::EmptyGroup(i) => i,
+        Refusal::UnknownCurve(i) => i,
+        Refusal::NoTests => 0,
+        Refusal::TrailingBytes(i) => i,
+        Refusal::TestTooLarge(i) => i,
+        Refusal::BadOrder(i) => i,
+        Refusal::BufferTooSmall(i) => i,
+        Refusal::BadArgument(i) => i,
+        Refusal::BadPlanBytes(i) => i,
+        Refusal::PlanRejected(i) => i,
+    }
+}
+
+// The sheet of a refusal, where the buffer has room for it.
+fn write_refusal(r: Refusal, out: &mut [u8]) -> Counted
+    ensures answer { λ c. ⌜ countOutcome c ≡ mapped length (fitted (printed (refused (number r) (figure r))) (length (now (out .entry)))) ⌝ }
+    ensures bytes { λ _. ⌜ now (out .exit) ≡ leaves (fitted (printed (refused (number r) (figure r))) (length (now (out .entry)))) (now (out .entry)) ⌝ }
+{
+    let number = refusal_number(r);
+    let figure = refusal_figure(r);
+    let mut none = [0u8; 1];
+    let needed = put_refusal(&mut none, number, figure);
+    if out.len() < needed {
+        return Counted::Refused(Refusal::BufferTooSmall(needed));
+    }
+    Counted::Count(put_refusal(out, number, figure))
 }
