@@ -14,13 +14,18 @@ pub record Planned : Type 0 where
   pub order : List ℕ
   pub plan : Plan
 
--- reading, ordering, planning; the lists between are the call's own, with an entry for each test
-unfoldable pub planJob : List ℕ → Outcome Planned
-planJob bs = do
-  j ← readBytes bs
+-- ordering and planning; the lists between are the call's own, with an entry for each test
+unfoldable pub orderAndPlan : Job → Outcome Planned
+orderAndPlan j = do
   order ← ordering (j .head .places) (j .head .curves) (j .head .method) (j .wants) (j .head .tests)
   plan ← planning (j .head .places) (j .head .curves) (j .wants) order (j .head .tests) (j .head .tests)
   done (record { job = j; order = order; plan = plan })
+
+-- reading before that
+unfoldable pub planJob : List ℕ → Outcome Planned
+planJob bs = do
+  j ← readBytes bs
+  orderAndPlan j
 
 -- .. and writing, into a buffer of so many bytes
 unfoldable pub jobToPlan : List ℕ → ℕ → Outcome (List ℕ)

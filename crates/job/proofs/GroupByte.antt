@@ -89,6 +89,28 @@ module _ (owed empty unknown curves j i k : ℕ) (bs : List ℕ) where
           let s : got (getD bs k 0 * 2 ^ (8 * j)) (suc i) (drop (suc k) bs) ≡ g = done-same (y .1) in
           (l, sym s ∙ ap (λ (v : Got ℕ). got (v .value) (suc i) (drop (suc k) bs)) s)
 
+-- only the end of the bytes is answered by `Owed`
+no-number : (t u : Bool) (g : Got ℕ) → _>>_ (demand t 1 0) (_>>_ (demand u 1 0) (done g)) ≡ refused 0 0 → ⊥
+unfolding demand _>>_
+no-number true true g e = refused≢done (sym e)
+no-number true false g e = let z : _≡_ {A = ℕ} 0 1 = cc in omega arith
+no-number false u g e = let z : _≡_ {A = ℕ} 0 1 = cc in omega arith
+
+owed-outcome : (i : ℕ) → groupOutcome 0 1 1 i Owed ≡ refused 0 i
+unfolding groupOutcome
+owed-outcome i = refl
+
+pub owed-end : (bs : List ℕ) (k j curves : ℕ) → Answers bs k j curves Owed → length bs ≤ k
+owed-end bs k j curves f = go (decLe (length bs) k)
+  where
+    go : Dec (length bs ≤ k) → length bs ≤ k
+    go (yes h) = h
+    go (no h) =
+        absurd
+        (no-number _ _ _
+        (sym (one-some 0 1 1 (min curves 64) j 0 k bs (omega arith))
+        ∙ mapped-refused (λ (g : Got ℕ). g .value) (readGroup 0 1 1 (min curves 64) 1 j 0 (drop k bs)) 0 0 (sym (f 0 1 1 0) ∙ owed-outcome 0)))
+
 -- ---- the groups to come, by the answer: group j is the next, its byte is due at position k of the part bs, which begins at offset a of the input
 module _ (owed empty unknown curves map s a k j : ℕ) (bs : List ℕ) (below : j < 8) (few : curves ≤ 64) (there : bit j map ≡ 1) where
   abbrev here : Outcome (Got ℕ)

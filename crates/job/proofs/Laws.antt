@@ -12,7 +12,10 @@ use lib.Seq.{drop-cons}
 use native.Mathlib.Numerals.{add-one}
 use Rattle.job.specs.declared.Refusal.{Refusal}
 use Rattle.job.specs.declared.Refusal.the-variants.{Truncated, BadHeader, EmptyGroup, UnknownCurve, NoTests, TrailingBytes, TestTooLarge, BadOrder, BufferTooSmall, BadArgument, BadPlanBytes, PlanRejected}
-use Rattle.job.specs.Refusal.{Outcome, done, refused, number, figure, _>>=_, _>>_, mapped, demand, room, leaves, overwritten}
+use Rattle.job.specs.declared.Head.{Head}
+use Rattle.job.specs.declared.JobRead.{JobRead}
+use Rattle.job.specs.declared.Counted.{Counted}
+use Rattle.job.specs.Refusal.{Outcome, done, refused, number, figure, readOutcome, countOutcome, _>>=_, _>>_, mapped, demand, room, leaves, overwritten}
 use Rattle.job.specs.Handed.{each}
 
 -- ---- two tests together
@@ -133,6 +136,14 @@ unfolding mapped
 mapped-refused f (done x) k i e = absurd (refused≢done (sym e))
 mapped-refused f (refused l j) k i e = cc
 
+pub done-mapped : {A B : Type 0} (f : A → B) (a : Outcome A) (x : A) → a ≡ done x → done (f x) ≡ mapped f a
+unfolding mapped
+done-mapped f a x e = rw e refl
+
+pub refused-mapped : {A B : Type 0} (f : A → B) (a : Outcome A) (k i : ℕ) → a ≡ refused k i → refused k i ≡ mapped f a
+unfolding mapped
+refused-mapped f a k i e = rw e refl
+
 pub room-done : (lent needed : ℕ) → room lent needed ≡ done tt → needed ≤ lent
 unfolding room
 room-done lent needed e = leb-true needed lent (demand-true (leb needed lent) 9 needed e)
@@ -148,6 +159,24 @@ leaves-done f a x old e = rw e refl
 pub leaves-refused : {A : Type 0} (f : A → List ℕ) (a : Outcome A) (k i : ℕ) (old : List ℕ) → a ≡ refused k i → leaves (mapped f a) old ≡ old
 unfolding mapped leaves
 leaves-refused f a k i old e = rw e refl
+
+-- ---- what an answer says of the outcome that it stands for
+
+pub count-done : (r : Counted) (o : Outcome ℕ) (n : ℕ) → countOutcome r ≡ o → r ≡ Counted.Count n → o ≡ done n
+unfolding countOutcome
+count-done r o n p e = sym p ∙ rw e refl
+
+pub count-refused : (r : Counted) (o : Outcome ℕ) (x : Refusal) → countOutcome r ≡ o → r ≡ Counted.Refused x → o ≡ refused (number x) (figure x)
+unfolding countOutcome
+count-refused r o x p e = sym p ∙ rw e refl
+
+pub read-done : (r : JobRead) (o : Outcome Head) (h : Head) → readOutcome r ≡ o → r ≡ JobRead.Read h → o ≡ done h
+unfolding readOutcome
+read-done r o h p e = sym p ∙ rw e refl
+
+pub read-refused : (r : JobRead) (o : Outcome Head) (x : Refusal) → readOutcome r ≡ o → r ≡ JobRead.Refused x → o ≡ refused (number x) (figure x)
+unfolding readOutcome
+read-refused r o x p e = sym p ∙ rw e refl
 
 -- ---- the number and the figure name the refusal
 

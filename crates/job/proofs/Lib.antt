@@ -7,6 +7,10 @@
 --     Turns         one turn of a loop over bytes
 --     Encoding      one turn of a loop that writes bytes, and runs of stores
 --     GroupByte     one group byte, and what its reader's answer says
+--     Heads         reading a head, step by step
+--     Front         a loop that copies the front of a list
+--     Records       reading the records and the whole job, step by step
+--     Spans         how many bytes a reading takes at most, and where its figures point
 --     JobExact      what passes the examination is a job, and a job passes
 --     SetRoundTrip  a set that is written reads back, and the other way round
 --     JobRoundTrip  the same of a job
@@ -18,6 +22,10 @@ pub mod Chosen
 pub mod Orders
 pub mod Turns
 pub mod Encoding
+pub mod Front
+pub mod Heads
+pub mod Spans
+pub mod Records
 pub mod SetRoundTrip
 pub mod GroupByte
 pub mod JobExact

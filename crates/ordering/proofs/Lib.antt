@@ -3,21 +3,21 @@
 --     Rounds        method 3, and that its rounds end
 --     Scan          one turn of the loops that sum weights and that look for the best test
 --     Append        a list that grows by one test at a time
---     Reverse       a list whose first entries are reversed in place
 --     CuthillMcKee  the next test of method 1
 --     SpanningTree  the next test of method 2
 --     PackageLists  method 3: lists that are changed in place
 --     PackageRows   method 3: the closest pair, row by row
 --     PackageRuns   method 3: heads, tails and flipping
 --     PackageState  method 3: the packages as the code holds them, and a turn of the rounds
+--     Ordered       the methods by their numbers, and ordering by its examinations
 pub mod Complete
 pub mod Rounds
 pub mod Scan
 pub mod Append
-pub mod Reverse
 pub mod CuthillMcKee
 pub mod SpanningTree
 pub mod PackageLists
 pub mod PackageRows
 pub mod PackageRuns
 pub mod PackageState
+pub mod Ordered

@@ -1,3 +1,78 @@
 // The orders of the tests.
+use job::Counted;
+use job::Examined;
+use job::Refusal;
+ghost use mathlib.Core.Path.{_≡_};
+ghost use Prim.Native.Nat.{_≤_};
+ghost use lib.ListN.{length, take};
+ghost use Rattle.job.specs.Refusal.{countOutcome, overwritten};
+ghost use Rattle.ordering.specs.Methods.{orderBy};
+ghost use Rattle.ordering.specs.Ordering.{orderAnswer, orderList};
+
 mod growing;
 mod packages;
+
+// The first entries of a list that was made elsewhere.
+fn copy_first(tests: usize, from: &[u16; 256], order: &mut [u16])
+    requires { ⌜ (tests ≤ 256) × (tests ≤ length (now from)) × (tests ≤ length (now order)) ⌝ }
+    ensures { λ _. ⌜ now (order .exit) ≡ overwritten (take tests (now (from .entry))) (now (order .entry)) ⌝ }
+{
+    let mut i: usize = 0;
+    while i < tests {
+        order[i] = from[i];
+        i += 1;
+    }
+}
+
+// The order of the method.
+fn write_order(places: usize, method: usize, wants: &[u64], order: &mut [u16])
+    requires { ⌜ (length (now wants) ≤ 256) × (length (now wants) ≤ length (now order)) ⌝ }
+    ensures { λ _. ⌜ now (order .exit) ≡ overwritten (orderBy method places (now (wants .entry))) (now (order .entry)) ⌝ }
+{
+    if method == 0 {
+        growing::as_listed(wants.len(), order);
+        return;
+    }
+    if method == 1 {
+        growing::reverse_cuthill_mckee(wants, order);
+        return;
+    }
+    if method == 2 {
+        growing::spanning_tree(wants, order);
+        return;
+    }
+    let made = packages::package_order(places, wants);
+    copy_first(wants.len(), &made, order);
+}
+
+// Orders the tests: "5, 10 in its own order, then for ordering 7, 9". Answers the number of tests, which are in the first entries of the lent list; nothing
+// lent changes under a refusal.
+pub fn order_tests(
+    places: usize,
+    curves: usize,
+    method: usize,
+    wants: &[u64],
+    order: &mut [u16],
+) -> Counted
+    ensures answer { λ r. ⌜ countOutcome r ≡ orderAnswer places curves method (now (wants .entry)) (now (order .entry)) ⌝ }
+    ensures list { λ _. ⌜ now (order .exit) ≡ orderList places curves method (now (wants .entry)) (now (order .entry)) ⌝ }
+{
+    match job::examine_by(places, curves, method, wants) {
+        Examined::Refused(r) => {
+            return Counted::Refused(r);
+        }
+        Examined::Passed => {}
+    }
+    match job::examine_sizes(places, wants) {
+        Examined::Refused(r) => {
+            return Counted::Refused(r);
+        }
+        Examined::Passed => {}
+    }
+    let n = wants.len();
+    if order.len() < n {
+        return Counted::Refused(Refusal::BufferTooSmall(n));
+    }
+    write_order(places, method, wants, order);
+    Counted::Count(n)
+}

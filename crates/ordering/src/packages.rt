@@ -135,7 +135,7 @@ fn ways(
 }
 
 // Reverses a list in place. What lies between i and j is still to be reversed.
-fn reverse(xs: &mut [u16])
+pub(crate) fn reverse(xs: &mut [u16])
     ensures { λ _. ⌜ now (xs .exit) ≡ reverse (now (xs .entry)) ⌝ }
 {
     let mut i: usize = 0;
@@ -284,7 +284,7 @@ fn first_curves(wants: &[u64]) -> [u64; 256]
 
 // Method 3: "Each test begins as a package, in list order". The first round joins while a pair's union is at most the places, the second until one is left:
 // a union of sets of 64 curves is always at most 64.
-pub fn package_order(places: usize, wants: &[u64]) -> [u16; 256]
+pub(crate) fn package_order(places: usize, wants: &[u64]) -> [u16; 256]
     requires { ⌜ length (now wants) ≤ 256 ⌝ }
     ensures { λ r. ⌜ take (length (now (wants .entry))) r ≡ packages places (now (wants .entry)) ⌝ }
 {

@@ -2,8 +2,10 @@
 --     Reading        a group, a set and a step, read: case by case
 --     Steps          one turn of a loop over the steps
 --     ReadPlan       what reading a plan answers and leaves
+--     Fetching       a step fetched by its position
 --     PlanRoundTrip  writing and reading undo each other
 pub mod Reading
 pub mod Steps
 pub mod ReadPlan
+pub mod Fetching
 pub mod PlanRoundTrip

@@ -30,8 +30,8 @@ pub record Behind (curves tests k i : ℕ) (bs : List ℕ) (acc : List Placed) :
   pub goes : readSteps curves tests tests [] 0 bs ≡ readSteps curves tests (tests - k) acc i (drop i bs)
 
 module _ (curves tests : ℕ) (bs : List ℕ) where
-  pub start : Behind curves tests 0 0 bs []
-  start = record { count = refl; goes = let e : tests - 0 ≡ tests = omega arith in rw e refl }
+  pub begin : Behind curves tests 0 0 bs []
+  begin = record { count = refl; goes = let e : tests - 0 ≡ tests = omega arith in rw e refl }
 
   module _ (k i : ℕ) (acc : List Placed) (b : Behind curves tests k i bs acc) where
     -- one step more

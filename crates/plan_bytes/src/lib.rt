@@ -1,11 +1,11 @@
 // Plan bytes: written, read, and one step fetched by its position.
 ghost use mathlib.Core.Path.{_≡_};
 ghost use mathlib.Core.List.{[], map};
-ghost use Prim.Native.Nat.{ℕ, _+_, _≤_, _<_};
+ghost use Prim.Native.Nat.{ℕ, _+_, _-_, _≤_, _<_};
 ghost use lib.ListN.{length, drop};
 ghost use Rattle.job.specs.SetBytes.{readGroups};
 ghost use Rattle.job.specs.Refusal.{done, mapped, examinedOutcome, countOutcome, leaves};
-ghost use Rattle.plan_bytes.specs.PlanBytes.{readSet, readStep, readPlanBytes, planSteps, readPlanAnswer, readPlanOrder, readPlanDrops, readPlanLoads};
+ghost use Rattle.plan_bytes.specs.PlanBytes.{readSet, readStep, readPlanBytes, planSteps, readPlanAnswer, readPlanOrder, readPlanDrops, readPlanLoads, fetched, partOf, stepPart, stepAt};
 ghost use Rattle.plan_bytes.specs.Answers.{setOutcome, stepOutcome};
 use job::Counted;
 use job::Examined;
@@ -202,4 +202,74 @@ pub fn read_plan(
             Counted::Count(tests)
         }
     }
+}
+
+// A part of the plan bytes: from `start` to before `end`.
+pub struct Span {
+    pub start: usize,
+    pub end: usize,
+}
+
+// Where the step at a position lies in the bytes of a plan that reads; else at their end, and empty.
+fn find_step(curves: usize, tests: usize, plan: &[u8], position: usize) -> Span
+    requires { ⌜ curves ≤ 64 ⌝ }
+    ensures part { λ r. ⌜ partOf curves tests (now (plan .entry)) (fetched curves tests position (readPlanBytes curves tests (now (plan .entry)))) ≡ record { start = r .start; count = r .end - r .start } ⌝ }
+    ensures bounds { λ r. ⌜ (r .start ≤ r .end) × (r .end ≤ length (now (plan .entry))) ⌝ }
+{
+    let mut start = plan.len();
+    let mut end = plan.len();
+    let mut at: usize = 0;
+    let mut k: usize = 0;
+    while k < tests {
+        match read_step(plan, at, curves, tests) {
+            StepRead::Fault(_) => {
+                return Span {
+                    start: plan.len(),
+                    end: plan.len(),
+                };
+            }
+            StepRead::Step(_, _, _, next) => {
+                if k == position {
+                    start = at;
+                    end = next;
+                }
+                at = next;
+            }
+        }
+        k += 1;
+    }
+    if at < plan.len() {
+        return Span {
+            start: plan.len(),
+            end: plan.len(),
+        };
+    }
+    Span { start, end }
+}
+
+// Where the step at a position lies, or the end of the bytes: "the plan has no such step, its bytes would get refusal 11, or the handed counts are out of
+// range".
+fn step_span(curves: usize, tests: usize, plan: &[u8], position: usize) -> Span
+    ensures part { λ r. ⌜ stepPart curves tests (now (plan .entry)) position ≡ record { start = r .start; count = r .end - r .start } ⌝ }
+    ensures bounds { λ r. ⌜ (r .start ≤ r .end) × (r .end ≤ length (now (plan .entry))) ⌝ }
+{
+    match examine_counts(curves, tests) {
+        Examined::Refused(_) => Span {
+            start: plan.len(),
+            end: plan.len(),
+        },
+        Examined::Passed => find_step(curves, tests, plan, position),
+    }
+}
+
+// "A step's bytes can be fetched by position: the answer is that part of the caller's plan bytes, or the empty part at their end".
+pub fn step_bytes(curves: usize, tests: usize, plan: &[u8], position: usize) -> &[u8]
+    ensures bytes { λ r. ⌜ now r ≡ stepAt curves tests (now (plan .entry)) position ⌝ }
+    ensures block { λ r. ⌜ r .ptr .0 ≡ plan .entry .ptr .0 ⌝ }
+    ensures place { λ r. ⌜ r .ptr .1 ≡ stepPart curves tests (now (plan .entry)) position .start + plan .entry .ptr .1 ⌝ }
+{
+    let span = step_span(curves, tests, plan, position);
+    let start = span.start;
+    let end = span.end;
+    &plan[start..end]
 }

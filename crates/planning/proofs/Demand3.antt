@@ -95,6 +95,13 @@ module _ (places curves : ℕ) (wants order : List ℕ) where
   steps-length : orderKnown (length wants) order ≡ done tt → length steps ≡ length wants
   steps-length o = length-inOrder wants order ∙ order-length (length wants) order (passed-order (length wants) order o)
 
+  -- a plan has an entry for each test
+  pub plan-lengths : (ld ll : ℕ) (plan : Plan) → planning places curves wants order ld ll ≡ done plan → (length (plan .drops) ≡ length wants) × (length (plan .loads) ≡ length wants)
+  unfolding ourPlan
+  plan-lengths ld ll plan e =
+      let g = given ld ll plan e in
+      rw (sym (g .is)) (length-dropSets (furthest curves) places 0 steps ∙ steps-length (g .ord), length-loadSets (furthest curves) places 0 steps ∙ steps-length (g .ord))
+
   pub our-check : jobKnown places curves wants ≡ done tt → orderKnown (length wants) order ≡ done tt → wantsFit places wants ≡ done tt
       → checking places curves wants order (dropSets (furthest curves) places 0 steps) (loadSets (furthest curves) places 0 steps) ≡ done (loadCount (loadSets (furthest curves) places 0 steps))
   unfolding checking setsKnown

@@ -7,7 +7,7 @@ use denote.Ref.{now}
 use borrow.Author.Needs.{needs}
 use Rattle.job.specs.Refusal.{mapped, examinedOutcome, number, figure}
 use Rattle.plan_bytes.specs.PlanBytes.{Placed}
-use Rattle.plan_bytes.proofs.Steps.{Behind, start, step-more, step-faulty, surplus, whole}
+use Rattle.plan_bytes.proofs.Steps.{Behind, begin, step-more, step-faulty, surplus, whole}
 use Rattle.plan_bytes.proofs.examine_steps.Statement.{statement}
 use Rattle.plan_bytes.proofs.examine_steps.Tie as tie
 
@@ -18,7 +18,7 @@ abbrev μ-loop : tie.MeasureT-loop
 μ-loop curves tests plan at₀ k₀ at k = tests - k
 
 loop-holds : tie.Need-loop-holds Inv-loop μ-loop
-loop-holds c = let a = c .before .args in ([], start (a .curves) (a .tests) (now (a .plan)))
+loop-holds c = let a = c .before .args in ([], begin (a .curves) (a .tests) (now (a .plan)))
 
 read-step-requires : tie.Need-read-step-requires Inv-loop μ-loop
 read-step-requires c κs = search needs

@@ -7,7 +7,7 @@ use native.Mathlib.Omega.{arith}
 use denote.Ref.{now}
 use borrow.Author.Needs.{needs}
 use Rattle.plan_bytes.specs.PlanBytes.{Placed}
-use Rattle.plan_bytes.proofs.Steps.{Behind, start, step-more, step-faulty, Filled, fill-none, fill-more, fill-all, all-read, no-fault}
+use Rattle.plan_bytes.proofs.Steps.{Behind, begin, step-more, step-faulty, Filled, fill-none, fill-more, fill-all, all-read, no-fault}
 use Rattle.plan_bytes.proofs.fill_lists.Statement.{statement}
 use Rattle.plan_bytes.proofs.fill_lists.Tie as tie
 
@@ -29,7 +29,7 @@ loop-holds c =
     let a = c .before .before .before .before .args in (
       [],
       record {
-        behind = start (a .curves) (a .tests) (now (a .plan));
+        behind = begin (a .curves) (a .tests) (now (a .plan));
         tests = fill-none _ (now (a .order));
         drops = fill-none _ (now (a .drops));
         loads = fill-none _ (now (a .loads));
