@@ -87,10 +87,11 @@ refusal-length k i = rw (refusal-line k i) (lengths₃ (text "refused ") (decima
 
 -- ---- bounds
 
-record Short (bound most : ℕ) : Type 0 where
-  step : (i t d l : ℕ) → i < bound → t < bound → length (stepText i (record { test = t; drops = d; loads = l })) ≤ most
+-- each step's line has at most so many bytes
+pub record Short (bound most : ℕ) : Type 0 where
+  pub step : (i t d l : ℕ) → i < bound → t < bound → length (stepText i (record { test = t; drops = d; loads = l })) ≤ most
 
-steps-short : (bound most i : ℕ) (order drops loads : List ℕ) → Short bound most → ((j : ℕ) → j < length order → getD order j 0 < bound) → i + length order ≤ bound
+pub steps-short : (bound most i : ℕ) (order drops loads : List ℕ) → Short bound most → ((j : ℕ) → j < length order → getD order j 0 < bound) → i + length order ≤ bound
     → length (stepsText i (steps order drops loads)) ≤ most * length order
 unfolding steps stepsText
 steps-short bound most i [] drops loads s h l = zero-le
@@ -106,7 +107,7 @@ steps-short bound most i (t ∷ order) (d ∷ drops) (e ∷ loads) s h l =
     )
 
 -- a step's line, of positions and tests with at most k + 1 digits
-step-short : (k : ℕ) → Short (10 ^ suc k) (2 * k + 404)
+pub step-short : (k : ℕ) → Short (10 ^ suc k) (2 * k + 404)
 unfolding text
 step-short k =
     record {

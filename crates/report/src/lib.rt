@@ -11,6 +11,8 @@ ghost use Rattle.report.specs.Text.{Wrote, shown, fitted};
 ghost use Rattle.job.specs.Refusal.{refused, number, figure, countOutcome, mapped, leaves};
 ghost use Rattle.planning.specs.Plan.{steps, loadCount};
 
+pub mod audit; // audit.rt: a plan beside the fewest loads
+
 // Each function that puts a text takes the buffer and a position, and answers the position behind the text. It writes the bytes that the buffer has room
 // for: so a first pass over a buffer of one byte tells how long a text is, and a second one writes it.
 
