@@ -1,5 +1,9 @@
 -- What the call of the rig's host comes to.
---     Composed  reading, ordering, planning and writing in turn
---     Stages    ordering and planning, by what the functions answer
+--     Composed     reading, ordering, planning and writing in turn
+--     Reading      reading into a list of 256 entries
+--     ReadRefuses  reading refuses by 1 to 6 only
+--     Answers      which refusals come out, and what the bytes written are
 pub mod Composed
-pub mod Stages
+pub mod Reading
+pub mod ReadRefuses
+pub mod Answers

@@ -1,12 +1,12 @@
 -- One turn of a loop that writes a set's bytes: what the rules of `SetBytes` come to with j groups behind it; and runs of stores.
 use mathlib.Core.Path.{_≡_, refl, sym, ap, _∙_}
-use mathlib.Core.List.{List, [], _∷_, _++_}
+use mathlib.Core.List.{List, [], _∷_, _++_, append-nil}
 use Prim.Native.Nat.{ℕ, zero, suc, _+_, _-_, _*_, _/_, _%_, _<_, _≤_}
 use native.Mathlib.Omega.{arith}
 use native.Mathlib.Nat.{add-zero, mul-assoc, mul-add, mul-one, add-assoc, mul-zero}
 use native.Mathlib.Numerals.{add-one}
-use lib.ListN.{length, take, drop, set, take-append-drop}
-use lib.Seq.{sets, sets-eq, drop-set-add, take-set-le}
+use lib.ListN.{length, take, drop, set, take-append-drop, length-drop, drop-of-length-le}
+use lib.Seq.{sets, sets-eq, drop-set-add, take-set-le, take-all}
 use borrow.Author.Tests.{lt-leb}
 use Rattle.job.specs.Refusal.{mapped, demand, room, leaves, overwritten}
 use Rattle.job.proofs.Laws.{done-room, leaves-done, leaves-refused}
@@ -112,3 +112,18 @@ module _ (new old : List ℕ) where
   pub put-short : length old < length new → put ≡ old
   unfolding room demand
   put-short h = leaves-refused {A = Unit {0}} (λ _. new) (room (length old) (length new)) 9 (length new) old (rw (lt-leb (length new) (length old) h) refl)
+
+-- ---- the part from offset k on, as code takes it
+pub rest-is : (l : List ℕ) (k : ℕ) → take (length l - k) (drop k l) ≡ drop k l
+rest-is l k = take-all (length l - k) (drop k l) (rw length-drop (omega arith))
+
+pub rest-long : (l : List ℕ) (k : ℕ) → length (take (length l - k) (drop k l)) ≡ length l - k
+rest-long l k = rw (rest-is, length-drop)
+
+-- new entries that are put into that part, with the part back in its place
+pub put-part : (new l : List ℕ) (k : ℕ) → k + length new ≤ length l → take k l ++ (put new (take (length l - k) (drop k l)) ++ drop (length l - k) (drop k l)) ≡ sets l k new
+put-part new l k h =
+    let none : drop (length l - k) (drop k l) ≡ [] = drop-of-length-le (drop k l) {i = length l - k} (omega (arith, length-drop k l)) in
+    let fits : put new (drop k l) ≡ sets (drop k l) 0 new = put-fits new (drop k l) (omega (arith, length-drop k l)) in
+    let z : k + 0 ≡ k = omega arith in
+    rw (rest-is l k, none, append-nil, fits) (sets-part l new k 0 ∙ rw z refl)

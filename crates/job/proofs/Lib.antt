@@ -11,9 +11,11 @@
 --     Front         a loop that copies the front of a list
 --     Records       reading the records and the whole job, step by step
 --     Spans         how many bytes a reading takes at most, and where its figures point
+--     JobWritten    writing a job, step by step
 --     JobExact      what passes the examination is a job, and a job passes
 --     SetRoundTrip  a set that is written reads back, and the other way round
 --     JobRoundTrip  the same of a job
+--     JobBounds     how long job bytes are, how large their figures, and that bytes behind the 2,311th change nothing
 --     ReadExact     bytes that read give a job
 pub mod Laws
 pub mod Examination
@@ -26,8 +28,10 @@ pub mod Front
 pub mod Heads
 pub mod Spans
 pub mod Records
+pub mod JobWritten
 pub mod SetRoundTrip
 pub mod GroupByte
 pub mod JobExact
 pub mod JobRoundTrip
+pub mod JobBounds
 pub mod ReadExact

@@ -5,8 +5,8 @@ use mathlib.Core.List.{List, [], _∷_, _++_}
 use Prim.Native.Nat.{ℕ, suc, _+_, _-_, _*_, _≤_, _<_}
 use native.Mathlib.Omega.{arith}
 use native.Mathlib.Numerals.{add-one}
-use lib.ListN.{length, getD, take, drop, set, length-drop, drop-of-length-le}
-use lib.Seq.{take-all, drop-drop, drop-cons, take-suc-set}
+use lib.ListN.{length, getD, take, drop, set, drop-of-length-le}
+use lib.Seq.{drop-drop, drop-cons, take-suc-set}
 use borrow.Author.Tests.{lt-ltb, lt-leb, le-leb}
 use Rattle.job.specs.declared.Refusal.{Refusal}
 use Rattle.job.specs.declared.Head.{Head}
@@ -20,13 +20,6 @@ use Rattle.job.proofs.Laws.{refused≢done, done-same, mapped-done, don
 use Rattle.job.proofs.Heads.{byte-none}
 use Rattle.job.proofs.Spans.{Spans, span-done, records-span}
 use Rattle.job.proofs.Turns.{record-next}
-
--- ---- the part from offset k on, as the code takes it
-pub rest-is : (l : List ℕ) (k : ℕ) → take (length l - k) (drop k l) ≡ drop k l
-rest-is l k = take-all (length l - k) (drop k l) (rw length-drop (omega arith))
-
-pub rest-long : (l : List ℕ) (k : ℕ) → length (take (length l - k) (drop k l)) ≡ length l - k
-rest-long l k = rw (rest-is, length-drop)
 
 -- ---- one record of n; t are read, and the next begins at offset i of the job
 byte-first : (o i : ℕ) (bs : List ℕ) → 0 < length bs → byteAt o i bs ≡ done (got (getD bs 0 0) (i + 1) (drop 1 bs))

@@ -7,6 +7,7 @@
 --     SpanningTree  the next test of method 2
 --     PackageLists  method 3: lists that are changed in place
 --     PackageRows   method 3: the closest pair, row by row
+--     PackageRenew  method 3: the best second package of each row, kept over a join
 --     PackageRuns   method 3: heads, tails and flipping
 --     PackageState  method 3: the packages as the code holds them, and a turn of the rounds
 --     Ordered       the methods by their numbers, and ordering by its examinations
@@ -18,6 +19,7 @@ pub mod CuthillMcKee
 pub mod SpanningTree
 pub mod PackageLists
 pub mod PackageRows
+pub mod PackageRenew
 pub mod PackageRuns
 pub mod PackageState
 pub mod Ordered

@@ -3,9 +3,8 @@ use mathlib.Core.Path.{_≡_, refl, sym, ap, _∙_}
 use mathlib.Core.List.{List}
 use Prim.Native.Nat.{ℕ, zero, suc, _≤_, _<_}
 use lib.ListN.{length}
-use lib.Dec.{leb}
 use borrow.Author.Tests.{lt-leb}
-use Rattle.job.specs.Refusal.{Outcome, done, refused, _>>=_, _>>_, mapped, demand, room, overwritten, leaves}
+use Rattle.job.specs.Refusal.{done, refused, _>>=_, mapped, demand, room, overwritten, leaves}
 use Rattle.job.specs.Handed.{jobKnownBy, wantsFit}
 use Rattle.job.proofs.Laws.{done-both, done-room}
 use Rattle.job.proofs.Examination.{refused-both}

@@ -3,11 +3,10 @@ use mathlib.Core.Path.{_≡_, refl, sym, ap, _∙_}
 use mathlib.Core.List.{List, [], _∷_, _++_, map, reverse, reverse-append, reverse-reverse, reverse-cons, append-assoc, append-nil}
 use Prim.Native.Nat.{ℕ, zero, suc, _+_, _-_, _≤_, _<_}
 use native.Mathlib.Omega.{arith}
-use native.Mathlib.Decide.{ℕ-discrete}
 use native.Mathlib.Numerals.{add-one}
 use lib.ListN.{length, getD, take, drop, set, length-append, length-take, length-drop, length-reverse, replicate, drop-of-length-le}
-use lib.Seq.{take-at, drop-at, set-at, getD-at, take-suc, paste, paste-suc, paste-zero, length-paste, take-paste, getD-drop, getD-append-add, length-take-le, take-all, take-suc-set, take-set-le}
-use Rattle.ordering.specs.Methods.{flat, upTo}
+use lib.Seq.{take-at, drop-at, set-at, getD-at, take-suc, paste, paste-suc, paste-zero, length-paste, take-paste, getD-drop, getD-append-add, length-take-le, take-all}
+use Rattle.ordering.specs.Methods.{flat}
 
 -- ---- reversing in place: xs is wanted but for a middle of d entries from index i, which is still to be reversed
 pub record Middle (xs wanted : List ℕ) (i d : ℕ) : Type 0 where
@@ -177,15 +176,3 @@ pub take-same : (x n m : ℕ) → n ≤ m → take n (replicate m x) ≡ replica
 take-same x zero m h = refl
 take-same x (suc n) zero h = absurd (omega arith)
 take-same x (suc n) (suc m) h = ap (λ (l : List ℕ). x ∷ l) (take-same x n m (omega arith))
-
-pub upTo-none : [] ≡ upTo 0
-unfolding upTo
-upTo-none = refl
-
-pub upTo-more : (xs : List ℕ) (t : ℕ) → t < length xs → ((n : ℕ) → n ≤ t → take n xs ≡ upTo n) → (n : ℕ) → n ≤ t + 1 → take n (set xs t t) ≡ upTo n
-unfolding upTo
-upTo-more xs t h so n l = go (ℕ-discrete n (suc t))
-  where
-    go : Dec (n ≡ suc t) → take n (set xs t t) ≡ upTo n
-    go (yes e) = rw e (take-suc-set xs t t h ∙ ap (λ (l : List ℕ). l ++ (t ∷ [])) (so t (omega arith)))
-    go (no e) = take-set-le n xs t t (omega arith) ∙ so n (omega arith)

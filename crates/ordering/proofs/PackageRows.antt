@@ -1,18 +1,20 @@
 -- The closest pair, row by row: row i is the best second package for the first i. A second of 0 stands for none, since the second is behind the first.
 use mathlib.Core.Path.{_≡_, refl, sym, ap, _∙_}
-use mathlib.Core.Bool.{Bool, true, false, _&&_}
-use mathlib.Core.List.{List}
+use mathlib.Core.Bool.{Bool, true, false, _&&_, cond}
+use mathlib.Core.List.{List, _++_}
 use Prim.Native.Nat.{ℕ, zero, suc, _+_, _^_, _≤_, _<_}
 use native.Mathlib.Omega.{arith}
 use native.Mathlib.Numerals.{add-one}
-use lib.ListN.{length, getD}
+use native.Mathlib.Decide.{decLt}
+use lib.ListN.{length, getD, take}
+use lib.Seq.{getD-take, take-append-le}
 use lib.Dec.{ltb}
 use borrow.Author.Tests.{lt-ltb, le-ltb, ltb-true, ltb-false}
 use Rattle.bitset.specs.Set.{_∪_, _∩_, size}
 use Rattle.bitset.proofs.Laws.{size-le, size-∩-le}
 use Rattle.job.specs.Choice.{Found, nobody, found, keep, choose, bestOf}
 use Rattle.job.proofs.Chosen.{passed, best-skip}
-use Rattle.ordering.specs.Methods.{Pair, shared, eligible, closer, bestPair}
+use Rattle.ordering.specs.Methods.{Pair, common, shared, eligible, closer, bestPair}
 
 -- ---- what is found after b, from what is found after nobody
 
@@ -81,6 +83,10 @@ pub score-some : (cs : List ℕ) (i j : ℕ) → 0 < j → score cs i j ≡ 1 + 
 unfolding score
 score-some cs i zero h = absurd (omega arith)
 score-some cs i (suc j) h = refl
+
+pub score-as : (cs : List ℕ) (i j : ℕ) → cond (ltb 0 j) (1 + common (getD cs i 0) (getD cs j 0)) 0 ≡ score cs i j
+score-as cs i zero = sym (score-none cs i)
+score-as cs i (suc j) = rw (lt-ltb 0 (suc j) (omega arith)) (sym (score-some cs i (suc j) (omega arith)))
 
 pub chosen-none : (i : ℕ) → chosen i 0 ≡ nobody
 unfolding keep
@@ -186,6 +192,21 @@ module _ (fits : ℕ → Bool) (cs : List ℕ) (i j f s most : ℕ) (so-far : be
           (le-ltb (shared cs (at f (suc s))) (shared cs (at i j)) (omega (arith, e, score-some cs f (suc s) (omega arith)))) in
           ap (λ (b : Found Pair). merge (closer cs) b (found (at i j))) (chosen-some f (suc s) (omega arith)) ∙ same ∙ sym (chosen-some f (suc s) (omega arith))
 
+  -- the row's best takes the place where its score is higher
+  pub pair-take : most ≡ score cs f s → most < score cs i j → bestPair fits cs (suc i) ≡ chosen i j
+  pair-take e h = go (decLt 0 j)
+    where
+      go : Dec (0 < j) → bestPair fits cs (suc i) ≡ chosen i j
+      go (yes l) = pair-more l e (omega (arith, score-some cs i j l))
+      go (no l) = let z : j ≡ 0 = omega arith in absurd (omega (arith, ap (score cs i) z, score-none cs i))
+
+  pub pair-stay : most ≡ score cs f s → score cs i j ≤ most → bestPair fits cs (suc i) ≡ chosen f s
+  pair-stay e h = go (decLt 0 j)
+    where
+      go : Dec (0 < j) → bestPair fits cs (suc i) ≡ chosen f s
+      go (yes l) = pair-keep l e (omega (arith, score-some cs i j l))
+      go (no l) = pair-none (omega arith)
+
 -- at the start nothing is found
 pub pair-start : (fits : ℕ → Bool) (cs : List ℕ) → bestPair fits cs 0 ≡ chosen 0 0
 unfolding bestPair
@@ -194,3 +215,9 @@ pair-start fits cs = sym (chosen-none 0)
 -- what two sets have in common is at most 64
 pub few-shared : (a b n : ℕ) → a < 2 ^ 64 → n ≡ size (a ∩ b) → n ≤ 64
 few-shared a b n h e = omega (arith, e, size-∩-le a b, size-le 64 a h)
+
+-- the rows' bests in a list that was lent and came back as ys
+pub front-rows : (fits : ℕ → Bool) (cs ys zs : List ℕ) (n : ℕ) → n ≤ length ys → length cs ≤ n → ((k : ℕ) → k < length cs → rowTo fits cs k (length cs) ≡ chosen k (getD ys k 0))
+    → (k : ℕ) → k < length cs → rowTo fits cs k (length cs) ≡ chosen k (getD (take n (ys ++ zs)) k 0)
+front-rows fits cs ys zs n a b h k l =
+    h k l ∙ ap (chosen k) (sym (ap (λ (m : List ℕ). getD m k 0) (take-append-le n ys zs a) ∙ getD-take n ys k 0 (omega arith)))

@@ -12,9 +12,11 @@ use borrow.Author.Tests.{le-leb}
 use Rattle.bitset.specs.Set.{_∪_, size}
 use Rattle.bitset.proofs.Bits.{same-by-bits, bit-∪, bit-empty}
 use Rattle.bitset.proofs.Laws.{∪-assoc, ∪-lt, size-le}
+use Rattle.job.specs.Refusal.{overwritten}
 use Rattle.job.specs.Choice.{Found, nobody, found, keep, choose, bestOf}
 use Rattle.ordering.specs.Methods.{wantsOf, upTo, flat, Pair, curvesOf, eligible, closer, bestPair, without, joined, onPair, closest, joinAll, Try, try, pickTry, _orMore_, flipped, firstRound, secondRound, packages}
 use Rattle.ordering.proofs.Rounds.{Good, InOrder, length-joined, closest-good, singles}
+use Rattle.ordering.proofs.Append.{length-upTo}
 use Rattle.ordering.proofs.PackageRows.{at, chosen, chosen-some}
 
 -- ---- the curves of joined and of reversed packages
@@ -257,9 +259,8 @@ module _ (f g : ℕ → Bool) (cs : List ℕ) (h : (i j : ℕ) → f (getD cs i 
 
 -- ---- the state of the loop
 
-pub record State (places : ℕ) (wants tests lengths curves : List ℕ) (left : ℕ) (flipping : Bool) (bound : ℕ) : Type 0 where
+pub record State (places : ℕ) (wants rest tests lengths curves : List ℕ) (left : ℕ) (flipping : Bool) (bound : ℕ) : Type 0 where
   pub ps : List (List ℕ)
-  pub rest : List ℕ
   pub count : length ps ≡ left
   pub lens : take left lengths ≡ map length ps
   pub sets : take left curves ≡ map (curvesOf wants) ps
@@ -268,18 +269,23 @@ pub record State (places : ℕ) (wants tests lengths curves : List ℕ) (left : 
   pub bounded : bound ≡ cond flipping 64 places
   pub goes : packages places wants ≡ flat (after flipping places wants ps)
 
+-- the order after the tests were listed in it
+module _ (n : ℕ) (old order : List ℕ) (listed : order ≡ overwritten (upTo n) old) where
+  pub listed-rest : drop n order ≡ drop n old
+  unfolding overwritten
+  listed-rest = ap (drop n) listed ∙ drop-at (upTo n) (drop (length (upTo n)) old) n (length-upTo n) ∙ ap (λ (k : ℕ). drop k old) (length-upTo n)
+
+  pub listed-first : order ≡ upTo n ++ drop n order
+  unfolding overwritten
+  listed-first = listed ∙ ap (λ (k : ℕ). upTo n ++ drop k old) (length-upTo n) ∙ ap (λ (l : List ℕ). upTo n ++ l) (sym listed-rest)
+
 -- "Each test begins as a package, in list order"
-module _ (places : ℕ) (wants tests lengths curves : List ℕ) where
+module _ (places : ℕ) (wants rest tests lengths curves : List ℕ) where
   single-lengths : (ts : List ℕ) (n : ℕ) → length ts ≡ n → map length (map (λ t. t ∷ []) ts) ≡ replicate n 1
   single-lengths [] zero e = refl
   single-lengths [] (suc n) e = absurd (omega (arith, e))
   single-lengths (t ∷ ts) zero e = absurd (omega (arith, e))
   single-lengths (t ∷ ts) (suc n) e = ap (λ (l : List ℕ). 1 ∷ l) (single-lengths ts n (omega (arith, e)))
-
-  length-upTo : (n : ℕ) → length (upTo n) ≡ n
-  unfolding upTo
-  length-upTo zero = refl
-  length-upTo (suc n) = omega (arith, length-append (upTo n) (n ∷ []), length-upTo n)
 
   single-curves : (n : ℕ) → n ≤ length wants → map (curvesOf wants) (map (λ t. t ∷ []) (upTo n)) ≡ take n wants
   unfolding upTo
@@ -290,24 +296,23 @@ module _ (places : ℕ) (wants tests lengths curves : List ℕ) where
       ∙ ap (λ (l : List ℕ). l ++ (curvesOf wants (n ∷ []) ∷ [])) (single-curves n (omega arith))
       ∙ ap (λ (u : ℕ). take n wants ++ (u ∷ [])) (one-curves wants n) ∙ sym (take-suc wants n 0 (omega arith))
 
-  pub state-start : take (length wants) tests ≡ upTo (length wants) → take (length wants) lengths ≡ replicate (length wants) 1 → take (length wants) curves ≡ wants
-      → State places wants tests lengths curves (length wants) false places
+  pub state-start : tests ≡ upTo (length wants) ++ rest → take (length wants) lengths ≡ replicate (length wants) 1 → take (length wants) curves ≡ wants
+      → State places wants rest tests lengths curves (length wants) false places
   state-start t l u =
       let n = length wants in
       let ones = map (λ t. t ∷ []) (upTo n) in
       record {
         ps = ones;
-        rest = drop n tests;
         count = length-map (upTo n) (λ t. t ∷ []) ∙ length-upTo n;
         lens = l ∙ sym (single-lengths (upTo n) n (length-upTo n));
         sets = u ∙ sym (single-curves n (omega arith) ∙ take-length wants);
-        all = sym (take-append-drop n tests) ∙ ap (λ (l : List ℕ). l ++ drop n tests) (t ∙ sym (singles (upTo n)));
+        all = t ∙ ap (λ (l : List ℕ). l ++ rest) (sym (singles (upTo n)));
         whole = ap length (singles (upTo n)) ∙ length-upTo n;
         bounded = refl;
         goes = unfold packages in refl;
       }
 
-module _ {places : ℕ} {wants tests lengths curves : List ℕ} {left : ℕ} {flipping : Bool} {bound : ℕ} (s : State places wants tests lengths curves left flipping bound) where
+module _ {places : ℕ} {wants rest tests lengths curves : List ℕ} {left : ℕ} {flipping : Bool} {bound : ℕ} (s : State places wants rest tests lengths curves left flipping bound) where
   length-at : (k : ℕ) → k < left → getD lengths k 0 ≡ length (getD (s .ps) k [])
   length-at k h = sym (getD-take left lengths k 0 h) ∙ ap (λ (l : List ℕ). getD l k 0) (s .lens) ∙ List·getD-map length (s .ps) k []
 
@@ -347,11 +352,10 @@ module _ {places : ℕ} {wants tests lengths curves : List ℕ} {left : ℕ} {fl
       go false e i j = ap (leb (size (getD (map (curvesOf wants) (s .ps)) i 0 ∪ getD (map (curvesOf wants) (s .ps)) j 0))) (sym e)
 
   -- no pair in the first round: the second begins
-  pub state-turn : closest wants (fitsBy flipping places) (joinBy flipping wants places) (s .ps) ≡ nobody → flipping ≡ false → State places wants tests lengths curves left true 64
+  pub state-turn : closest wants (fitsBy flipping places) (joinBy flipping wants places) (s .ps) ≡ nobody → flipping ≡ false → State places wants rest tests lengths curves left true 64
   state-turn e f =
       record {
         ps = s .ps;
-        rest = s .rest;
         count = s .count;
         lens = s .lens;
         sets = s .sets;
@@ -366,9 +370,12 @@ module _ {places : ℕ} {wants tests lengths curves : List ℕ} {left : ℕ} {fl
       go false f e = after-turn places wants (s .ps) e
 
   -- no pair in the second round: the tests are in their order
-  pub state-end : closest wants (fitsBy flipping places) (joinBy flipping wants places) (s .ps) ≡ nobody → flipping ≡ true → take (length wants) tests ≡ packages places wants
-  state-end e f =
-      ap (take (length wants)) (s .all) ∙ take-at (flat (s .ps)) (s .rest) (length wants) (s .whole) ∙ sym (s .goes ∙ ap flat (go flipping f e))
+  pub state-end : closest wants (fitsBy flipping places) (joinBy flipping wants places) (s .ps) ≡ nobody → flipping ≡ true → (old : List ℕ) → rest ≡ drop (length wants) old
+      → tests ≡ overwritten (packages places wants) old
+  unfolding overwritten
+  state-end e f old r =
+      let p : flat (s .ps) ≡ packages places wants = sym (s .goes ∙ ap flat (go flipping f e)) in
+      s .all ∙ ap (λ (l : List ℕ). flat (s .ps) ++ l) (r ∙ ap (λ (n : ℕ). drop n old) (sym (s .whole))) ∙ ap (λ (l : List ℕ). l ++ drop (length l) old) p
     where
       go : (f : Bool) → f ≡ true → closest wants (fitsBy f places) (joinBy f wants places) (s .ps) ≡ nobody → after f places wants (s .ps) ≡ s .ps
       go true f e = after-end places wants (s .ps) e
@@ -418,14 +425,14 @@ module _ {places : ℕ} {wants tests lengths curves : List ℕ} {left : ℕ} {fl
       pub within : (from + (a + b) ≤ to) × (to ≤ length wants)
       within = (omega (arith, span), omega (arith, total-span))
 
-      tests-are : tests ≡ flat (parts .pre) ++ ((getD (s .ps) i [] ++ (flat (parts .mid) ++ getD (s .ps) j [])) ++ (flat (parts .post) ++ s .rest))
+      tests-are : tests ≡ flat (parts .pre) ++ ((getD (s .ps) i [] ++ (flat (parts .mid) ++ getD (s .ps) j [])) ++ (flat (parts .post) ++ rest))
       tests-are =
           let p = flat (parts .pre) in
           let m = flat (parts .mid) in
           let q = flat (parts .post) in
           let x = getD (s .ps) i [] in
           let y = getD (s .ps) j [] in
-          s .all ∙ ap (λ (l : List ℕ). l ++ s .rest) (flat-parts (s .ps) i j parts) ∙ simp append-assoc
+          s .all ∙ ap (λ (l : List ℕ). l ++ rest) (flat-parts (s .ps) i j parts) ∙ simp append-assoc
 
       part-long : length (getD (s .ps) i [] ++ (flat (parts .mid) ++ getD (s .ps) j [])) ≡ to - from
       part-long =
@@ -434,11 +441,11 @@ module _ {places : ℕ} {wants tests lengths curves : List ℕ} {left : ℕ} {fl
           let y = getD (s .ps) j [] in
           omega (arith, length-append x (m ++ y), length-append m y, first-long, second-long, span)
 
-      from-first : drop from tests ≡ (getD (s .ps) i [] ++ (flat (parts .mid) ++ getD (s .ps) j [])) ++ (flat (parts .post) ++ s .rest)
+      from-first : drop from tests ≡ (getD (s .ps) i [] ++ (flat (parts .mid) ++ getD (s .ps) j [])) ++ (flat (parts .post) ++ rest)
       from-first = ap (drop from) tests-are ∙ drop-at (flat (parts .pre)) _ from begin
 
       part-is : take (to - from) (drop from tests) ≡ getD (s .ps) i [] ++ (flat (parts .mid) ++ getD (s .ps) j [])
-      part-is = ap (take (to - from)) from-first ∙ take-at _ (flat (parts .post) ++ s .rest) (to - from) part-long
+      part-is = ap (take (to - from)) from-first ∙ take-at _ (flat (parts .post) ++ rest) (to - from) part-long
 
       pub state-join : (new tests' lengths' curves' : List ℕ) (u : ℕ)
           → ((x y z : List ℕ) → take (to - from) (drop from tests) ≡ x ++ (y ++ z) → length x ≡ a → length z ≡ b → new ≡ joinBy flipping wants places x z ++ y)
@@ -446,7 +453,7 @@ module _ {places : ℕ} {wants tests lengths curves : List ℕ} {left : ℕ} {fl
           → take (left - 1) lengths' ≡ take j (set (take left lengths) i (a + b)) ++ drop (suc j) (set (take left lengths) i (a + b))
           → u ≡ getD curves i 0 ∪ getD curves j 0
           → take (left - 1) curves' ≡ take j (set (take left curves) i u) ++ drop (suc j) (set (take left curves) i u)
-          → State places wants tests' lengths' curves' (left - 1) flipping bound
+          → State places wants rest tests' lengths' curves' (left - 1) flipping bound
       state-join new tests' lengths' curves' u made t l e c =
           let join = joinBy flipping wants places in
           let p = flat (parts .pre) in
@@ -455,13 +462,12 @@ module _ {places : ℕ} {wants tests lengths curves : List ℕ} {left : ℕ} {fl
           let x = getD (s .ps) i [] in
           let y = getD (s .ps) j [] in
           let new-is : new ≡ join x y ++ m = made x m y part-is first-long second-long in
-          let behind : drop (to - from) (drop from tests) ≡ q ++ s .rest = ap (drop (to - from)) from-first ∙ drop-at (x ++ (m ++ y)) (q ++ s .rest) (to - from) part-long in
-          let before : take from tests ≡ p = ap (take from) tests-are ∙ take-at p ((x ++ (m ++ y)) ++ (q ++ s .rest)) from begin in
+          let behind : drop (to - from) (drop from tests) ≡ q ++ rest = ap (drop (to - from)) from-first ∙ drop-at (x ++ (m ++ y)) (q ++ rest) (to - from) part-long in
+          let before : take from tests ≡ p = ap (take from) tests-are ∙ take-at p ((x ++ (m ++ y)) ++ (q ++ rest)) from begin in
           let qs = joined join (s .ps) (at i j) in
           let flat-is : flat qs ≡ p ++ (join x y ++ (m ++ q)) = flat-joined (s .ps) i j parts join in
           record {
             ps = qs;
-            rest = s .rest;
             count = omega (arith, length-joined join (s .ps) (at i j) (in-order .0, omega (arith, in-order .1, s .count)), s .count);
             lens = l ∙ ap (λ (ls : List ℕ). take j (set ls i (a + b)) ++ drop (suc j) (set ls i (a + b))) (s .lens)
                 ∙ sym (map-joined length join (s .ps) i j (a + b) (omega (arith, length-join wants places x y flipping, first-long, second-long)));
@@ -470,7 +476,7 @@ module _ {places : ℕ} {wants tests lengths curves : List ℕ} {left : ℕ} {fl
                 (e ∙ ap (λ (n : ℕ). n ∪ getD curves j 0) (curves-at i (omega (arith, in-order .0, in-order .1))) ∙ ap (λ (n : ℕ). curvesOf wants x ∪ n) (curves-at j (in-order .1))
                 ∙ sym (curves-join wants places x y flipping)));
             all = t ∙ ap (λ (k : List ℕ). k ++ (new ++ drop (to - from) (drop from tests))) before ∙ ap (λ (k : List ℕ). p ++ (k ++ drop (to - from) (drop from tests))) new-is
-                ∙ ap (λ (k : List ℕ). p ++ ((join x y ++ m) ++ k)) behind ∙ sym (ap (λ (k : List ℕ). k ++ s .rest) flat-is ∙ simp append-assoc);
+                ∙ ap (λ (k : List ℕ). p ++ ((join x y ++ m) ++ k)) behind ∙ sym (ap (λ (k : List ℕ). k ++ rest) flat-is ∙ simp append-assoc);
             whole = omega (
               arith,
               ap length flat-is,

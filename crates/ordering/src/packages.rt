@@ -1,14 +1,15 @@
 // Method 3 of "Orders": packages with both rounds, heads, tails and flipping. The packages lie one behind the other in a list of tests; beside it stand the
 // length of each package and its curves.
 ghost use mathlib.Core.Path.{_≡_};
-ghost use mathlib.Core.Bool.{true, false, cond};
+ghost use mathlib.Core.Bool.{Bool, cond};
 ghost use mathlib.Core.List.{List, _++_, map, reverse};
 ghost use Prim.Native.Nat.{ℕ, suc, _+_, _-_, _≤_, _<_};
 ghost use lib.ListN.{length, getD, take, drop, set};
 ghost use lib.Dec.{leb, ltb};
-ghost use Rattle.bitset.specs.Set.{size};
+ghost use Rattle.bitset.specs.Set.{_∪_, size};
+ghost use Rattle.job.specs.Refusal.{overwritten};
 ghost use Rattle.job.specs.Choice.{Found, nobody, keep, bestOf};
-ghost use Rattle.ordering.specs.Methods.{upTo, Pair, eligible, closer, bestPair, flat, head, tail, flipped, packages};
+ghost use Rattle.ordering.specs.Methods.{common, Pair, eligible, closer, bestPair, flat, head, tail, flipped, packages};
 
 // Two places in the list of packages; no pair where the second is 0.
 pub struct PackagePair {
@@ -25,9 +26,9 @@ pub struct Meeting {
 
 // How many curves two sets have in common.
 fn shared(a: u64, b: u64) -> usize
-    ensures { λ r. ⌜ r ≡ Rattle.ordering.specs.Methods.common a b ⌝ }
+    ensures { λ r. ⌜ r ≡ common a b ⌝ }
 {
-    bitset::size(bitset::common(a, b))
+    bitset::size(a & b)
 }
 
 // The set at a place of the list; the empty set where there is none.
@@ -44,11 +45,11 @@ fn head(wants: &[u64], places: usize, tests: &[u16]) -> u64
     let mut run: u64 = 0;
     let mut k: usize = 0;
     while k < tests.len() {
-        let longer = bitset::union(run, entry(wants, tests[k] as usize));
-        if places < bitset::size(longer) {
+        let wider = bitset::union(run, entry(wants, tests[k] as usize));
+        if places < bitset::size(wider) {
             return run;
         }
-        run = longer;
+        run = wider;
         k += 1;
     }
     run
@@ -231,41 +232,138 @@ fn best_partner(bound: usize, curves: &[u64], first: usize) -> usize
     second
 }
 
-// "of all pairs whose union is at most the places .. the pair with most common curves; ties to the earlier first"
-fn closest(bound: usize, curves: &[u64]) -> PackagePair
-    ensures { λ r. ⌜ bestPair (λ u. leb (size u) bound) (now (curves .entry)) (length (now (curves .entry)))
-        ≡ keep (ltb 0 (r .second)) (record { first = r .first; second = r .second }) nobody ⌝ }
+// One more than the number of curves that two packages have in common; 0 where the second is 0, which stands for none.
+fn score(curves: &[u64], first: usize, second: usize) -> usize
+    ensures { λ r. ⌜ r ≡ cond (ltb 0 second) (1 + common (getD (now (curves .entry)) first 0) (getD (now (curves .entry)) second 0)) 0 ⌝ }
+{
+    if second == 0 {
+        return 0;
+    }
+    1 + shared(entry(curves, first), entry(curves, second))
+}
+
+// The pair with most common curves, "ties to the earlier first, then the earlier second package", from the best second package for each first.
+fn closest(curves: &[u64], partners: &[usize]) -> PackagePair
+    requires { ⌜ length (now partners) ≡ length (now curves) ⌝ }
+    ensures { λ r. ⌜ ((fits : ℕ → Bool)
+        → ((k : ℕ) → k < length (now (curves .entry))
+        → bestOf (eligible fits (now (curves .entry))) (closer (now (curves .entry))) (λ j. record { first = k; second = j }) (length (now (curves .entry))) nobody
+        ≡ keep (ltb 0 (getD (now (partners .entry)) k 0)) (record { first = k; second = getD (now (partners .entry)) k 0 }) nobody)
+        → bestPair fits (now (curves .entry)) (length (now (curves .entry))) ≡ keep (ltb 0 (r .second)) (record { first = r .first; second = r .second }) nobody) ⌝ }
 {
     let mut first: usize = 0;
     let mut second: usize = 0;
     let mut most: usize = 0;
     let mut i: usize = 0;
-    while i < curves.len() {
-        let j = best_partner(bound, curves, i);
-        if 0 < j {
-            let common = 1 + shared(curves[i], entry(curves, j));
-            if most < common {
-                first = i;
-                second = j;
-                most = common;
-            }
+    while i < partners.len() {
+        let count = score(curves, i, partners[i]);
+        if most < count {
+            first = i;
+            second = partners[i];
+            most = count;
         }
         i += 1;
     }
     PackagePair { first, second }
 }
 
-// The tests 0, 1, .., 255.
-fn in_list_order() -> [u16; 256]
-    ensures { λ r. ⌜ (length r ≡ 256) × ((n : ℕ) → n ≤ 256 → take n r ≡ upTo n) ⌝ }
+// The best second package for each first.
+fn best_partners(bound: usize, curves: &[u64], partners: &mut [usize])
+    requires { ⌜ length (now partners) ≡ length (now curves) ⌝ }
+    ensures { λ _. ⌜ ((k : ℕ) → k < length (now (curves .entry))
+        → bestOf (eligible (λ u. leb (size u) bound) (now (curves .entry))) (closer (now (curves .entry))) (λ j. record { first = k; second = j }) (length (now (curves .entry))) nobody
+        ≡ keep (ltb 0 (getD (now (partners .exit)) k 0)) (record { first = k; second = getD (now (partners .exit)) k 0 }) nobody) ⌝ }
 {
-    let mut tests = [0u16; 256];
-    let mut t: usize = 0;
-    while t < 256 {
-        tests[t] = t as u16;
-        t += 1;
+    let mut k: usize = 0;
+    while k < curves.len() {
+        partners[k] = best_partner(bound, curves, k);
+        k += 1;
     }
-    tests
+}
+
+// After a join the places behind the second package move up by one.
+fn moved(second: usize, place: usize) -> usize
+    ensures { λ r. ⌜ r ≡ cond (ltb second place) (place - 1) place ⌝ }
+{
+    if second < place { place - 1 } else { place }
+}
+
+// The best second package for a row after the join of `first` and `second`; `old` was the best before. What is left of the others is as good as it was, so a row
+// is scanned anew only where its best is gone: the joined package is as good as either part, unless it no longer fits.
+fn renewed(
+    bound: usize,
+    curves: &[u64],
+    first: usize,
+    second: usize,
+    row: usize,
+    old: usize,
+) -> usize
+    requires { ⌜ (first < second) × (second ≤ length (now curves)) × (row < length (now curves)) ⌝ }
+    ensures { λ r. ⌜ ((cs : List ℕ) → length cs ≡ suc (length (now (curves .entry)))
+        → now (curves .entry) ≡ take second (set cs first (getD cs first 0 ∪ getD cs second 0)) ++ drop (suc second) (set cs first (getD cs first 0 ∪ getD cs second 0))
+        → bestOf (eligible (λ u. leb (size u) bound) cs) (closer cs) (λ j. record { first = cond (ltb row second) row (suc row); second = j }) (length cs) nobody
+        ≡ keep (ltb 0 old) (record { first = cond (ltb row second) row (suc row); second = old }) nobody
+        → bestOf (eligible (λ u. leb (size u) bound) (now (curves .entry))) (closer (now (curves .entry))) (λ j. record { first = row; second = j }) (length (now (curves .entry))) nobody
+        ≡ keep (ltb 0 r) (record { first = row; second = r }) nobody) ⌝ }
+{
+    if row == first {
+        return best_partner(bound, curves, row);
+    }
+    if first < row {
+        if old == second {
+            return best_partner(bound, curves, row);
+        }
+        return moved(second, old);
+    }
+    if bound < bitset::size(bitset::union(curves[row], curves[first])) {
+        if old == first {
+            return best_partner(bound, curves, row);
+        }
+        if old == second {
+            return best_partner(bound, curves, row);
+        }
+        return moved(second, old);
+    }
+    if old == first {
+        return first;
+    }
+    if old == second {
+        return first;
+    }
+    let other = moved(second, old);
+    let other_score = score(curves, row, other);
+    let first_score = score(curves, row, first);
+    if other_score < first_score {
+        return first;
+    }
+    if first_score < other_score {
+        return other;
+    }
+    if first < other { first } else { other }
+}
+
+// The best second package for each row after the join.
+fn renew_partners(bound: usize, curves: &[u64], partners: &mut [usize], first: usize, second: usize)
+    requires { ⌜ (first < second) × (second ≤ length (now curves)) × (length (now partners) ≡ suc (length (now curves))) ⌝ }
+    ensures { λ _. ⌜ ((cs : List ℕ) → length cs ≡ suc (length (now (curves .entry)))
+        → now (curves .entry) ≡ take second (set cs first (getD cs first 0 ∪ getD cs second 0)) ++ drop (suc second) (set cs first (getD cs first 0 ∪ getD cs second 0))
+        → ((k : ℕ) → k < length cs
+        → bestOf (eligible (λ u. leb (size u) bound) cs) (closer cs) (λ j. record { first = k; second = j }) (length cs) nobody
+        ≡ keep (ltb 0 (getD (now (partners .entry)) k 0)) (record { first = k; second = getD (now (partners .entry)) k 0 }) nobody)
+        → (k : ℕ) → k < length (now (curves .entry))
+        → bestOf (eligible (λ u. leb (size u) bound) (now (curves .entry))) (closer (now (curves .entry))) (λ j. record { first = k; second = j }) (length (now (curves .entry))) nobody
+        ≡ keep (ltb 0 (getD (now (partners .exit)) k 0)) (record { first = k; second = getD (now (partners .exit)) k 0 }) nobody) ⌝ }
+{
+    let mut row: usize = 0;
+    while row < curves.len() {
+        let old = if row < second {
+            partners[row]
+        } else {
+            partners[row + 1]
+        };
+        partners[row] = renewed(bound, curves, first, second, row, old);
+        row += 1;
+    }
 }
 
 // The wants as the curves of the first packages.
@@ -283,27 +381,30 @@ fn first_curves(wants: &[u64]) -> [u64; 256]
 }
 
 // Method 3: "Each test begins as a package, in list order". The first round joins while a pair's union is at most the places, the second until one is left:
-// a union of sets of 64 curves is always at most 64.
-pub(crate) fn package_order(places: usize, wants: &[u64]) -> [u16; 256]
-    requires { ⌜ length (now wants) ≤ 256 ⌝ }
-    ensures { λ r. ⌜ take (length (now (wants .entry))) r ≡ packages places (now (wants .entry)) ⌝ }
+// a union of sets of 64 curves is always at most 64. The packages lie in the order, one behind the other.
+pub(crate) fn order_by_packages(places: usize, wants: &[u64], order: &mut [u16])
+    requires { ⌜ (length (now wants) ≤ 256) × (length (now wants) ≤ length (now order)) ⌝ }
+    ensures { λ _. ⌜ now (order .exit) ≡ overwritten (packages places (now (wants .entry))) (now (order .entry)) ⌝ }
 {
-    let mut tests = in_list_order();
+    let mut left = wants.len();
+    crate::growing::as_listed(left, order);
     let mut lengths = [1u64; 256];
     let mut curves = first_curves(wants);
-    let mut left = wants.len();
+    let mut partners = [0usize; 256];
+    best_partners(places, &curves[..left], &mut partners[..left]);
     let mut flipping = false;
     let mut bound = places;
     loop {
-        let pair = closest(bound, &curves[..left]);
+        let pair = closest(&curves[..left], &partners[..left]);
         let first = pair.first;
         let second = pair.second;
         if second == 0 {
             if flipping {
-                return tests;
+                return;
             }
             flipping = true;
             bound = 64;
+            best_partners(bound, &curves[..left], &mut partners[..left]);
         } else {
             let a = lengths[first];
             let b = lengths[second];
@@ -313,14 +414,31 @@ pub(crate) fn package_order(places: usize, wants: &[u64]) -> [u16; 256]
                 flipping,
                 wants,
                 places,
-                &mut tests[from..to],
+                &mut order[from..to],
                 a as usize,
                 b as usize,
             );
             join_entry(&mut lengths[..left], first, second, a + b);
             let joined = bitset::union(curves[first], curves[second]);
             join_entry(&mut curves[..left], first, second, joined);
+            renew_partners(
+                bound,
+                &curves[..left - 1],
+                &mut partners[..left],
+                first,
+                second,
+            );
             left -= 1;
         }
     }
+}
+
+// The order of method 3 as an array, of which the first entries count, one for each test.
+pub(crate) fn package_order(places: usize, wants: &[u64]) -> [u16; 256]
+    requires { ⌜ length (now wants) ≤ 256 ⌝ }
+    ensures { λ r. ⌜ take (length (now (wants .entry))) r ≡ packages places (now (wants .entry)) ⌝ }
+{
+    let mut order = [0u16; 256];
+    order_by_packages(places, wants, &mut order);
+    order
 }

@@ -1,14 +1,13 @@
 -- A step fetched by its position: a step that was read lies within the plan bytes; and the part that is fetched, step by step.
 use mathlib.Core.Path.{_≡_, refl, sym, ap, _∙_}
 use mathlib.Core.List.{List, [], _∷_, _++_, map}
-use Prim.Native.Nat.{ℕ, zero, suc, _+_, _-_, _*_, _^_, _≤_, _<_}
+use Prim.Native.Nat.{ℕ, zero, suc, _+_, _-_, _*_, _^_, _≤_}
 use native.Mathlib.Omega.{arith}
-use native.Mathlib.Decide.{ℕ-discrete}
 use lib.Dec.{ltb}
 use lib.ListN.{length, drop, length-drop}
 use Rattle.bitset.specs.Set.{_∪_, bit, inside}
-use Rattle.job.specs.Refusal.{Outcome, done, refused, _>>=_, _>>_, demand}
-use Rattle.job.specs.Choice.{Found, nobody, found}
+use Rattle.job.specs.Refusal.{Outcome, done, refused, demand}
+use Rattle.job.specs.Choice.{nobody, found}
 use Rattle.job.specs.Handed.{between, allCurves, countsKnown}
 use Rattle.job.specs.SetBytes.{Got, got, byteAt, readGroup, readGroups}
 use Rattle.job.proofs.Laws.{done-same, refused≢done, both-done, bind-done}

@@ -3,9 +3,15 @@
 --     Steps          one turn of a loop over the steps
 --     ReadPlan       what reading a plan answers and leaves
 --     Fetching       a step fetched by its position
+--     Writing        writing a plan
 --     PlanRoundTrip  writing and reading undo each other
+--     PlanLength     how long plan bytes are
+--     StepParts      the parts that are fetched are the steps as they are written
 pub mod Reading
 pub mod Steps
 pub mod ReadPlan
 pub mod Fetching
+pub mod Writing
 pub mod PlanRoundTrip
+pub mod PlanLength
+pub mod StepParts

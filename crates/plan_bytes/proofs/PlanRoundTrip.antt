@@ -28,6 +28,7 @@ use Rattle.planning.specs.Planning.{checking}
 use Rattle.planning.proofs.Fewest.{_≼_, ≼-inside, held-≼}
 use Rattle.planning.proofs.CheckExact.{StepsOk, Passes, passed}
 use Rattle.plan_bytes.specs.PlanBytes.{setField, stepBytes, stepsBytes, planBytes, Placed, readSet, readStep, readSteps, readPlanBytes, planSteps, writePlan}
+use Rattle.plan_bytes.proofs.Writing.{one, stands-le}
 
 -- ---- a set that is not empty has a group map that is not zero
 
@@ -35,11 +36,6 @@ stands-none : (b : ℕ) → stands b ≡ 0 → b ≡ 0
 unfolding stands
 stands-none zero e = refl
 stands-none (suc b) e = absurd (omega arith)
-
-stands-le : (b : ℕ) → stands b ≤ 1
-unfolding stands
-stands-le zero = omega arith
-stands-le (suc b) = omega arith
 
 map-none : (k s : ℕ) → s < 2 ^ (8 * k) → groupMap k s ≡ 0 → s ≡ 0
 unfolding groupMap
@@ -58,9 +54,6 @@ map-zero = refl
 -- the map of a step is made of its bits: 4 stands, and nothing above
 step-map : (M : ℕ) → 4 ≤ M → M ≤ 7 → M ≡ bit 0 M + 2 * bit 1 M + 4
 step-map M l h = omega (arith, bit-zero M, bit-suc 0 M, bit-zero (M / 2))
-
-abbrev one : ℕ → ℕ → ℕ → Step
-one t d l = record { test = t; drops = d; loads = l }
 
 -- ---- written, then read
 module _ (curves tests : ℕ) (few : curves ≤ 64) where
@@ -245,9 +238,9 @@ module _ (curves tests : ℕ) where
           whole : (s v : ℕ) → s ≡ suc v → setField s ≡ groupMap 8 s ∷ groupBytes 8 s
           whole s v e = rw e (unfold setField setBytes in refl)
 
-  record StepRead (bs : List ℕ) (g : Got Placed) : Type 0 where
-    bytes : bs ≡ stepBytes (g .value .step) ++ g .rest
-    tail : Bytes (g .rest)
+  pub record StepRead (bs : List ℕ) (g : Got Placed) : Type 0 where
+    pub bytes : bs ≡ stepBytes (g .value .step) ++ g .rest
+    pub tail : Bytes (g .rest)
 
   -- a map, the two sets and the test
   step-bytes : (M t : ℕ) (bs rest : List ℕ) (ds ls : Got ℕ) → 4 ≤ M → M ≤ 7 → FieldRead (bit 0 M) bs ds → FieldRead (bit 1 M) (ds .rest) ls → ls .rest ≡ t ∷ rest
@@ -259,7 +252,7 @@ module _ (curves tests : ℕ) where
       D .bytes ∙ ap (λ (x : List ℕ). setField (ds .value) ++ x) (L .bytes ∙ ap (λ (x : List ℕ). setField (ls .value) ++ x) e) in
       ap {B = List ℕ} (λ x. M ∷ x) b ∙ ap {B = List ℕ} (λ x. x ∷ (setField (ds .value) ++ (setField (ls .value) ++ (t ∷ rest)))) m ∙ simp append-assoc
 
-  step-read : (i : ℕ) (bs : List ℕ) (g : Got Placed) → Bytes bs → readStep curves tests i bs ≡ done g → StepRead bs g
+  pub step-read : (i : ℕ) (bs : List ℕ) (g : Got Placed) → Bytes bs → readStep curves tests i bs ≡ done g → StepRead bs g
   unfolding readStep byteAt between _>>=_
   step-read i [] g all e = absurd (refused≢done e)
   step-read i (M ∷ bs) g all e =

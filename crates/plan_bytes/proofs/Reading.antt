@@ -1,12 +1,9 @@
 -- Reading plan bytes, case by case: what the rule comes to at position k of the plan bytes bs.
-use mathlib.Core.Path.{_≡_, refl, sym, ap, _∙_}
-use mathlib.Core.Logic.{_⊎_, inl, inr}
-use mathlib.Core.Bool.{Bool, true, false, _&&_}
-use mathlib.Core.List.{List, [], _∷_, _++_}
+use mathlib.Core.Path.{_≡_, refl, sym, _∙_}
+use mathlib.Core.List.{List}
 use Prim.Native.Nat.{ℕ, zero, suc, _+_, _-_, _%_, _≤_, _<_}
 use native.Mathlib.Omega.{arith}
 use native.Mathlib.Nat.{zero-add}
-use lib.Dec.{leb, ltb}
 use lib.ListN.{length, getD, drop}
 use borrow.Author.Tests.{lt-ltb, le-ltb, le-leb, lt-leb}
 use Rattle.bitset.specs.Set.{_∪_, bit}
@@ -16,11 +13,11 @@ use Rattle.job.specs.declared.set_bytes.GroupRead.the-variants.{Curves, Owed, E
 use Rattle.job.specs.Refusal.{Outcome, done, refused, _>>=_, _>>_, demand}
 use Rattle.job.specs.Handed.{between}
 use Rattle.job.specs.SetBytes.{Got, got, byteAt, readGroups}
-use Rattle.job.proofs.Turns.{byte-here, byte-owed, group-absent, groups-end}
+use Rattle.job.proofs.Turns.{byte-here, byte-owed, group-absent}
 use Rattle.job.proofs.GroupByte.{Answers, answer-owed, answer-empty, answer-unknown, answer-curves}
 use Rattle.plan_bytes.specs.declared.SetRead.{SetRead}
 use Rattle.plan_bytes.specs.declared.StepRead.{StepRead}
-use Rattle.plan_bytes.specs.PlanBytes.{Placed, readSet, readStep, readSteps}
+use Rattle.plan_bytes.specs.PlanBytes.{Placed, readSet, readStep}
 use Rattle.plan_bytes.specs.Answers.{setOutcome, stepOutcome}
 
 -- ---- one group: j is the next, the groups before it gave the set s

@@ -1,20 +1,19 @@
 -- The steps of plan bytes, one turn of a loop over them: what the rule comes to at the step whose first byte stands at offset i of the bytes bs, the steps
 -- before it having been read.
-use mathlib.Core.Path.{_≡_, refl, sym, ap, _∙_}
-use mathlib.Core.Bool.{Bool, true, false}
+use mathlib.Core.Path.{_≡_, refl, sym, _∙_}
 use mathlib.Core.List.{List, [], _∷_, _++_, map, map-append, append-assoc}
-use Prim.Native.Nat.{ℕ, zero, suc, _+_, _-_, _≤_, _<_}
+use Prim.Native.Nat.{ℕ, suc, _+_, _-_, _≤_, _<_}
 use native.Mathlib.Omega.{arith}
 use native.Mathlib.Decide.{decLt}
 use lib.Dec.{leb}
 use borrow.Author.Tests.{leb-true}
-use lib.ListN.{length, getD, take, drop, set, length-set, length-map, length-append, drop-of-length-le}
+use lib.ListN.{length, getD, drop, set, length-set, length-map, length-append, drop-of-length-le}
 use lib.Seq.{drop-cons, set-at}
 use Rattle.job.specs.Refusal.{Outcome, done, refused, _>>=_, _>>_, mapped, leaves, overwritten}
-use Rattle.job.specs.SetBytes.{Got, got}
+use Rattle.job.specs.SetBytes.{got}
 use Rattle.job.specs.JobBytes.{atEnd}
 use Rattle.job.specs.Handed.{between, someTests, curvesKnown, testsKnown, countsKnown}
-use Rattle.job.proofs.Laws.{done-same, refused≢done, mapped-done, both, both-done, done-both, demand-true}
+use Rattle.job.proofs.Laws.{refused≢done, mapped-done, both, both-done, done-both, demand-true}
 use Rattle.job.proofs.Examination.{refused-both}
 use Rattle.plan_bytes.specs.declared.StepRead.{StepRead}
 use Rattle.plan_bytes.specs.PlanBytes.{Placed, readStep, readSteps, readPlanBytes, planSteps}

@@ -1,21 +1,24 @@
 // Plan bytes: written, read, and one step fetched by its position.
 ghost use mathlib.Core.Path.{_≡_};
-ghost use mathlib.Core.List.{[], map};
-ghost use Prim.Native.Nat.{ℕ, _+_, _-_, _≤_, _<_};
-ghost use lib.ListN.{length, drop};
-ghost use Rattle.job.specs.SetBytes.{readGroups};
-ghost use Rattle.job.specs.Refusal.{done, mapped, examinedOutcome, countOutcome, leaves};
-ghost use Rattle.plan_bytes.specs.PlanBytes.{readSet, readStep, readPlanBytes, planSteps, readPlanAnswer, readPlanOrder, readPlanDrops, readPlanLoads, fetched, partOf, stepPart, stepAt};
+ghost use mathlib.Core.List.{map};
+ghost use Prim.Native.Nat.{ℕ, _+_, _-_, _*_, _≤_, _<_};
+ghost use lib.ListN.{length, getD, drop};
+ghost use Rattle.job.specs.SetBytes.{stands, readGroups};
+ghost use Rattle.job.specs.Refusal.{done, mapped, room, examinedOutcome, countOutcome, leaves, overwritten};
+ghost use Rattle.plan_bytes.specs.PlanBytes.{setField, stepBytes, planBytes, writePlanAnswer, writePlanBuffer, readSet, readStep, readPlanBytes, planSteps, readPlanAnswer, readPlanOrder, readPlanDrops, readPlanLoads, fetched, partOf, stepPart, stepAt};
 ghost use Rattle.plan_bytes.specs.Answers.{setOutcome, stepOutcome};
 use job::Counted;
 use job::Examined;
 use job::Refusal;
 use job::examine_counts;
 use job::set_bytes::GroupRead;
+use job::set_bytes::put_set;
 use job::set_bytes::read_group;
+use job::set_bytes::set_len;
+use planning::check_plan;
 
 // What stands where a set is due.
-pub enum SetRead {
+enum SetRead {
     // the set, and the position behind it
     Set(u64, usize),
     // the position of the first malformed byte, or the end of the bytes
@@ -23,7 +26,7 @@ pub enum SetRead {
 }
 
 // What stands where a step is due.
-pub enum StepRead {
+enum StepRead {
     // the test, the drops, the loads, and the position behind the step
     Step(u16, u64, u64, usize),
     // the position of the first malformed byte, or the end of the bytes
@@ -139,7 +142,7 @@ fn examine_plan(curves: usize, tests: usize, plan: &[u8]) -> Examined
     }
 }
 
-// Writes the steps of a plan that reads: an entry of each list for each step.
+// Writes the steps of a plan that reads, which was seen before: an entry of each list for each step. "Nothing lent changes under a refusal".
 fn fill_lists(
     curves: usize,
     tests: usize,
@@ -158,6 +161,7 @@ fn fill_lists(
     let mut k: usize = 0;
     while k < tests {
         match read_step(plan, at, curves, tests) {
+            // never met: the plan reads
             StepRead::Fault(_) => {
                 return;
             }
@@ -205,9 +209,9 @@ pub fn read_plan(
 }
 
 // A part of the plan bytes: from `start` to before `end`.
-pub struct Span {
-    pub start: usize,
-    pub end: usize,
+struct Span {
+    start: usize,
+    end: usize,
 }
 
 // Where the step at a position lies in the bytes of a plan that reads; else at their end, and empty.
@@ -216,32 +220,33 @@ fn find_step(curves: usize, tests: usize, plan: &[u8], position: usize) -> Span
     ensures part { λ r. ⌜ partOf curves tests (now (plan .entry)) (fetched curves tests position (readPlanBytes curves tests (now (plan .entry)))) ≡ record { start = r .start; count = r .end - r .start } ⌝ }
     ensures bounds { λ r. ⌜ (r .start ≤ r .end) × (r .end ≤ length (now (plan .entry))) ⌝ }
 {
-    let mut start = plan.len();
-    let mut end = plan.len();
+    let size = plan.len();
+    let mut start = size;
+    let mut end = size;
     let mut at: usize = 0;
-    let mut k: usize = 0;
-    while k < tests {
+    let mut i: usize = 0;
+    while i < tests {
         match read_step(plan, at, curves, tests) {
             StepRead::Fault(_) => {
                 return Span {
-                    start: plan.len(),
-                    end: plan.len(),
+                    start: size,
+                    end: size,
                 };
             }
             StepRead::Step(_, _, _, next) => {
-                if k == position {
+                if i == position {
                     start = at;
                     end = next;
                 }
                 at = next;
             }
         }
-        k += 1;
+        i += 1;
     }
-    if at < plan.len() {
+    if at < size {
         return Span {
-            start: plan.len(),
-            end: plan.len(),
+            start: size,
+            end: size,
         };
     }
     Span { start, end }
@@ -272,4 +277,107 @@ pub fn step_bytes(curves: usize, tests: usize, plan: &[u8], position: usize) -> 
     let start = span.start;
     let end = span.end;
     &plan[start..end]
+}
+
+// How many bytes a set of a step takes: none if it is empty.
+fn field_len(s: u64) -> usize
+    ensures { λ r. ⌜ r ≡ length (setField s) ⌝ }
+{
+    if s == 0 {
+        return 0;
+    }
+    set_len(s)
+}
+
+// Writes a set of a step to the beginning of `out`, where it fits, and answers how many bytes it takes.
+fn put_field(s: u64, out: &mut [u8]) -> usize
+    ensures count { λ r. ⌜ r ≡ length (setField s) ⌝ }
+    ensures bytes { λ _. ⌜ now (out .exit) ≡ leaves (mapped (λ _. setField s) (room (length (now (out .entry))) (length (setField s)))) (now (out .entry)) ⌝ }
+{
+    if s == 0 {
+        return 0;
+    }
+    put_set(s, out)
+}
+
+// The bit map of a step: "0 drops, 1 loads, 2 test". "Bit 2 always stands."
+fn step_map(drops: u64, loads: u64) -> u8
+    ensures { λ r. ⌜ r ≡ stands drops + 2 * stands loads + 4 ⌝ }
+{
+    let mut fields: u8 = 4;
+    if drops != 0 {
+        fields += 1;
+    }
+    if loads != 0 {
+        fields += 2;
+    }
+    fields
+}
+
+// Writes a step to the beginning of `out`, and answers how many bytes it takes. "The test is one byte."
+fn put_step(test: u16, drops: u64, loads: u64, out: &mut [u8]) -> usize
+    requires { ⌜ (test < 256) × (length (stepBytes (record { test = test; drops = drops; loads = loads })) ≤ length (now out)) ⌝ }
+    ensures count { λ r. ⌜ r ≡ length (stepBytes (record { test = test; drops = drops; loads = loads })) ⌝ }
+    ensures bytes { λ _. ⌜ now (out .exit) ≡ overwritten (stepBytes (record { test = test; drops = drops; loads = loads })) (now (out .entry)) ⌝ }
+{
+    out[0] = step_map(drops, loads);
+    let behind = 1 + put_field(drops, &mut out[1..]);
+    let last = behind + put_field(loads, &mut out[behind..]);
+    out[last] = test as u8;
+    last + 1
+}
+
+// How many bytes the steps of a plan take.
+fn plan_len(order: &[u16], drops: &[u64], loads: &[u64]) -> usize
+    requires { ⌜ (length (now order) ≤ 256) × (length (now drops) ≡ length (now order)) × (length (now loads) ≡ length (now order)) ⌝ }
+    ensures { λ r. ⌜ r ≡ length (planBytes (now (order .entry)) (now (drops .entry)) (now (loads .entry))) ⌝ }
+{
+    let mut n: usize = 0;
+    let mut i: usize = 0;
+    while i < order.len() {
+        n += 2 + field_len(drops[i]) + field_len(loads[i]);
+        i += 1;
+    }
+    n
+}
+
+// Writes the steps of a plan to the beginning of `out`.
+fn put_plan(order: &[u16], drops: &[u64], loads: &[u64], out: &mut [u8])
+    requires tests { ⌜ ((i : ℕ) → i < length (now order) → getD (now order) i 0 < 256) ⌝ }
+    requires sets { ⌜ (length (now drops) ≡ length (now order)) × (length (now loads) ≡ length (now order)) ⌝ }
+    requires fits { ⌜ length (planBytes (now order) (now drops) (now loads)) ≤ length (now out) ⌝ }
+    ensures { λ _. ⌜ now (out .exit) ≡ overwritten (planBytes (now (order .entry)) (now (drops .entry)) (now (loads .entry))) (now (out .entry)) ⌝ }
+{
+    let mut to: usize = 0;
+    let mut i: usize = 0;
+    while i < order.len() {
+        to += put_step(order[i], drops[i], loads[i], &mut out[to..]);
+        i += 1;
+    }
+}
+
+// Writes a plan that passes the check as plan bytes, and answers their count: "writing a plan 8, 12, 9", after 5 and 10.
+pub fn write_plan(
+    places: usize,
+    curves: usize,
+    wants: &[u64],
+    order: &[u16],
+    drops: &[u64],
+    loads: &[u64],
+    out: &mut [u8],
+) -> Counted
+    ensures answer { λ r. ⌜ countOutcome r ≡ writePlanAnswer places curves (now (wants .entry)) (now (order .entry)) (now (drops .entry)) (now (loads .entry)) (now (out .entry)) ⌝ }
+    ensures bytes { λ _. ⌜ now (out .exit) ≡ writePlanBuffer places curves (now (wants .entry)) (now (order .entry)) (now (drops .entry)) (now (loads .entry)) (now (out .entry)) ⌝ }
+{
+    match check_plan(places, curves, wants, order, drops, loads) {
+        Counted::Refused(r) => Counted::Refused(r),
+        Counted::Count(_) => {
+            let need = plan_len(order, drops, loads);
+            if out.len() < need {
+                return Counted::Refused(Refusal::BufferTooSmall(need));
+            }
+            put_plan(order, drops, loads, out);
+            Counted::Count(need)
+        }
+    }
 }

@@ -1,30 +1,25 @@
 -- DEMAND 3, proved: of planning and the plan check, for every job and every order of its tests.
-use mathlib.Core.Path.{_≡_, refl, sym, ap, _∙_, subst}
-use mathlib.Core.Logic.{_↔_, _⊎_, inl, inr}
-use mathlib.Core.Bool.{Bool, true, false, _&&_, false≢true}
-use mathlib.Core.List.{List, [], _∷_, _++_}
-use Prim.Native.Nat.{ℕ, zero, suc, _+_, _-_, _^_, _%_, _≤_, _<_, zero-le, min}
+use mathlib.Core.Path.{_≡_, refl, sym, ap, _∙_}
+use mathlib.Core.Logic.{_⊎_, inl, inr}
+use mathlib.Core.Bool.{false}
+use mathlib.Core.List.{List, [], _∷_}
+use Prim.Native.Nat.{ℕ, _+_, _≤_, _<_}
 use native.Mathlib.Omega.{arith}
 use native.Mathlib.Decide.{decLe}
-use native.Mathlib.Nat.{mod-eq-of-lt, mod-lt}
-use lib.Pow.{pow-pos}
-use lib.Dec.{leb, ltb, eqb}
+use lib.Dec.{leb}
 use lib.ListN.{length, getD, take, drop, List·getD-eq-default}
 use lib.Seq.{take-at}
-use lib.Bits.{and-mask}
-use borrow.Author.Tests.{ltb-true, leb-true, leb-false, eqb-true, le-leb, lt-ltb, lt-leb, eq-eqb}
-use Rattle.bitset.specs.Set.{_∖_, size, inside}
+use borrow.Author.Tests.{leb-true, leb-false, eq-eqb}
+use Rattle.bitset.specs.Set.{size, inside}
 use Rattle.bitset.proofs.Bits.{bit-empty, size-empty}
-use Rattle.job.specs.Refusal.{Outcome, done, refused, _>>=_, _>>_, mapped, demand, room, leaves, overwritten}
-use Rattle.job.specs.Handed.{between, allCurves, each, numbersKnown, wantsKnown, wantsFit, jobKnown}
-use Rattle.job.proofs.Laws.{both, and, refused≢done, demand-true, demand-done, both-done, done-both, each-true, true-each, each-cases, mapped-done, mapped-refused, leaves-done, leaves-refused, done-room}
-use Rattle.job.specs.Choice.{Found}
+use Rattle.job.specs.Refusal.{Outcome, done, refused, _>>=_, _>>_, mapped, room, leaves, overwritten}
+use Rattle.job.specs.Handed.{allCurves, each, numbersKnown, wantsKnown, wantsFit, jobKnown}
+use Rattle.job.proofs.Laws.{and, refused≢done, demand-done, both-done, done-both, each-true, each-cases, mapped-done, mapped-refused, leaves-done, leaves-refused, done-room}
 use Rattle.planning.specs.Order.{orderKnown}
 use Rattle.planning.specs.Plan.{inOrder, loadCount, checkSteps, furthest, dropSets, loadSets}
 use Rattle.planning.specs.Planning.{Plan, ourPlan, planning, planned, planAnswer, planDrops, planLoads, setsKnown, checking}
-use Rattle.planning.proofs.Fewest.{_≼_, AllFit, inside-≼, ≼-inside}
+use Rattle.planning.proofs.Fewest.{_≼_, AllFit, inside-≼}
 use Rattle.planning.proofs.Best.{furthest-passes, furthest-is-fewest}
-use Rattle.job.specs.Words.{IsJob, IsOrder}
 use Rattle.planning.specs.Demand3.{Demand3}
 use Rattle.job.proofs.Orders.{order-length}
 use Rattle.job.proofs.JobExact.{job-exact}

@@ -7,6 +7,7 @@
 --     LeastUse    the next use is the least later step that wants the curve
 --     OurPlan     the victim is a maximum, and exactly the excess is dropped
 --     Demand3     DEMAND 3, the proof
+--     OtherPlans  plans that are not ours and pass the check, with plans that do not
 --     Turns       one turn of a loop over steps
 --     Sequence    planning and checking, examination by examination
 --     Width       our plan does not depend on a bound on curves above the job's
@@ -21,6 +22,7 @@ pub mod Best
 pub mod LeastUse
 pub mod OurPlan
 pub mod Demand3
+pub mod OtherPlans
 pub mod Turns
 pub mod Sequence
 pub mod Width

@@ -1,20 +1,20 @@
 -- One turn of a loop over steps: what the rules of planning and checking come to at step i.
 use mathlib.Core.Path.{_≡_, refl, sym, ap, _∙_}
-use mathlib.Core.Bool.{Bool, true, false, not, _&&_}
+use mathlib.Core.Bool.{true, false, not, _&&_}
 use mathlib.Core.List.{List, [], _∷_, _++_}
 use Prim.Native.Nat.{ℕ, zero, suc, _+_, _-_, _^_, _≤_, _<_}
 use native.Mathlib.Omega.{arith}
 use native.Mathlib.Numerals.{add-one}
 use native.Mathlib.Decide.{decLe}
 use lib.Dec.{leb, ltb}
-use lib.ListN.{length, getD, take, drop, set, drop-of-length-le, length-take}
+use lib.ListN.{length, getD, take, drop, set, drop-of-length-le}
 use lib.Seq.{drop-cons, take-suc, length-take-le, sets, sets-eq}
 use lib.Bits.{or-comm}
-use borrow.Author.Tests.{ltb-true, ltb-false, lt-ltb, le-ltb}
+use borrow.Author.Tests.{lt-ltb, le-ltb}
 use Rattle.bitset.specs.Set.{_∪_, _∖_, size, bit}
 use Rattle.bitset.proofs.Bits.{bit-∪, bit-empty, same-by-bits}
 use Rattle.bitset.proofs.Laws.{∪-assoc, size-∪}
-use Rattle.job.specs.Refusal.{Outcome, done, refused, _>>_, demand, overwritten}
+use Rattle.job.specs.Refusal.{done, refused, _>>_, demand, overwritten}
 use Rattle.job.specs.Handed.{listed}
 use Rattle.job.specs.Choice.{Found, found}
 use Rattle.planning.specs.declared.NextUse.{NextUse}

@@ -1,11 +1,11 @@
 -- Our plan is the same whether the victim is looked for among the job's curves or among all numbers below a larger bound.
-use mathlib.Core.Path.{_≡_, refl, sym, ap, _∙_}
+use mathlib.Core.Path.{_≡_, refl, ap}
 use mathlib.Core.List.{List, [], _∷_}
 use Prim.Native.Nat.{ℕ, zero, suc, _-_, _^_, _≤_, _<_}
 use native.Mathlib.Omega.{arith}
 use lib.Pow.{pow-mono}
 use lib.ListN.{length, getD}
-use Rattle.bitset.specs.Set.{_∪_, _∖_, size, bit}
+use Rattle.bitset.specs.Set.{_∪_, _∖_, size}
 use Rattle.bitset.proofs.Bits.{bit-beyond}
 use Rattle.bitset.proofs.Laws.{∪-lt, ∖-lt}
 use Rattle.job.specs.Choice.{Found, nobody, found}

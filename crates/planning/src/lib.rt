@@ -4,8 +4,8 @@ use job::Examined;
 use job::Refusal;
 ghost use mathlib.Core.Path.{_≡_};
 ghost use mathlib.Core.List.{List};
-ghost use Prim.Native.Nat.{ℕ, _≤_, _<_, min};
-ghost use lib.ListN.{length, getD, take};
+ghost use Prim.Native.Nat.{ℕ, _+_, _≤_, _<_, min};
+ghost use lib.ListN.{length, getD, take, drop};
 ghost use Rattle.bitset.specs.Set.{size, bit};
 ghost use Rattle.job.specs.Choice.{found};
 ghost use Rattle.job.specs.Refusal.{mapped, overwritten, examinedOutcome, countOutcome};
@@ -14,7 +14,7 @@ ghost use Rattle.planning.specs.Plan.{inOrder, loadCount, stepPasses, ch
 ghost use Rattle.planning.specs.Planning.{planAnswer, planDrops, planLoads, setsKnown, checking};
 ghost use Rattle.planning.specs.Demand3.{Demand3};
 
-// Document 01: "its next use, which is a later step or never".
+// Document 01: "its next use, which is a later step or never". At(0) is the step after the present one.
 pub enum NextUse {
     At(usize),
     Never,
@@ -53,6 +53,7 @@ fn examine_order(tests: usize, order: &[u16]) -> Examined
     Examined::Passed
 }
 
+// The smaller of two numbers.
 fn smaller(a: usize, b: usize) -> usize
     ensures { λ r. ⌜ r ≡ min a b ⌝ }
 {
@@ -180,7 +181,7 @@ fn note(curves: u64, k: usize, uses: &mut [usize])
     }
 }
 
-// The next use of each candidate, by one walk over the later steps: noted in `uses`, or never, for those in the answer.
+// The next use of each candidate, by one walk over the later steps: noted in `uses`, or never for those in the answer.
 fn next_uses(candidates: u64, later: &[u64], uses: &mut [usize]) -> u64
     requires { ⌜ length (now uses) ≡ 64 ⌝ }
     ensures { λ r. ⌜ ((c : ℕ) → bit c candidates ≡ 1 → bit c r ≡ 1 → nextUse c (now (later .entry)) ≡ NextUse.Never) ⌝ }
@@ -200,7 +201,7 @@ fn next_uses(candidates: u64, later: &[u64], uses: &mut [usize]) -> u64
     left
 }
 
-// A curve with its next use.
+// A curve with its next use: never, or the step that is noted for it.
 fn with_next_use(curve: usize, never: u64, uses: &[usize; 64]) -> Candidate
     requires { ⌜ curve < 64 ⌝ }
     ensures { λ r. ⌜ r .curve ≡ curve ⌝ }
@@ -289,7 +290,16 @@ fn drops_for(places: usize, held: u64, want: u64, later: &[u64]) -> u64
     choose_drops(together - places, bitset::without(held, want), later)
 }
 
-// The drops and loads of all steps, with `start` held before the first; the load count.
+// The wants of the steps after step i.
+fn later(steps: &[u64], i: usize) -> &[u64]
+    requires { ⌜ i < length (now steps) ⌝ }
+    ensures { λ r. ⌜ now r ≡ drop (i + 1) (now (steps .entry)) ⌝ }
+{
+    let next = i + 1;
+    &steps[next..]
+}
+
+// The drops and loads of all steps, with `start` held before the first, into the lists lent; answers the load count.
 fn plan_steps(
     places: usize,
     start: u64,
@@ -306,24 +316,23 @@ fn plan_steps(
     ensures { λ _. ⌜ now (loads .exit) ≡ overwritten (loadSets (furthest 64) places start (now (steps .entry))) (now (loads .entry)) ⌝ }
 {
     let mut held = start;
-    let mut count: usize = 0;
+    let mut total: usize = 0;
     let mut i: usize = 0;
     while i < steps.len() {
         let want = steps[i];
-        let next = i + 1;
-        let d = drops_for(places, held, want, &steps[next..]);
+        let dropped = drops_for(places, held, want, later(steps, i));
         // "Load what is wanted and not held."
-        let l = bitset::without(want, held);
-        drops[i] = d;
-        loads[i] = l;
-        held = bitset::union(bitset::without(held, d), l);
-        count += bitset::size(l);
-        i = next;
+        let loaded = bitset::without(want, held);
+        drops[i] = dropped;
+        loads[i] = loaded;
+        held = bitset::union(bitset::without(held, dropped), loaded);
+        total += bitset::size(loaded);
+        i += 1;
     }
-    count
+    total
 }
 
-// Our plan for one job and one order of its tests, in the first entries of the drops and loads lent; the load count. "planning 8, 7, 9", after 5 and 10.
+// Our plan for one job and one order of its tests, into the first entries of the drops and loads lent; answers the load count. "planning 8, 7, 9", after 5 and 10.
 pub fn plan(
     places: usize,
     curves: usize,
@@ -365,6 +374,5 @@ pub fn plan(
     let mut steps = [0u64; 256];
     in_order(wants, order, &mut steps);
     // "The drive is empty before step 0."
-    let count = plan_steps(places, 0, &steps[..tests], drops, loads);
-    Counted::Count(count)
+    Counted::Count(plan_steps(places, 0, &steps[..tests], drops, loads))
 }

@@ -1,5 +1,5 @@
 -- `plan_bytes::examine_plan` meets its contract.
-use mathlib.Core.Path.{_≡_, refl, sym, ap, _∙_}
+use mathlib.Core.Path.{refl, sym, ap, _∙_}
 use borrow.Author.Needs.{needs}
 use Rattle.job.specs.Refusal.{mapped, examinedOutcome}
 use Rattle.job.proofs.Examination.{examined-refused, examined-passed}

@@ -1,8 +1,7 @@
 -- `plan_bytes::examine_steps` meets its contract. The invariant: k steps have been read, and the next one stands at `at`.
 use Prim.Native.Nat.{_-_}
-use mathlib.Core.Path.{_≡_, refl}
+use mathlib.Core.Path.{refl}
 use mathlib.Core.List.{List, []}
-use native.Mathlib.Omega.{arith}
 use denote.Ref.{now}
 use borrow.Author.Needs.{needs}
 use Rattle.job.specs.Refusal.{mapped, examinedOutcome, number, figure}

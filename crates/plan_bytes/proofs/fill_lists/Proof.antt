@@ -1,7 +1,6 @@
 -- `plan_bytes::fill_lists` meets its contract. The invariant: k steps have been read, each list has an entry for each of them, and the next step stands
 -- at `at`.
 use Prim.Native.Nat.{_-_}
-use mathlib.Core.Path.{_≡_}
 use mathlib.Core.List.{List, []}
 use native.Mathlib.Omega.{arith}
 use denote.Ref.{now}

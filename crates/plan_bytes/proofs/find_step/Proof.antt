@@ -1,7 +1,6 @@
--- `plan_bytes::find_step` meets its contract. The invariant: k steps have been read, the next one stands at `at`, and the part from `start` to `end` is that of
+-- `plan_bytes::find_step` meets its contract. The invariant: i steps have been read, the next one stands at `at`, and the part from `start` to `end` is that of
 -- the step at the position, if it is among those.
 use Prim.Native.Nat.{_-_, _≤_}
-use mathlib.Core.Path.{_≡_}
 use mathlib.Core.Logic.{⊎-elim}
 use mathlib.Core.List.{List, []}
 use native.Mathlib.Omega.{arith}
@@ -13,16 +12,13 @@ use Rattle.plan_bytes.proofs.Steps.{Behind, placed, begin, step-more, s
 use Rattle.plan_bytes.proofs.Fetching.{PartIs, step-inside, part-none, part-here, part-other, part-refused, part-read}
 use Rattle.plan_bytes.proofs.find_step.Statement.{statement}
 use Rattle.plan_bytes.proofs.find_step.Tie as tie
-use Rattle.plan_bytes.proofs.find_step.Reads as reads
-use Rattle.plan_bytes.proofs.find_step.Lts as lts
-use Rattle.plan_bytes.proofs.read_step.Reads as read-step-reads
 
 abbrev Inv-loop : tie.InvT-loop
-Inv-loop curves tests plan position start₀ end₀ at₀ k₀ start end at k =
-    (acc : List Placed) × record { behind : Behind curves tests k at plan acc; inside : at ≤ length plan; part : PartIs curves tests plan position acc start end }
+Inv-loop curves tests plan position size start₀ end₀ at₀ i₀ start end at i =
+    (acc : List Placed) × record { behind : Behind curves tests i at plan acc; inside : at ≤ length plan; part : PartIs curves tests plan position acc start end }
 
 abbrev μ-loop : tie.MeasureT-loop
-μ-loop curves tests plan position start₀ end₀ at₀ k₀ start end at k = tests - k
+μ-loop curves tests plan position size start₀ end₀ at₀ i₀ start end at i = tests - i
 
 loop-holds : tie.Need-loop-holds Inv-loop μ-loop
 loop-holds c = let a = c .before .args in ([], record { behind = begin (a .curves) (a .tests) (now (a .plan)); inside = omega arith; part = part-none (a .curves) (a .tests) (now (a .plan)) (a .position) })
@@ -37,14 +33,14 @@ returns : tie.Need-returns Inv-loop μ-loop
 returns c =
     let l = c .before .before .before .before .loop in
     let a = c .before .before .before .before .before .before .args in
-    let e = step-faulty (a .curves) (a .tests) (now (a .plan)) (l .k) (l .at) (l .inv .0) (l .inv .1 .behind) (c .before .before .before .loop-test .taken) _ (c .before .before .read-step .ensures) _ (c .enum-told .given .1) in
+    let e = step-faulty (a .curves) (a .tests) (now (a .plan)) (l .i) (l .at) (l .inv .0) (l .inv .1 .behind) (c .before .before .before .loop-test .taken) _ (c .before .before .read-step .ensures) _ (c .enum-told .given .1) in
     (part-refused (a .curves) (a .tests) (now (a .plan)) (a .position) _ _ _ e, (omega arith, omega arith))
 
 enum-known-next : tie.Need-enum-known-next Inv-loop μ-loop
 enum-known-next c = search needs
 
-add-k : tie.Need-add-k Inv-loop μ-loop
-add-k c = search needs
+add-i : tie.Need-add-i Inv-loop μ-loop
+add-i c = search needs
 
 loop-less : tie.Need-loop-less Inv-loop μ-loop
 loop-less c = search needs
@@ -58,7 +54,7 @@ loop-again c =
     let r = c .before .before .before .before .read-step .ensures in
     let v = c .before .before .next .given in
     let w = step-inside (a .curves) (a .tests) (now (a .plan)) (l .at) _ _ _ _ _ (i .inside) r (v .1) in
-    let b = step-more (a .curves) (a .tests) (now (a .plan)) (l .k) (l .at) (l .inv .0) (i .behind) h _ r _ _ _ _ (v .1) in
+    let b = step-more (a .curves) (a .tests) (now (a .plan)) (l .i) (l .at) (l .inv .0) (i .behind) h _ r _ _ _ _ (v .1) in
     ⊎-elim
     (λ q. rw (q .1, q .2, q .3) (_, record { behind = b; inside = w .1; part = part-here (a .curves) (a .tests) (now (a .plan)) (a .position) (l .inv .0) (placed (l .at) _ _ _ _) (omega (arith, i .behind .count, q .0 .taken)) (w .0) (w .1) }))
     (λ q. rw (q .1, q .2, q .3) (_, record { behind = b; inside = w .1; part = part-other (a .curves) (a .tests) (now (a .plan)) (a .position) (l .inv .0) _ (l .start) (l .end) (λ e. q .0 .left (omega (arith, i .behind .count))) (i .part) }))
@@ -68,7 +64,7 @@ returns-2 : tie.Need-returns-2 Inv-loop μ-loop
 returns-2 c =
     let l = c .before .before .loop in
     let a = c .before .before .before .before .args in
-    let e = surplus (a .curves) (a .tests) (now (a .plan)) (l .k) (l .at) (l .inv .0) (l .inv .1 .behind) (c .before .loop-test .left) (c .if2 .taken) in
+    let e = surplus (a .curves) (a .tests) (now (a .plan)) (l .i) (l .at) (l .inv .0) (l .inv .1 .behind) (c .before .loop-test .left) (c .if2 .taken) in
     (part-refused (a .curves) (a .tests) (now (a .plan)) (a .position) _ _ _ e, (omega arith, omega arith))
 
 returns-3 : tie.Need-returns-3 Inv-loop μ-loop
@@ -76,7 +72,7 @@ returns-3 c =
     let l = c .before .before .loop in
     let a = c .before .before .before .before .args in
     let i = l .inv .1 in
-    let e = whole (a .curves) (a .tests) (now (a .plan)) (l .k) (l .at) (l .inv .0) (i .behind) (c .before .loop-test .left) (c .if2 .left) in
+    let e = whole (a .curves) (a .tests) (now (a .plan)) (l .i) (l .at) (l .inv .0) (i .behind) (c .before .loop-test .left) (c .if2 .left) in
     (part-read (a .curves) (a .tests) (now (a .plan)) (a .position) _ _ _ _ e (i .part), (i .part .low, i .part .high))
 
 pub find-step-spec : {M : Type 1} → statement M
@@ -90,7 +86,7 @@ find-step-spec =
     enum-told
     returns
     enum-known-next
-    add-k
+    add-i
     loop-less
     loop-again
     returns-2

@@ -8,7 +8,6 @@ use Rattle.bitset.specs.Set.{_∪_}
 use denote.Ref.{now}
 use borrow.Author.Needs.{needs}
 use Rattle.job.specs.SetBytes.{readGroups}
-use Rattle.job.specs.declared.set_bytes.GroupRead.the-variants.{Curves}
 use Rattle.job.proofs.GroupByte.{Answers}
 use Rattle.job.proofs.Turns.{groups-end}
 use Rattle.plan_bytes.specs.Answers.{setOutcome}

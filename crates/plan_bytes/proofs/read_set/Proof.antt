@@ -1,8 +1,6 @@
 -- `plan_bytes::read_set` meets its contract: one law of `Reading` a case.
-use mathlib.Core.Path.{_≡_, sym, _∙_}
-use Prim.Native.Nat.{_<_}
+use mathlib.Core.Path.{sym, _∙_}
 use native.Mathlib.Omega.{arith}
-use lib.ListN.{getD}
 use denote.Ref.{now}
 use borrow.Author.Needs.{needs}
 use Rattle.plan_bytes.specs.Answers.{setOutcome}

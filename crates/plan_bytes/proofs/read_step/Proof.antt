@@ -1,7 +1,7 @@
 -- `plan_bytes::read_step` meets its contract: one law of `Reading` a case.
 use borrow.Author.Needs.{needs}
-use mathlib.Core.Path.{_≡_, sym, _∙_}
-use Prim.Native.Nat.{_+_, _%_, _<_}
+use mathlib.Core.Path.{_≡_, sym}
+use Prim.Native.Nat.{_+_, _%_}
 use native.Mathlib.Omega.{arith}
 use lib.ListN.{getD, drop}
 use Rattle.bitset.specs.Set.{bit}
@@ -9,7 +9,7 @@ use Rattle.job.specs.Refusal.{done}
 use Rattle.job.specs.SetBytes.{got}
 use Rattle.plan_bytes.specs.PlanBytes.{readSet}
 use denote.Ref.{now}
-use Rattle.plan_bytes.specs.Answers.{setOutcome, stepOutcome}
+use Rattle.plan_bytes.specs.Answers.{stepOutcome}
 use Rattle.plan_bytes.proofs.Reading.{set-answered, set-refused, step-cut, step-low, step-high, drops-faulty, loads-faulty, test-cut, test-unknown, step-whole}
 use Rattle.plan_bytes.proofs.read_step.Statement.{statement}
 use Rattle.plan_bytes.proofs.read_step.Tie as tie

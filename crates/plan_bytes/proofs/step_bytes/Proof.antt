@@ -1,11 +1,8 @@
 -- `plan_bytes::step_bytes` meets its contract.
-use mathlib.Core.Path.{_≡_, refl}
+use mathlib.Core.Path.{refl}
 use borrow.Author.Needs.{needs}
 use Rattle.plan_bytes.proofs.step_bytes.Statement.{statement}
 use Rattle.plan_bytes.proofs.step_bytes.Tie as tie
-use Rattle.plan_bytes.proofs.step_bytes.Reads as reads
-use Rattle.plan_bytes.proofs.step_bytes.Lts as lts
-use Rattle.plan_bytes.proofs.step_span.Reads as step-span-reads
 
 step-span-requires : tie.Need-step-span-requires
 step-span-requires c κs = search needs

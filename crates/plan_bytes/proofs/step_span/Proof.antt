@@ -1,5 +1,5 @@
 -- `plan_bytes::step_span` meets its contract.
-use mathlib.Core.Path.{_≡_, _∙_}
+use mathlib.Core.Path.{_∙_}
 use native.Mathlib.Omega.{arith}
 use denote.Ref.{now}
 use Rattle.job.proofs.Examination.{examined-refused, examined-passed}
@@ -8,10 +8,6 @@ use Rattle.plan_bytes.proofs.Fetching.{part-uncounted, part-counted}
 use borrow.Author.Needs.{needs}
 use Rattle.plan_bytes.proofs.step_span.Statement.{statement}
 use Rattle.plan_bytes.proofs.step_span.Tie as tie
-use Rattle.plan_bytes.proofs.step_span.Reads as reads
-use Rattle.plan_bytes.proofs.step_span.Lts as lts
-use Rattle.job.proofs.examine_counts.Reads as examine-counts-reads
-use Rattle.plan_bytes.proofs.find_step.Reads as find-step-reads
 
 examine-counts-requires : tie.Need-examine-counts-requires
 examine-counts-requires c κs = search needs

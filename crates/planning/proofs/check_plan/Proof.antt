@@ -1,10 +1,10 @@
 -- `check_plan` meets its contract: the examinations in the rule's sequence, and then the steps.
-use mathlib.Core.Path.{_≡_, refl, sym, ap, _∙_}
-use Prim.Native.Nat.{ℕ, _≤_, _-_, _^_, min}
+use mathlib.Core.Path.{_≡_, sym, ap, _∙_}
+use Prim.Native.Nat.{ℕ, _-_, _^_, min}
 use native.Mathlib.Omega.{arith}
 use lib.ListN.{length}
 use denote.Ref.{now}
-use Rattle.job.specs.Refusal.{done, mapped, countOutcome, number, figure}
+use Rattle.job.specs.Refusal.{done, mapped, countOutcome}
 use Rattle.job.specs.Handed.{jobKnown, allCurves}
 use Rattle.job.proofs.Examination.{examined-refused, examined-passed}
 use Rattle.planning.specs.Order.{orderKnown}

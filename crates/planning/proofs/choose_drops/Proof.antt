@@ -1,10 +1,10 @@
 -- `choose_drops` meets its contract. The invariant: all victims are those chosen and as many more of the candidates left as are still to be dropped.
 use mathlib.Core.Path.{_≡_, refl, sym, ap, _∙_}
 use mathlib.Core.List.{List}
-use Prim.Native.Nat.{ℕ, zero, suc, _+_, _≤_, _<_, _-_, _^_}
+use Prim.Native.Nat.{ℕ, zero, suc, _≤_, _<_, _-_, _^_}
 use native.Mathlib.Omega.{arith}
 use borrow.Author.Needs.{needs}
-use lib.ListN.{length, getD}
+use lib.ListN.{getD}
 use denote.Ref.{now}
 use Rattle.bitset.specs.Set.{_∪_, _∖_, size, bit}
 use Rattle.bitset.proofs.Bits.{bit-∖, size-empty}

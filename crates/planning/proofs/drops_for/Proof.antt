@@ -1,10 +1,8 @@
 -- `drops_for` meets its contract.
-use mathlib.Core.Path.{_≡_, refl, sym, ap, _∙_}
-use Prim.Native.Nat.{ℕ, _≤_, _-_}
-use native.Mathlib.Omega.{arith}
+use mathlib.Core.Path.{sym, ap, _∙_}
 use denote.Ref.{now}
-use Rattle.bitset.specs.Set.{_∪_, _∖_, size}
-use Rattle.planning.specs.Plan.{furthest, victims, dropsFor}
+use Rattle.bitset.specs.Set.{size}
+use Rattle.planning.specs.Plan.{furthest, dropsFor}
 use Rattle.planning.proofs.Turns.{no-drops, excess-fits}
 use borrow.Author.Needs.{needs}
 use Rattle.planning.proofs.drops_for.Statement.{statement}

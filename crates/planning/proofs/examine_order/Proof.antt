@@ -1,6 +1,6 @@
 -- `examine_order` meets its contract. The invariant: a flag is set for each test of the first i positions, and the whole examination comes to that of the rest.
 use mathlib.Core.Path.{_≡_, refl, sym, _∙_}
-use mathlib.Core.Bool.{true, false}
+use mathlib.Core.Bool.{false}
 use Prim.Native.Nat.{ℕ, _≤_, _<_, _-_}
 use native.Mathlib.Omega.{arith}
 use native.Mathlib.Numerals.{add-one}

@@ -1,9 +1,9 @@
 -- `examine_sets` meets its contract.
-use mathlib.Core.Path.{_≡_, refl, sym, ap, _∙_}
+use mathlib.Core.Path.{_≡_, sym, ap, _∙_}
 use mathlib.Core.Logic.{⊎-elim}
 use Prim.Native.Nat.{ℕ, min}
 use borrow.Author.Needs.{needs}
-use Rattle.job.specs.Refusal.{refused, examinedOutcome, number, figure}
+use Rattle.job.specs.Refusal.{examinedOutcome, number, figure}
 use Rattle.planning.proofs.Sequence.{sets-known, sets-drops, sets-loads}
 use Rattle.planning.proofs.examine_sets.Statement.{statement}
 use Rattle.planning.proofs.examine_sets.Tie as tie

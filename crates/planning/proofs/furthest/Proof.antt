@@ -3,7 +3,7 @@ use mathlib.Core.Bool.{Bool, true, false}
 use mathlib.Core.Path.{_≡_, refl, sym, ap, subst, _∙_}
 use mathlib.Core.List.{List}
 use mathlib.Core.Logic.{⊎-elim}
-use Prim.Native.Nat.{ℕ, zero, suc, _≤_, _<_, _-_, _^_}
+use Prim.Native.Nat.{ℕ, zero, suc, _≤_, _<_, _^_}
 use native.Mathlib.Omega.{arith}
 use borrow.Author.Needs.{needs}
 use lib.ListN.{getD}
@@ -12,11 +12,10 @@ use denote.Ref.{now}
 use Rattle.bitset.specs.Set.{bit}
 use Rattle.bitset.proofs.Element.{lowest-in, lowest-lt}
 use Rattle.job.specs.Choice.{nobody, found, keep, bestOf}
-use Rattle.planning.specs.declared.NextUse.{NextUse}
 use Rattle.planning.specs.declared.NextUse.the-variants.{At, Never}
 use Rattle.planning.specs.declared.Candidate.{Candidate}
 use Rattle.planning.specs.Plan.{nextUse, further, furthest}
-use Rattle.planning.proofs.Scan.{rest-less, From, from-start, from-below, from-in, from-next, scanned, scan-end, scan-first, scan-next}
+use Rattle.planning.proofs.Scan.{rest-less, From, from-start, from-in, from-next, scanned, scan-end, scan-first, scan-next}
 use Rattle.planning.proofs.furthest.Statement.{statement}
 use Rattle.planning.proofs.furthest.Tie as tie
 

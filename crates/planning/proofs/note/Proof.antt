@@ -1,5 +1,5 @@
 use mathlib.Core.Path.{_≡_, refl, sym, ap, _∙_}
-use Prim.Native.Nat.{ℕ, _≤_, _<_, _-_, _^_}
+use Prim.Native.Nat.{ℕ, _<_, _^_}
 use native.Mathlib.Omega.{arith}
 use native.Mathlib.Decide.{ℕ-discrete}
 use borrow.Author.Needs.{needs, set-long}
@@ -7,11 +7,10 @@ use mathlib.Core.List.{List}
 use lib.ListN.{length, getD, set}
 use lib.Seq.{getD-set-same, getD-set-other}
 use lib.Count.{trailingZeros}
-use denote.Ref.{now}
 use Rattle.bitset.specs.Set.{_∖_, bit}
 use Rattle.bitset.proofs.Bits.{bit-∖, bit-empty}
 use Rattle.bitset.proofs.Element.{lowest-in, lowest-lt}
-use Rattle.planning.proofs.Scan.{rest-less, rest-same, rest-other}
+use Rattle.planning.proofs.Scan.{rest-less, rest-other}
 use Rattle.planning.proofs.note.Statement.{statement}
 use Rattle.planning.proofs.note.Tie as tie
 

@@ -1,20 +1,17 @@
 -- `plan` meets its contract: the examinations in the rule's sequence, and then the steps.
-use mathlib.Core.Path.{_≡_, refl, sym, ap, _∙_}
-use mathlib.Core.List.{List}
-use Prim.Native.Nat.{ℕ, _≤_, _<_}
+use mathlib.Core.Path.{_≡_}
+use Prim.Native.Nat.{_≤_}
 use native.Mathlib.Omega.{arith}
-use lib.ListN.{length, getD, take}
+use lib.ListN.{length, take}
 use lib.Seq.{length-take-le}
 use denote.Ref.{now}
-use Rattle.bitset.specs.Set.{size}
-use Rattle.job.specs.Refusal.{done, countOutcome, number, figure, overwritten}
+use Rattle.job.specs.Refusal.{done, countOutcome, number, figure}
 use Rattle.job.specs.Handed.{jobKnown, wantsFit}
 use Rattle.job.proofs.Examination.{examined-refused, examined-passed}
 use Rattle.planning.specs.Order.{orderKnown}
-use Rattle.planning.specs.Plan.{inOrder, loadCount, furthest, dropSets, loadSets}
-use Rattle.planning.proofs.Turns.{length-inOrder}
+use Rattle.planning.specs.Plan.{inOrder}
 use Rattle.planning.proofs.Sequence.{job-of, order-long, order-below}
-use Rattle.planning.proofs.Planned.{refused-contract, done-contract, plan-job, plan-order, plan-sizes, plan-drops, plan-loads, plan-done, step-sizes, same-plan}
+use Rattle.planning.proofs.Planned.{refused-contract, steps-contract, plan-job, plan-order, plan-sizes, plan-drops, plan-loads, steps-asked}
 use borrow.Author.Needs.{needs}
 use Rattle.planning.proofs.plan.Statement.{statement}
 use Rattle.planning.proofs.plan.Tie as tie
@@ -129,10 +126,12 @@ in-order-requires c κs =
     (omega (arith, order-long _ _ (order-passed k), job-of _ _ _ (job-passed j) .tests-bounds), order-below _ _ (order-passed k))
 
 array-share-prefix-steps : tie.Need-array-share-prefix-steps
-array-share-prefix-steps c = enough c
+array-share-prefix-steps c = omega (arith, enough c)
 
 slice-aggregate-plan-steps : tie.Need-slice-aggregate-plan-steps
-slice-aggregate-plan-steps c = let a = c .before .before .before .before .before .before .before .before .before .before .before .before .before .before .before .before .before .before .before .args in sym (length-take-le (length (now (a .wants))) (c .before .before .in-order .last .1 .1 .0) (enough (c .before)))
+slice-aggregate-plan-steps c =
+    let a = c .before .before .before .before .before .before .before .before .before .before .before .before .before .before .before .before .before .before .before .args in
+    omega (arith, length-take-le (length (now (a .wants))) (c .before .before .in-order .last .1 .1 .0) (enough (c .before)))
 
 plan-steps-requires : tie.Need-plan-steps-requires
 plan-steps-requires c κs =
@@ -140,14 +139,7 @@ plan-steps-requires c κs =
     let k = t .before .before .before in
     let j = k .before .before .before in
     let a = j .before .before .before .before .before .before .before .args in
-    let long : length (inOrder (now (a .wants)) (now (a .order))) ≡ length (now (a .wants)) = length-inOrder (now (a .wants)) (now (a .order)) ∙ order-long _ _ (order-passed k) in
-    rw (steps-are (c .before .before .before .before)) (
-      omega (arith, job-of _ _ _ (job-passed j) .tests-bounds),
-      (
-        omega (arith, c .before .before .before .before .before .before .before .if1 .left),
-        (omega (arith, c .before .before .before .before .before .before .if2 .left), step-sizes (a .places) (a .curves) (now (a .wants)) (now (a .order)) (now (a .drops)) (now (a .loads)) (job-passed j) (order-passed k) (sizes-passed t)),
-      ),
-    )
+    steps-asked (a .places) (a .curves) (now (a .wants)) (now (a .order)) (now (a .drops)) (now (a .loads)) (job-passed j) (order-passed k) (sizes-passed t) (c .before .before .before .before .before .before .before .if1 .left) (c .before .before .before .before .before .before .if2 .left) _ (steps-are (c .before .before .before .before))
 
 same-length : tie.Need-same-length
 same-length c = search needs
@@ -163,16 +155,8 @@ returns-6 c =
     let j = k .before .before .before in
     let a = j .before .before .before .before .before .before .before .args in
     let p = c .before .before .before .before .plan-steps in
-    let steps = inOrder (now (a .wants)) (now (a .order)) in
-    let are = steps-are (c .before .before .before .before .before .before .before .before .before) in
-    let same = same-plan (a .places) (a .curves) (now (a .wants)) (now (a .order)) (now (a .drops)) (now (a .loads)) (job-passed j) (order-passed k) (sizes-passed t) in
-    let count : p .result ≡ loadCount (loadSets (furthest (a .curves)) (a .places) 0 steps) =
-    p .ensures .0 ∙ ap (λ (ws : List ℕ). loadCount (loadSets (furthest 64) (a .places) 0 ws)) are ∙ ap loadCount (same .1) in
-    let ds : p .last .1 .1 .1 .0 ≡ overwritten (dropSets (furthest (a .curves)) (a .places) 0 steps) (now (a .drops)) =
-    p .ensures .1 .0 ∙ ap (λ (ws : List ℕ). overwritten (dropSets (furthest 64) (a .places) 0 ws) (now (a .drops))) are ∙ ap (λ (new : List ℕ). overwritten new (now (a .drops))) (same .0) in
-    let ls : p .last .1 .1 .1 .1 .0 ≡ overwritten (loadSets (furthest (a .curves)) (a .places) 0 steps) (now (a .loads)) =
-    p .ensures .1 .1 ∙ ap (λ (ws : List ℕ). overwritten (loadSets (furthest 64) (a .places) 0 ws) (now (a .loads))) are ∙ ap (λ (new : List ℕ). overwritten new (now (a .loads))) (same .1) in
-    rw (count, ds, ls) (done-contract (a .places) (a .curves) (now (a .wants)) (now (a .order)) (now (a .drops)) (now (a .loads)) (plan-done (a .places) (a .curves) (now (a .wants)) (now (a .order)) (now (a .drops)) (now (a .loads)) (job-passed j) (order-passed k) (sizes-passed t) (c .before .before .before .before .before .before .before .before .before .before .before .before .if1 .left) (c .before .before .before .before .before .before .before .before .before .before .before .if2 .left)))
+    steps-contract (a .places) (a .curves) (now (a .wants)) (now (a .order)) (now (a .drops)) (now (a .loads)) (job-passed j) (order-passed k) (sizes-passed t) (c .before .before .before .before .before .before .before .before .before .before .before .before .if1 .left) (c .before .before .before .before .before .before .before .before .before .before .before .if2 .left) _ _ _ _
+    (steps-are (c .before .before .before .before .before .before .before .before .before)) (p .ensures .0) (p .ensures .1 .0) (p .ensures .1 .1)
 
 pub plan-spec : {M : Type 1} → statement M
 plan-spec =

@@ -15,8 +15,9 @@ use Rattle.job.specs.Refusal.{Outcome, refused, number, figure}
 use Rattle.job.specs.SetBytes.{Got, got, readGroups}
 use Rattle.job.specs.JobBytes.{readRecords}
 use Rattle.job.proofs.Turns.{group-absent, groups-end, records-end}
+use Rattle.job.proofs.Encoding.{rest-is, rest-long}
 use Rattle.job.proofs.GroupByte.{Answers, owed-end, answer-owed, answer-empty, answer-unknown, answer-curves}
-use Rattle.job.proofs.Records.{rest-is, rest-long, record-none, record-fault, record-read, list-more, LeftWith, left-refused, left-passed, promise-refused, promise-done}
+use Rattle.job.proofs.Records.{record-none, record-fault, record-read, list-more, LeftWith, left-refused, left-passed, promise-refused, promise-done}
 use Rattle.job.proofs.reading.read_records.Statement.{statement}
 use Rattle.job.proofs.reading.read_records.Tie as tie
 

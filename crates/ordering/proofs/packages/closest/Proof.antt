@@ -1,51 +1,43 @@
 -- `packages::closest` meets its contract. Invariant: the pair is the closest of those whose first is before i.
-use mathlib.Core.Path.{_≡_, sym, ap, _∙_}
+use mathlib.Core.Path.{_≡_, sym, _∙_}
 use mathlib.Core.Bool.{Bool}
 use mathlib.Core.Logic.{⊎-elim}
-use Prim.Native.Nat.{ℕ, _≤_, _-_, _+_}
+use Prim.Native.Nat.{ℕ, _≤_, _<_, _-_}
 use native.Mathlib.Omega.{arith}
 use native.Mathlib.Numerals.{add-one}
-use lib.Dec.{leb}
 use lib.ListN.{length, getD}
 use borrow.Author.Needs.{needs}
 use denote.Ref.{now}
-use Rattle.bitset.specs.Set.{size}
-use Rattle.ordering.specs.Methods.{common, shared, bestPair}
+use Rattle.ordering.specs.Methods.{bestPair}
 use Rattle.ordering.proofs.PackageRows as rows
 use Rattle.ordering.proofs.packages.closest.Statement.{statement}
 use Rattle.ordering.proofs.packages.closest.Tie as tie
 
 abbrev Inv-loop : tie.InvT-loop
-Inv-loop bound curves first₀ second₀ most₀ i₀ first second most i = record { turns : i ≤ length curves; best : bestPair (λ u. leb (size u) bound) curves i ≡ rows.chosen first second; count : most ≡ rows.score curves first second }
+Inv-loop curves partners first₀ second₀ most₀ i₀ first second most i = record { turns : i ≤ length partners; count : most ≡ rows.score curves first second; best : (fits : ℕ → Bool) → ((k : ℕ) → k < length curves → rows.rowTo fits curves k (length curves) ≡ rows.chosen k (getD partners k 0)) → bestPair fits curves i ≡ rows.chosen first second }
 
 abbrev μ-loop : tie.MeasureT-loop
-μ-loop bound curves first₀ second₀ most₀ i₀ first second most i = length curves - i
+μ-loop curves partners first₀ second₀ most₀ i₀ first second most i = length partners - i
 
 loop-holds : tie.Need-loop-holds Inv-loop μ-loop
 loop-holds c =
-    let a = c .before .args in
-    record { turns = omega arith; best = rows.pair-start (λ u. leb (size u) (a .bound)) (now (a .curves)); count = sym (rows.score-none (now (a .curves)) 0) }
+    let cs = now (c .before .before .args .curves) in
+    record { turns = omega arith; count = sym (rows.score-none cs 0); best = λ fits h. rows.pair-start fits cs }
 
-best-partner-requires : tie.Need-best-partner-requires Inv-loop μ-loop
-best-partner-requires c κs = search needs
+mul-score : tie.Need-mul-score Inv-loop μ-loop
+mul-score c = search needs
 
-mul-shared : tie.Need-mul-shared Inv-loop μ-loop
-mul-shared c = search needs
+shared-slice-read-score : tie.Need-shared-slice-read-score Inv-loop μ-loop
+shared-slice-read-score c = search needs
 
-shared-slice-read-shared : tie.Need-shared-slice-read-shared Inv-loop μ-loop
-shared-slice-read-shared c = search needs
+score-requires : tie.Need-score-requires Inv-loop μ-loop
+score-requires c κs = search needs
 
-entry-requires : tie.Need-entry-requires Inv-loop μ-loop
-entry-requires c κs = search needs
+mul-second : tie.Need-mul-second Inv-loop μ-loop
+mul-second c = search needs
 
-shared-requires : tie.Need-shared-requires Inv-loop μ-loop
-shared-requires c κs = search needs
-
-add-common : tie.Need-add-common Inv-loop μ-loop
-add-common c =
-    let k = c .before .before .before .before .before .before in
-    let few = rows.few-shared (getD (now (k .before .before .args .curves)) (k .loop .i) 0) _ (c .shared .result) (c .before .before .shared-slice-known2 .given (k .loop .i) .fits) (c .shared .ensures) in
-    omega arith
+shared-slice-read-second : tie.Need-shared-slice-read-second Inv-loop μ-loop
+shared-slice-read-second c = search needs
 
 add-i : tie.Need-add-i Inv-loop μ-loop
 add-i c = search needs
@@ -55,46 +47,33 @@ loop-less c = search needs
 
 loop-again : tie.Need-loop-again Inv-loop μ-loop
 loop-again c =
-    let k = c .before .before .before in
-    let a = k .before .before .args in
+    let k = c .before .before .before .before in
+    let a = k .before .before .before .args in
     let cs = now (a .curves) in
-    let fits : ℕ → Bool = λ u. leb (size u) (a .bound) in
     let i = k .loop .i in
-    let j = c .before .best-partner .result in
+    let j = getD (now (a .partners)) i 0 in
     let v = k .loop .inv in
-    let row = c .before .best-partner .ensures in
+    let l : i < length cs = omega (arith, k .before .before .before .pre) in
+    let e : c .before .score .result ≡ rows.score cs i j = c .before .score .ensures ∙ rows.score-as cs i j in
     ⊎-elim
-    (λ w.
-    let e : w .3 .result ≡ common (getD cs i 0) (getD cs j 0) = w .3 .ensures ∙ ap (λ (x : ℕ). common (getD cs i 0) x) (w .2 .ensures) in
-    record {
+    (λ w. record {
       turns = omega arith;
-      best = rw (w .5, w .6, add-one i) (rows.pair-more fits cs i j (k .loop .first) (k .loop .second) (k .loop .most) (v .best) row (w .0 .taken) (v .count) (omega (arith, e, w .4 .taken)));
-      count = rw (w .5, w .6, w .7) (ap (λ (n : ℕ). 1 + n) e ∙ sym (rows.score-some cs i j (w .0 .taken)));
+      count = rw (w .2, w .3, w .4) e;
+      best = λ fits h. rw (w .2, w .3, add-one i) (rows.pair-take fits cs i j (k .loop .first) (k .loop .second) (k .loop .most) (v .best fits h) (h i l) (v .count) (omega (arith, e, w .0 .taken)));
     })
-    (λ o.
-    ⊎-elim
-    (λ w.
-    let e : w .3 .result ≡ common (getD cs i 0) (getD cs j 0) = w .3 .ensures ∙ ap (λ (x : ℕ). common (getD cs i 0) x) (w .2 .ensures) in
-    record {
+    (λ w. record {
       turns = omega arith;
-      best = rw (w .5, w .6, add-one i) (rows.pair-keep fits cs i j (k .loop .first) (k .loop .second) (k .loop .most) (v .best) row (w .0 .taken) (v .count) (omega (arith, e, w .4 .left)));
-      count = rw (w .5, w .6, w .7) (v .count);
-    })
-    (λ w.
-    record {
-      turns = omega arith;
-      best = rw (w .1, w .2, add-one i) (rows.pair-none fits cs i j (k .loop .first) (k .loop .second) (k .loop .most) (v .best) row (omega (arith, w .0 .left)));
       count = rw (w .1, w .2, w .3) (v .count);
+      best = λ fits h. rw (w .1, w .2, add-one i) (rows.pair-stay fits cs i j (k .loop .first) (k .loop .second) (k .loop .most) (v .best fits h) (h i l) (v .count) (omega (arith, e, w .0 .left)));
     })
-    o)
     (c .if1 .came)
 
 returns : tie.Need-returns Inv-loop μ-loop
 returns c =
     let k = c .before in
-    let a = k .before .before .args in
-    let e : length (now (a .curves)) ≡ k .loop .i = omega arith in
-    rw e (k .loop .inv .best)
+    let a = k .before .before .before .args in
+    let e : length (now (a .curves)) ≡ k .loop .i = omega (arith, k .before .before .before .pre) in
+    λ fits h. rw e (k .loop .inv .best fits h)
 
 pub closest-spec : {M : Type 1} → statement M
 closest-spec =
@@ -103,12 +82,11 @@ closest-spec =
     Inv-loop
     μ-loop
     loop-holds
-    best-partner-requires
-    mul-shared
-    shared-slice-read-shared
-    entry-requires
-    shared-requires
-    add-common
+    mul-score
+    shared-slice-read-score
+    score-requires
+    mul-second
+    shared-slice-read-second
     add-i
     loop-less
     loop-again

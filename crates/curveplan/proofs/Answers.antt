@@ -1,0 +1,104 @@
+-- What the call answers: which refusals come out, that counts and refusals never meet, and that the bytes written are a plan with the fewest loads.
+use mathlib.Core.Path.{_≡_, refl, sym, ap, _∙_}
+use mathlib.Core.Logic.{_⊎_, inl, inr}
+use mathlib.Core.Bool.{Bool, true, false}
+use mathlib.Core.List.{List, map}
+use Prim.Native.Nat.{ℕ, _+_, _*_, _/_, _%_, _≤_, _<_}
+use native.Mathlib.Omega.{arith}
+use lib.Dec.{leb}
+use lib.ListN.{length, getD}
+use Rattle.bitset.specs.Set.{size}
+use Rattle.job.specs.Refusal.{Outcome, done, refused, _>>=_, _>>_, demand, room}
+use Rattle.job.specs.Handed.{each, wantsFit}
+use Rattle.job.specs.JobBytes.{Job, readBytes}
+use Rattle.job.proofs.Laws.{refused≢done, done-same, both-done, each-cases}
+use Rattle.job.proofs.Refuses.{Refuses, refuses, refuses-demand, refuses-both}
+use Rattle.job.proofs.SetRoundTrip.{Bytes}
+use Rattle.job.proofs.ReadExact.{ReadJob, read-exact}
+use Rattle.job.proofs.JobBounds.{figure-short}
+use Rattle.planning.specs.Plan.{loadCount}
+use Rattle.planning.specs.Planning.{ourPlan, checking}
+use Rattle.planning.proofs.Demand3.{our-least}
+use Rattle.plan_bytes.specs.PlanBytes.{Placed, planSteps, writePlan}
+use Rattle.plan_bytes.proofs.PlanRoundTrip.{plan-back}
+use Rattle.plan_bytes.proofs.PlanLength.{passed-length}
+use Rattle.curveplan.specs.Call.{jobToPlan, numberOf, callAnswer}
+use Rattle.curveplan.proofs.Composed.{orderOf, planOf, bytesOf, checked, call-written, call-too-large, call-unread}
+use Rattle.curveplan.proofs.ReadRefuses.{ByReading, read-refuses}
+
+-- a test that wants more curves than there are places, or none
+sizes : (places : ℕ) (wants : List ℕ) → (wantsFit places wants ≡ done tt) ⊎ ((t : ℕ) × (t < length wants) × (wantsFit places wants ≡ refused 7 t))
+unfolding wantsFit
+sizes places wants = go (each-cases (λ w. leb (size w) places) 7 0 wants)
+  where
+    go : (each (λ w. leb (size w) places) 7 0 wants ≡ done tt)
+        ⊎ ((t : ℕ) × (t < length wants) × (leb (size (getD wants t 0)) places ≡ false) × (each (λ w. leb (size w) places) 7 0 wants ≡ refused 7 (0 + t)))
+        → (each (λ w. leb (size w) places) 7 0 wants ≡ done tt) ⊎ ((t : ℕ) × (t < length wants) × (each (λ w. leb (size w) places) 7 0 wants ≡ refused 7 t))
+    go (inl e) = inl e
+    go (inr x) = let z : 0 + x .0 ≡ x .0 = omega arith in inr (x .0, x .1, x .3 ∙ ap (refused 7) z)
+
+-- 8, 10, 11 and 12 never come out, and a figure takes no more than 16 bits
+abbrev pub CallRefusal : ℕ → ℕ → Type 0
+CallRefusal k i = (((1 ≤ k) × (k ≤ 7)) ⊎ (k ≡ 9)) × (i ≤ 5120)
+
+module _ (bs : List ℕ) (all : Bytes bs) (lent : ℕ) where
+  pub call-refuses : Refuses CallRefusal (jobToPlan bs lent)
+  call-refuses = go (readBytes bs) refl
+    where
+      by-size : (j : Job) → readBytes bs ≡ done j
+          → (wantsFit (j .head .places) (j .wants) ≡ done tt) ⊎ ((t : ℕ) × (t < length (j .wants)) × (wantsFit (j .head .places) (j .wants) ≡ refused 7 t)) → Refuses CallRefusal (jobToPlan bs lent)
+      by-size j e (inl f) =
+          rw (call-written bs j all e f lent)
+          (refuses-both CallRefusal (room lent (length (bytesOf j))) (done (bytesOf j)) (unfold room in refuses-demand CallRefusal _ 9 (length (bytesOf j)) (inr refl, passed-length _ _ _ _ _ _ _ (checked j (read-exact bs j all e) f))) tt)
+      by-size j e (inr x) =
+          let r : ReadJob j = read-exact bs j all e in
+          rw (call-too-large bs j all e 7 (x .0) (x .2) lent) (inl (omega arith, omega arith), omega (arith, x .1, r .is-job .tests-bounds .1))
+
+      go : (o : Outcome Job) → readBytes bs ≡ o → Refuses CallRefusal (jobToPlan bs lent)
+      go (refused k i) e =
+          let n = refuses ByReading (readBytes bs) k i (read-refuses bs) e in
+          rw (call-unread bs k i e lent) (inl (n .0, omega (arith, n .1)), omega (arith, figure-short bs k i e .0))
+      go (done j) e = by-size j e (sizes (j .head .places) (j .wants))
+
+  -- THE BYTES WRITTEN read back to a plan that passes the check, for the method's order, and no plan for that order that passes has fewer loads
+  pub record Planned (plan : List ℕ) : Type 0 where
+    pub job : Job
+    pub read : readBytes bs ≡ done job
+    pub steps : List Placed
+    pub reads-back : planSteps (job .head .curves) (length (job .wants)) plan ≡ done steps
+    pub in-order : map (λ s. s .step .test) steps ≡ orderOf job
+    pub count : ℕ
+    pub passes : checking (job .head .places) (job .head .curves) (job .wants) (orderOf job) (map (λ s. s .step .drops) steps) (map (λ s. s .step .loads) steps) ≡ done count
+    pub least : (drops loads : List ℕ) (m : ℕ) → checking (job .head .places) (job .head .curves) (job .wants) (orderOf job) drops loads ≡ done m → count ≤ loadCount loads
+
+  pub call-planned : (plan : List ℕ) → jobToPlan bs lent ≡ done plan → Planned plan
+  unfolding ourPlan
+  call-planned plan p = go (readBytes bs) refl
+    where
+      by-size : (j : Job) → readBytes bs ≡ done j
+          → (wantsFit (j .head .places) (j .wants) ≡ done tt) ⊎ ((t : ℕ) × (t < length (j .wants)) × (wantsFit (j .head .places) (j .wants) ≡ refused 7 t)) → Planned plan
+      by-size j e (inr x) = absurd (refused≢done (sym (call-too-large bs j all e 7 (x .0) (x .2) lent) ∙ p))
+      by-size j e (inl f) =
+          let r : ReadJob j = read-exact bs j all e in
+          let c = checked j r f in
+          let w : writePlan (j .head .places) (j .head .curves) (j .wants) (orderOf j) (planOf j .drops) (planOf j .loads) lent ≡ done plan =
+          written c ∙ sym (call-written bs j all e f lent) ∙ p in
+          let b = plan-back (j .head .places) (j .head .curves) (j .wants) (orderOf j) (planOf j .drops) (planOf j .loads) lent plan w in
+          record {
+            job = j;
+            read = e;
+            steps = b .0;
+            reads-back = b .1;
+            in-order = b .2;
+            count = loadCount (planOf j .loads);
+            passes = rw (b .3, b .4) c;
+            least = λ ds ls m q. our-least (j .head .places) (j .head .curves) (j .wants) (orderOf j) ds ls m q;
+          }
+        where
+          written : checking (j .head .places) (j .head .curves) (j .wants) (orderOf j) (planOf j .drops) (planOf j .loads) ≡ done (loadCount (planOf j .loads))
+              → writePlan (j .head .places) (j .head .curves) (j .wants) (orderOf j) (planOf j .drops) (planOf j .loads) lent ≡ _>>_ (room lent (length (bytesOf j))) (done (bytesOf j))
+          written c = unfold writePlan _>>=_ in (rw c refl)
+
+      go : (o : Outcome Job) → readBytes bs ≡ o → Planned plan
+      go (refused k i) e = absurd (refused≢done (sym (call-unread bs k i e lent) ∙ p))
+      go (done j) e = by-size j e (sizes (j .head .places) (j .wants))

@@ -1,0 +1,50 @@
+-- How long plan bytes are: a step takes at most 1 + 9 + 9 + 1 = 20 of them.
+use mathlib.Core.Path.{_≡_, ap}
+use mathlib.Core.List.{List, [], _∷_, map}
+use Prim.Native.Nat.{ℕ, _*_, _≤_}
+use native.Mathlib.Omega.{arith}
+use lib.ListN.{length, length-append, length-map}
+use Rattle.job.specs.Refusal.{done}
+use Rattle.job.proofs.Laws.{done-same, both-done, bind-done}
+use Rattle.job.proofs.SetRoundTrip.{Bytes}
+use Rattle.job.specs.Refusal.{room}
+use Rattle.job.specs.Handed.{countsKnown}
+use Rattle.planning.specs.Plan.{steps}
+use Rattle.planning.specs.Planning.{checking}
+use Rattle.plan_bytes.specs.PlanBytes.{Placed, stepBytes, stepsBytes, planBytes, readPlanBytes, planSteps, writePlan}
+use Rattle.plan_bytes.proofs.Writing.{one, step-le, Writable, writable}
+use Rattle.plan_bytes.proofs.ReadPlan.{plan-count}
+use Rattle.plan_bytes.proofs.PlanRoundTrip.{plan-bytes-read}
+
+pub bytes-le : (ts ds ls : List ℕ) → length (planBytes ts ds ls) ≤ 20 * length ts
+unfolding steps stepsBytes
+bytes-le [] ds ls = omega arith
+bytes-le (t ∷ ts) [] ls = omega arith
+bytes-le (t ∷ ts) (d ∷ ds) [] = omega arith
+bytes-le (t ∷ ts) (d ∷ ds) (l ∷ ls) = omega (arith, bytes-le ts ds ls, step-le t d l, length-append (stepBytes (one t d l)) (planBytes ts ds ls))
+
+-- A PLAN THAT PASSES THE CHECK is written in at most 5,120 bytes
+pub passed-length : (places curves : ℕ) (wants order drops loads : List ℕ) (m : ℕ) → checking places curves wants order drops loads ≡ done m → length (planBytes order drops loads) ≤ 5120
+passed-length places curves wants order drops loads m e =
+    let w : Writable places curves wants order drops loads [] = writable places curves wants order drops loads [] m e in
+    omega (arith, bytes-le order drops loads, w .few)
+
+pub written-length : (places curves : ℕ) (wants order drops loads : List ℕ) (lent : ℕ) (bytes : List ℕ) → writePlan places curves wants order drops loads lent ≡ done bytes → length bytes ≤ 5120
+unfolding writePlan
+written-length places curves wants order drops loads lent bytes e =
+    let a = bind-done (checking places curves wants order drops loads) _ bytes e in
+    let b = both-done (room lent (length (planBytes order drops loads))) (done (planBytes order drops loads)) bytes (a .2) in
+    omega (arith, passed-length places curves wants order drops loads (a .0) (a .1), ap length (done-same (b .1)))
+
+-- A PLAN THAT READS has at most 20 bytes for each test
+pub read-length : (curves tests : ℕ) (bs : List ℕ) (ss : List Placed) → Bytes bs → planSteps curves tests bs ≡ done ss → length bs ≤ 20 * tests
+unfolding planSteps
+read-length curves tests bs ss all e =
+    let r : readPlanBytes curves tests bs ≡ done ss = both-done (countsKnown curves tests) _ ss e .1 in
+    omega (
+      arith,
+      ap length (plan-bytes-read curves tests bs ss all r),
+      plan-count curves tests bs ss r,
+      length-map ss (λ s. s .step .test),
+      bytes-le (map (λ s. s .step .test) ss) (map (λ s. s .step .drops) ss) (map (λ s. s .step .loads) ss),
+    )

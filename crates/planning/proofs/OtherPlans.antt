@@ -1,0 +1,65 @@
+-- Plans that are not ours and pass the check, with one that does not: "Loading early is allowed", "early loads and needless drops included".
+-- Two places, three curves, tests that want {0}, {1} and {0}, as listed.
+use mathlib.Core.Path.{_≡_, refl}
+use mathlib.Core.List.{List, [], _∷_}
+use Prim.Native.Nat.{ℕ}
+use lib.Count.{ones}
+use Rattle.bitset.specs.Set.{inside}
+use Rattle.job.specs.Refusal.{Outcome, done, refused, _>>=_, _>>_, mapped, demand, room}
+use Rattle.job.specs.Choice.{keep, choose, bestOf}
+use Rattle.job.specs.Handed.{between, listed, each, someTests, placesKnown, curvesKnown, testsKnown, wantsKnown, wantsFit, numbersKnown, jobKnown}
+use Rattle.planning.specs.Order.{orderFrom}
+use Rattle.planning.specs.Plan.{inOrder, loadCount, stepPasses, checkSteps, later, useBy, nextUse, further, furthest, andThen, victims, dropsFor, heldAfter, dropSets, loadSets}
+use Rattle.planning.specs.Planning.{Plan, ourPlan, planning, planAnswer, setsKnown, checking}
+
+abbrev wants : List ℕ
+wants = 1 ∷ 2 ∷ 1 ∷ []
+
+abbrev asListed : List ℕ
+asListed = 0 ∷ 1 ∷ 2 ∷ []
+
+abbrev checked : List ℕ → List ℕ → Outcome ℕ
+checked drops loads = checking 2 3 wants asListed drops loads
+
+pub record OtherPlans : Type 0 where
+  -- our plan: two loads
+  ours : _≡_ {A = Plan} (ourPlan 2 3 wants asListed) (record { drops = 0 ∷ 0 ∷ 0 ∷ []; loads = 1 ∷ 2 ∷ 0 ∷ [] })
+  ours-passes : checked (0 ∷ 0 ∷ 0 ∷ []) (1 ∷ 2 ∷ 0 ∷ []) ≡ done 2
+  ours-counts : planAnswer 2 3 wants asListed (0 ∷ 0 ∷ 0 ∷ []) (0 ∷ 0 ∷ 0 ∷ []) ≡ done 2
+  -- curve 1 is loaded early, in step 0
+  early : checked (0 ∷ 0 ∷ 0 ∷ []) (3 ∷ 0 ∷ 0 ∷ []) ≡ done 2
+  -- curve 2, which no test wants, is loaded in step 0 and dropped in step 1
+  unneeded : checked (0 ∷ 4 ∷ 0 ∷ []) (5 ∷ 2 ∷ 0 ∷ []) ≡ done 3
+  -- curve 0 is dropped in step 1 without need, and loaded again
+  needless-drop : checked (0 ∷ 1 ∷ 0 ∷ []) (1 ∷ 2 ∷ 1 ∷ []) ≡ done 3
+  -- curve 0 is dropped and loaded in the same step, which wants it
+  reloaded : checked (0 ∷ 0 ∷ 1 ∷ []) (1 ∷ 2 ∷ 1 ∷ []) ≡ done 3
+  -- a curve is held that is loaded again; a drop is not held; a curve is foreign; a want is missing; there are more than the places
+  held-load : checked (0 ∷ 0 ∷ 0 ∷ []) (1 ∷ 3 ∷ 0 ∷ []) ≡ refused 12 1
+  free-drop : checked (0 ∷ 2 ∷ 0 ∷ []) (1 ∷ 2 ∷ 0 ∷ []) ≡ refused 12 1
+  foreign : checked (0 ∷ 0 ∷ 0 ∷ []) (9 ∷ 2 ∷ 0 ∷ []) ≡ refused 12 0
+  missing : checked (0 ∷ 0 ∷ 0 ∷ []) (1 ∷ 0 ∷ 0 ∷ []) ≡ refused 12 1
+  too-many : checked (0 ∷ 0 ∷ 0 ∷ []) (5 ∷ 2 ∷ 0 ∷ []) ≡ refused 12 1
+  -- the drops end early; the loads go on
+  short : checked (0 ∷ 0 ∷ []) (1 ∷ 2 ∷ 0 ∷ []) ≡ refused 12 2
+  surplus : checked (0 ∷ 0 ∷ 0 ∷ []) (1 ∷ 2 ∷ 0 ∷ 0 ∷ []) ≡ refused 12 3
+
+pub other-plans : OtherPlans
+unfolding ones inside _>>=_ _>>_ mapped demand room keep choose bestOf between listed each someTests placesKnown curvesKnown testsKnown wantsKnown wantsFit numbersKnown jobKnown orderFrom inOrder loadCount stepPasses checkSteps later useBy nextUse further furthest andThen victims dropsFor heldAfter dropSets loadSets ourPlan planning planAnswer setsKnown checking
+other-plans =
+    record {
+      ours = refl;
+      ours-passes = refl;
+      ours-counts = refl;
+      early = refl;
+      unneeded = refl;
+      needless-drop = refl;
+      reloaded = refl;
+      held-load = refl;
+      free-drop = refl;
+      foreign = refl;
+      missing = refl;
+      too-many = refl;
+      short = refl;
+      surplus = refl;
+    }

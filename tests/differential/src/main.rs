@@ -1,0 +1,592 @@
+//! Compares every public function with the reference on random, damaged and boundary inputs.
+//!
+//!     differential [seed] [cases]      or SEED=… CASES=…
+//!     ONLY=number SEED=… differential  one case again, with its input printed
+//!     FUNCTION=name                    all cases for this one function
+//!
+//! Without the feature `product` the tuned implementation of the C call is compared, and the
+//! other functions are only counted. Ends with 1 at the first difference, with 2 if some outcome
+//! that a function can have was never reached.
+
+use differential::generate::{self, Case, FUNCTIONS};
+use differential::random::{mix, Random};
+use differential::reference::{self, Refusal};
+use differential::tuned;
+use std::collections::BTreeMap;
+use std::env;
+use std::process::exit;
+use std::time::Instant;
+
+#[cfg(feature = "product")]
+use differential::product;
+
+// ---------------------------------------------------------------------------------------------
+// What is compared
+
+/// An implementation under test. `None`: it does not offer the function.
+#[rustfmt::skip]
+trait Subject {
+    fn name(&self) -> &'static str;
+    fn read_job(&self, _job: &[u8], _wants: &mut [u64], _head: &mut [u64; 4]) -> Option<u64> { None }
+    fn write_job(&self, _places: usize, _curves: usize, _method: usize, _wants: &[u64],
+        _out: &mut [u8]) -> Option<u64> { None }
+    fn order_tests(&self, _places: usize, _curves: usize, _method: usize, _wants: &[u64],
+        _order: &mut [u16]) -> Option<u64> { None }
+    fn plan(&self, _places: usize, _curves: usize, _wants: &[u64], _order: &[u16],
+        _drops: &mut [u64], _loads: &mut [u64]) -> Option<u64> { None }
+    fn check_plan(&self, _places: usize, _curves: usize, _wants: &[u64], _order: &[u16],
+        _drops: &[u64], _loads: &[u64]) -> Option<u64> { None }
+    #[allow(clippy::too_many_arguments)]
+    fn write_plan(&self, _places: usize, _curves: usize, _wants: &[u64], _order: &[u16],
+        _drops: &[u64], _loads: &[u64], _out: &mut [u8]) -> Option<u64> { None }
+    fn read_plan(&self, _curves: usize, _tests: usize, _plan: &[u8], _order: &mut [u16],
+        _drops: &mut [u64], _loads: &mut [u64]) -> Option<u64> { None }
+    fn step_bytes(&self, _curves: usize, _tests: usize, _plan: &[u8], _position: usize)
+        -> Option<u64> { None }
+    fn call(&self, _job: &[u8], _plan: &mut [u8]) -> Option<u64> { None }
+    fn sheet(&self, _job: &[u8], _out: &mut [u8]) -> Option<u64> { None }
+}
+
+struct Tuned;
+
+impl Subject for Tuned {
+    fn name(&self) -> &'static str {
+        "tuned"
+    }
+    fn call(&self, job: &[u8], plan: &mut [u8]) -> Option<u64> {
+        Some(tuned::call(job, plan))
+    }
+}
+
+#[cfg(feature = "product")]
+struct Product;
+
+#[cfg(feature = "product")]
+#[rustfmt::skip]
+impl Subject for Product {
+    fn name(&self) -> &'static str {
+        "product"
+    }
+    fn read_job(&self, job: &[u8], wants: &mut [u64], head: &mut [u64; 4]) -> Option<u64> {
+        Some(product::read_job(job, wants, head))
+    }
+    fn write_job(&self, places: usize, curves: usize, method: usize, wants: &[u64],
+        out: &mut [u8]) -> Option<u64> {
+        Some(product::write_job(places, curves, method, wants, out))
+    }
+    fn order_tests(&self, places: usize, curves: usize, method: usize, wants: &[u64],
+        order: &mut [u16]) -> Option<u64> {
+        Some(product::order_tests(places, curves, method, wants, order))
+    }
+    fn plan(&self, places: usize, curves: usize, wants: &[u64], order: &[u16],
+        drops: &mut [u64], loads: &mut [u64]) -> Option<u64> {
+        Some(product::plan(places, curves, wants, order, drops, loads))
+    }
+    fn check_plan(&self, places: usize, curves: usize, wants: &[u64], order: &[u16],
+        drops: &[u64], loads: &[u64]) -> Option<u64> {
+        Some(product::check_plan(places, curves, wants, order, drops, loads))
+    }
+    fn write_plan(&self, places: usize, curves: usize, wants: &[u64], order: &[u16],
+        drops: &[u64], loads: &[u64], out: &mut [u8]) -> Option<u64> {
+        Some(product::write_plan(places, curves, wants, order, drops, loads, out))
+    }
+    fn read_plan(&self, curves: usize, tests: usize, plan: &[u8], order: &mut [u16],
+        drops: &mut [u64], loads: &mut [u64]) -> Option<u64> {
+        Some(product::read_plan(curves, tests, plan, order, drops, loads))
+    }
+    fn step_bytes(&self, curves: usize, tests: usize, plan: &[u8], position: usize)
+        -> Option<u64> {
+        Some(product::step_bytes(curves, tests, plan, position))
+    }
+    fn call(&self, job: &[u8], plan: &mut [u8]) -> Option<u64> {
+        Some(product::call(job, plan))
+    }
+    fn sheet(&self, job: &[u8], out: &mut [u8]) -> Option<u64> {
+        Some(product::sheet(job, out))
+    }
+}
+
+// ---------------------------------------------------------------------------------------------
+// Lent lists
+
+/// Entries kept on both sides of a lent list; they must not change either.
+const MARGIN: usize = 8;
+
+/// Room for every sheet: 256 lines of at most 420 bytes, and two short ones.
+const SHEET: usize = 110_000;
+
+trait Entry: Copy + PartialEq + std::fmt::LowerHex {
+    fn pattern(value: u64) -> Self;
+}
+
+impl Entry for u8 {
+    fn pattern(value: u64) -> u8 {
+        value as u8
+    }
+}
+impl Entry for u16 {
+    fn pattern(value: u64) -> u16 {
+        value as u16
+    }
+}
+impl Entry for u64 {
+    fn pattern(value: u64) -> u64 {
+        value
+    }
+}
+
+/// A list lent for writing, filled with a pattern, and what it has to hold afterwards.
+struct Lent<T> {
+    name: &'static str,
+    found: Vec<T>,
+    expected: Vec<T>,
+}
+
+impl<T: Entry> Lent<T> {
+    /// `result`: the first entries after the call; empty under a refusal.
+    fn new(name: &'static str, random: &mut Random, length: usize, result: &[T]) -> Lent<T> {
+        let key = random.word();
+        let found: Vec<T> = if length > 20_000 {
+            // Large and often: a cheaper pattern.
+            (0..length + 2 * MARGIN)
+                .map(|i| T::pattern(key.wrapping_add(i as u64 * 0x9d)))
+                .collect()
+        } else {
+            (0..length + 2 * MARGIN)
+                .map(|i| T::pattern(mix(key ^ i as u64)))
+                .collect()
+        };
+        let mut expected = found.clone();
+        expected[MARGIN..MARGIN + result.len()].copy_from_slice(result);
+        Lent {
+            name,
+            found,
+            expected,
+        }
+    }
+
+    fn part(&mut self) -> &mut [T] {
+        let end = self.found.len() - MARGIN;
+        &mut self.found[MARGIN..end]
+    }
+
+    fn difference(&self) -> Option<String> {
+        if self.found == self.expected {
+            return None;
+        }
+        let at = (0..self.found.len())
+            .find(|&i| self.found[i] != self.expected[i])
+            .unwrap();
+        let hex = |list: &[T]| -> String {
+            let part: Vec<String> = list.iter().map(|entry| format!("{entry:x}")).collect();
+            part.join(" ")
+        };
+        let inner = MARGIN..self.found.len() - MARGIN;
+        Some(format!(
+            "{} differs first at entry {} (of {} lent): expected {:x}, found {:x}\n  expected {}\n  found    {}",
+            self.name,
+            at as i64 - MARGIN as i64,
+            inner.len(),
+            self.expected[at],
+            self.found[at],
+            hex(&self.expected[inner.clone()]),
+            hex(&self.found[inner]),
+        ))
+    }
+}
+
+// ---------------------------------------------------------------------------------------------
+// One case
+
+fn number_of<T>(answer: &Result<T, Refusal>, count: impl Fn(&T) -> u64) -> u64 {
+    match answer {
+        Ok(result) => count(result),
+        Err(no) => no.number << 48 | no.figure,
+    }
+}
+
+/// The outcome's name in the histogram.
+fn outcome<T>(answer: &Result<T, Refusal>) -> String {
+    match answer {
+        Ok(_) => "ok".to_string(),
+        Err(no) => named(no),
+    }
+}
+
+fn named(no: &Refusal) -> String {
+    match (no.number, no.figure) {
+        (10, 0..=3) => format!("10:{}", no.figure),
+        (10, _) => "10:4+".to_string(),
+        (number, _) => number.to_string(),
+    }
+}
+
+struct Verdict {
+    outcome: String,
+    /// For each subject: not offered, alike, or the difference.
+    results: Vec<Option<Result<(), String>>>,
+}
+
+fn compare(expected: u64, found: u64, lists: &[Option<String>]) -> Result<(), String> {
+    let mut text = String::new();
+    if expected != found {
+        text += &format!("answer differs: expected {expected:#x}, found {found:#x}\n");
+    }
+    for difference in lists.iter().flatten() {
+        text += difference;
+        text += "\n";
+    }
+    if text.is_empty() {
+        Ok(())
+    } else {
+        Err(text)
+    }
+}
+
+fn run(case: &Case, random: &mut Random, subjects: &[Box<dyn Subject>]) -> Verdict {
+    let mut results = Vec::new();
+    let outcome = match case {
+        Case::ReadJob { job, wants_len } => {
+            let answer = reference::read_job(job, *wants_len);
+            let number = number_of(&answer, |read| read.tests as u64);
+            let (wants, head) = match &answer {
+                Ok(read) => (
+                    read.wants.clone(),
+                    vec![
+                        read.places as u64,
+                        read.curves as u64,
+                        read.tests as u64,
+                        read.method as u64,
+                    ],
+                ),
+                Err(_) => (vec![], vec![]),
+            };
+            for subject in subjects {
+                let mut wants = Lent::new("wants", random, *wants_len, &wants);
+                let mut head = Lent::new("head", random, 4, &head);
+                let part: &mut [u64; 4] = head.part().try_into().unwrap();
+                let found = subject.read_job(job, wants.part(), part);
+                results.push(
+                    found.map(|found| {
+                        compare(number, found, &[wants.difference(), head.difference()])
+                    }),
+                );
+            }
+            outcome(&answer)
+        }
+        Case::WriteJob {
+            places,
+            curves,
+            method,
+            wants,
+            out_len,
+        } => {
+            let answer = reference::write_job(*places, *curves, *method, wants, *out_len);
+            let number = number_of(&answer, |bytes| bytes.len() as u64);
+            let bytes = answer.clone().unwrap_or_default();
+            for subject in subjects {
+                let mut out = Lent::new("out", random, *out_len, &bytes);
+                let found = subject.write_job(*places, *curves, *method, wants, out.part());
+                results.push(found.map(|found| compare(number, found, &[out.difference()])));
+            }
+            outcome(&answer)
+        }
+        Case::OrderTests {
+            places,
+            curves,
+            method,
+            wants,
+            order_len,
+        } => {
+            let answer = reference::order_tests(*places, *curves, *method, wants, *order_len);
+            let number = number_of(&answer, |order| order.len() as u64);
+            let result = answer.clone().unwrap_or_default();
+            for subject in subjects {
+                let mut order = Lent::new("order", random, *order_len, &result);
+                let found = subject.order_tests(*places, *curves, *method, wants, order.part());
+                results.push(found.map(|found| compare(number, found, &[order.difference()])));
+            }
+            outcome(&answer)
+        }
+        Case::Plan {
+            places,
+            curves,
+            wants,
+            order,
+            drops_len,
+            loads_len,
+        } => {
+            let answer = reference::plan(*places, *curves, wants, order, *drops_len, *loads_len);
+            let number = number_of(&answer, |plan| plan.count);
+            let (new_drops, new_loads) = match &answer {
+                Ok(plan) => (plan.drops.clone(), plan.loads.clone()),
+                Err(_) => (vec![], vec![]),
+            };
+            for subject in subjects {
+                let mut drops = Lent::new("drops", random, *drops_len, &new_drops);
+                let mut loads = Lent::new("loads", random, *loads_len, &new_loads);
+                let found =
+                    subject.plan(*places, *curves, wants, order, drops.part(), loads.part());
+                results.push(found.map(|found| {
+                    compare(number, found, &[drops.difference(), loads.difference()])
+                }));
+            }
+            outcome(&answer)
+        }
+        Case::CheckPlan {
+            places,
+            curves,
+            wants,
+            order,
+            drops,
+            loads,
+        } => {
+            let answer = reference::check_plan(*places, *curves, wants, order, drops, loads);
+            let number = number_of(&answer, |count| *count);
+            for subject in subjects {
+                let found = subject.check_plan(*places, *curves, wants, order, drops, loads);
+                results.push(found.map(|found| compare(number, found, &[])));
+            }
+            outcome(&answer)
+        }
+        Case::WritePlan {
+            places,
+            curves,
+            wants,
+            order,
+            drops,
+            loads,
+            out_len,
+        } => {
+            let answer =
+                reference::write_plan(*places, *curves, wants, order, drops, loads, *out_len);
+            let number = number_of(&answer, |bytes| bytes.len() as u64);
+            let bytes = answer.clone().unwrap_or_default();
+            for subject in subjects {
+                let mut out = Lent::new("out", random, *out_len, &bytes);
+                let found =
+                    subject.write_plan(*places, *curves, wants, order, drops, loads, out.part());
+                results.push(found.map(|found| compare(number, found, &[out.difference()])));
+            }
+            outcome(&answer)
+        }
+        Case::ReadPlan {
+            curves,
+            tests,
+            plan,
+            order_len,
+            drops_len,
+            loads_len,
+        } => {
+            let answer =
+                reference::read_plan(*curves, *tests, plan, *order_len, *drops_len, *loads_len);
+            let number = number_of(&answer, |steps| steps.len() as u64);
+            let steps = answer.clone().unwrap_or_default();
+            let new_order: Vec<u16> = steps.iter().map(|step| step.test).collect();
+            let new_drops: Vec<u64> = steps.iter().map(|step| step.drops).collect();
+            let new_loads: Vec<u64> = steps.iter().map(|step| step.loads).collect();
+            for subject in subjects {
+                let mut order = Lent::new("order", random, *order_len, &new_order);
+                let mut drops = Lent::new("drops", random, *drops_len, &new_drops);
+                let mut loads = Lent::new("loads", random, *loads_len, &new_loads);
+                let found = subject.read_plan(
+                    *curves,
+                    *tests,
+                    plan,
+                    order.part(),
+                    drops.part(),
+                    loads.part(),
+                );
+                results.push(found.map(|found| {
+                    compare(
+                        number,
+                        found,
+                        &[order.difference(), drops.difference(), loads.difference()],
+                    )
+                }));
+            }
+            outcome(&answer)
+        }
+        Case::StepBytes {
+            curves,
+            tests,
+            plan,
+            position,
+        } => {
+            let (start, length) = reference::step_bytes(*curves, *tests, plan, *position);
+            let number = start as u64 * 65_536 + length as u64;
+            for subject in subjects {
+                let found = subject.step_bytes(*curves, *tests, plan, *position);
+                results.push(found.map(|found| compare(number, found, &[])));
+            }
+            if length > 0 { "part" } else { "empty" }.to_string()
+        }
+        Case::Call { job, plan_len } => {
+            let answer = reference::call_bytes(job, *plan_len);
+            let number = match &answer {
+                Ok(bytes) => bytes.len() as u64,
+                Err(no) => no.number * 65_536 + no.figure,
+            };
+            let bytes = answer.clone().unwrap_or_default();
+            for subject in subjects {
+                let mut plan = Lent::new("plan", random, *plan_len, &bytes);
+                let found = subject.call(job, plan.part());
+                results.push(found.map(|found| compare(number, found, &[plan.difference()])));
+            }
+            outcome(&answer)
+        }
+        Case::Sheet { job } => {
+            let text = reference::sheet(job);
+            for subject in subjects {
+                let mut out = Lent::new("out", random, SHEET, text.as_bytes());
+                let found = subject.sheet(job, out.part());
+                results.push(
+                    found.map(|found| compare(text.len() as u64, found, &[out.difference()])),
+                );
+            }
+            match text.strip_prefix("refused ") {
+                None => "ok".to_string(),
+                Some(rest) => rest.split(' ').next().unwrap().to_string(),
+            }
+        }
+    };
+    Verdict { outcome, results }
+}
+
+// ---------------------------------------------------------------------------------------------
+// The run
+
+/// What each function can come out with.
+const OUTCOMES: [&[&str]; 10] = [
+    &["ok", "1", "2", "3", "4", "5", "6", "9"],
+    &["ok", "5", "9", "10:0", "10:1", "10:2", "10:3", "10:4+"],
+    &["ok", "5", "7", "9", "10:0", "10:1", "10:2", "10:3", "10:4+"],
+    &["ok", "5", "7", "8", "9", "10:0", "10:1", "10:2", "10:4+"],
+    &["ok", "5", "8", "10:0", "10:1", "10:2", "10:4+", "12"],
+    &["ok", "5", "8", "9", "10:0", "10:1", "10:2", "10:4+", "12"],
+    &["ok", "5", "9", "10:1", "10:2", "11"],
+    &["part", "empty"],
+    &["ok", "1", "2", "3", "4", "5", "6", "7", "9"],
+    &["ok", "1", "2", "3", "4", "5", "6", "7"],
+];
+
+fn setting(place: usize, name: &str, default: u64) -> u64 {
+    let text = match env::args().nth(place) {
+        Some(text) => text,
+        None => match env::var(name) {
+            Ok(text) => text,
+            Err(_) => return default,
+        },
+    };
+    let parsed = match text.strip_prefix("0x") {
+        Some(hex) => u64::from_str_radix(hex, 16),
+        None => text.parse(),
+    };
+    match parsed {
+        Ok(number) => number,
+        Err(_) => {
+            eprintln!("{name}: not a number: {text}");
+            exit(3);
+        }
+    }
+}
+
+fn main() {
+    let seed = setting(1, "SEED", 20_260_101);
+    let cases = setting(2, "CASES", 200_000);
+    let only = env::var("ONLY")
+        .ok()
+        .map(|_| setting(usize::MAX, "ONLY", 0));
+
+    let function = env::var("FUNCTION").ok().map(|name| {
+        let found = FUNCTIONS.iter().position(|known| *known == name);
+        found.unwrap_or_else(|| {
+            eprintln!("FUNCTION is one of {}", FUNCTIONS.join(", "));
+            exit(3);
+        })
+    });
+
+    #[allow(unused_mut)]
+    let mut subjects: Vec<Box<dyn Subject>> = vec![Box::new(Tuned)];
+    #[cfg(feature = "product")]
+    subjects.push(Box::new(Product));
+
+    println!("seed {seed}, {cases} cases");
+    let names: Vec<&str> = subjects.iter().map(|subject| subject.name()).collect();
+    println!("compared with the reference: {}", names.join(", "));
+
+    let start = Instant::now();
+    let mut histogram: Vec<BTreeMap<String, u64>> = vec![BTreeMap::new(); FUNCTIONS.len()];
+    let mut compared = vec![vec![0u64; FUNCTIONS.len()]; subjects.len()];
+    let numbers = match only {
+        Some(number) => number..number + 1,
+        None => 0..cases,
+    };
+    for number in numbers {
+        let case = generate::case(seed, number, function);
+        if only.is_some() {
+            println!("case {number}\n{}", case.describe());
+        }
+        let mut random = Random::of_case(!seed, number);
+        let verdict = run(&case, &mut random, &subjects);
+        let called = case.function();
+        *histogram[called]
+            .entry(verdict.outcome.clone())
+            .or_default() += 1;
+        for (s, result) in verdict.results.iter().enumerate() {
+            match result {
+                None => {}
+                Some(Ok(())) => compared[s][called] += 1,
+                Some(Err(text)) => {
+                    println!("DIFFERENCE: {} in case {number} of seed {seed}", names[s]);
+                    print!("{}", case.describe());
+                    println!("reference's outcome: {}", verdict.outcome);
+                    print!("{text}");
+                    print!("again: SEED={seed} ONLY={number}");
+                    match function {
+                        Some(function) => println!(" FUNCTION={}", FUNCTIONS[function]),
+                        None => println!(),
+                    }
+                    exit(1);
+                }
+            }
+        }
+    }
+
+    println!("{:.1} s", start.elapsed().as_secs_f64());
+    for (s, name) in names.iter().enumerate() {
+        println!("\n{name}: compared and alike");
+        for (function, count) in compared[s].iter().enumerate() {
+            if *count > 0 {
+                println!("  {:<16}{count:>9}", FUNCTIONS[function]);
+            }
+        }
+        println!("  {:<16}{:>9}", "all", compared[s].iter().sum::<u64>());
+    }
+    println!("\noutcomes of the reference (ok, or refusal number; 10 with its figure)");
+    let mut missing = Vec::new();
+    for (called, outcomes) in OUTCOMES.iter().enumerate() {
+        if histogram[called].is_empty() && (function.is_some() || only.is_some()) {
+            continue;
+        }
+        let mut line = format!("  {:<16}", FUNCTIONS[called]);
+        for outcome in *outcomes {
+            let count = histogram[called].get(*outcome).copied().unwrap_or(0);
+            line += &format!(" {outcome}={count}");
+            if count == 0 {
+                missing.push(format!("{} {outcome}", FUNCTIONS[called]));
+            }
+        }
+        println!("{line}");
+        for outcome in histogram[called].keys() {
+            if !outcomes.contains(&outcome.as_str()) {
+                println!("unforeseen outcome of {}: {outcome}", FUNCTIONS[called]);
+                exit(1);
+            }
+        }
+    }
+    if only.is_none() && cases >= 20_000 && !missing.is_empty() {
+        println!("never reached: {}", missing.join(", "));
+        exit(2);
+    }
+}

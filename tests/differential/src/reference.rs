@@ -1,0 +1,955 @@
+//! The paper, sentence by sentence, on ordered sets and plain lists. Slow on purpose: nothing in
+//! here is arranged for speed, so that each function can be compared with the paper by eye.
+//!
+//! Handed numbers may be anything; each answer is the result or the refusal.
+
+// Steps, tests and sets are named by their numbers here, as the paper does.
+#![allow(clippy::needless_range_loop)]
+
+use std::collections::BTreeSet;
+
+/// A refusal with its number and its figure.
+#[derive(Clone, Copy, Debug, PartialEq, Eq, PartialOrd, Ord)]
+pub struct Refusal {
+    pub number: u64,
+    pub figure: u64,
+}
+
+pub type Answer<T> = Result<T, Refusal>;
+
+/// A set of curves.
+pub type Curves = BTreeSet<u8>;
+
+pub fn refusal(number: u64, figure: usize) -> Refusal {
+    Refusal {
+        number,
+        figure: figure as u64,
+    }
+}
+
+fn refuse<T>(number: u64, figure: usize) -> Answer<T> {
+    Err(refusal(number, figure))
+}
+
+// ---------------------------------------------------------------------------------------------
+// Sets
+
+/// The set that a 64-bit number stands for: bit k for curve k.
+pub fn set_of(bits: u64) -> Curves {
+    let mut set = Curves::new();
+    let mut rest = bits;
+    let mut curve = 0;
+    while rest > 0 {
+        if rest % 2 == 1 {
+            set.insert(curve);
+        }
+        rest /= 2;
+        curve += 1;
+    }
+    set
+}
+
+pub fn bits_of(set: &Curves) -> u64 {
+    let mut bits = 0;
+    for &curve in set {
+        bits += 2u64.pow(curve as u32);
+    }
+    bits
+}
+
+fn union(a: &Curves, b: &Curves) -> Curves {
+    a.union(b).copied().collect()
+}
+
+fn common(a: &Curves, b: &Curves) -> usize {
+    a.intersection(b).count()
+}
+
+fn sets_of(list: &[u64]) -> Vec<Curves> {
+    list.iter().map(|&bits| set_of(bits)).collect()
+}
+
+// ---------------------------------------------------------------------------------------------
+// Job bytes
+
+/// A job as it was read.
+#[derive(Clone, Debug, PartialEq, Eq)]
+pub struct Job {
+    pub places: usize,
+    pub curves: usize,
+    pub tests: usize,
+    pub method: usize,
+    pub wants: Vec<u64>,
+}
+
+/// The byte owed at this offset of a job.
+fn owed(job: &[u8], offset: usize) -> Answer<usize> {
+    match job.get(offset) {
+        Some(&byte) => Ok(byte as usize),
+        None => refuse(1, job.len()),
+    }
+}
+
+fn in_field(value: usize, low: usize, high: usize, absent: usize, offset: usize) -> Answer<usize> {
+    if value < low || value > high || value == absent {
+        refuse(2, offset)
+    } else {
+        Ok(value)
+    }
+}
+
+/// One record: its wants and the offset behind it.
+fn read_record(job: &[u8], start: usize, curves: usize) -> Answer<(Curves, usize)> {
+    let map = owed(job, start)?;
+    let mut wants = Curves::new();
+    let mut offset = start + 1;
+    for group in 0..8 {
+        if set_of(map as u64).contains(&(group as u8)) {
+            let byte = owed(job, offset)?;
+            if byte == 0 {
+                return refuse(3, offset);
+            }
+            for bit in set_of(byte as u64) {
+                let curve = 8 * group + bit as usize;
+                if curve >= curves {
+                    return refuse(4, offset);
+                }
+                wants.insert(curve as u8);
+            }
+            offset += 1;
+        }
+    }
+    Ok((wants, offset))
+}
+
+pub fn read_job(job: &[u8], wants_len: usize) -> Answer<Job> {
+    let map = owed(job, 0)?;
+    if map >= 16 {
+        return refuse(2, 0);
+    }
+    let stands = |bit: u8| set_of(map as u64).contains(&bit);
+    let (mut places, mut curves, mut tests, mut method) = (8, 64, 0, 0);
+    let mut offset = 1;
+    if stands(0) {
+        places = in_field(owed(job, offset)?, 1, 64, 8, offset)?;
+        offset += 1;
+    }
+    if stands(1) {
+        curves = in_field(owed(job, offset)?, 1, 64, 64, offset)?;
+        offset += 1;
+    }
+    if stands(2) {
+        let low = owed(job, offset)?;
+        let high = owed(job, offset + 1)?;
+        tests = in_field(low + 256 * high, 1, 256, 0, offset)?;
+        offset += 2;
+    }
+    if stands(3) {
+        method = in_field(owed(job, offset)?, 1, 3, 0, offset)?;
+        offset += 1;
+    }
+    if tests == 0 {
+        return refuse(5, 0);
+    }
+    let mut wants = Vec::new();
+    for _ in 0..tests {
+        let (set, behind) = read_record(job, offset, curves)?;
+        wants.push(bits_of(&set));
+        offset = behind;
+    }
+    if offset < job.len() {
+        return refuse(6, offset);
+    }
+    if wants_len < tests {
+        return refuse(9, tests);
+    }
+    Ok(Job {
+        places,
+        curves,
+        tests,
+        method,
+        wants,
+    })
+}
+
+/// A set as group map and group bytes.
+fn groups(set: &Curves) -> Vec<u8> {
+    let mut map = 0;
+    let mut bytes = Vec::new();
+    for group in 0..8u8 {
+        let mut byte = 0u8;
+        for bit in 0..8u8 {
+            if set.contains(&(8 * group + bit)) {
+                byte += 2u8.pow(bit as u32);
+            }
+        }
+        if byte != 0 {
+            map += 2u8.pow(group as u32);
+            bytes.push(byte);
+        }
+    }
+    let mut all = vec![map];
+    all.extend(bytes);
+    all
+}
+
+pub fn write_job(
+    places: usize,
+    curves: usize,
+    method: usize,
+    wants: &[u64],
+    out_len: usize,
+) -> Answer<Vec<u8>> {
+    handed(Some(places), curves, Some(method), wants)?;
+    let mut map = 0;
+    let mut fields = Vec::new();
+    if places != 8 {
+        map += 1;
+        fields.push(places as u8);
+    }
+    if curves != 64 {
+        map += 2;
+        fields.push(curves as u8);
+    }
+    // Never absent: the list is not empty.
+    map += 4;
+    fields.push((wants.len() % 256) as u8);
+    fields.push((wants.len() / 256) as u8);
+    if method != 0 {
+        map += 8;
+        fields.push(method as u8);
+    }
+    let mut bytes = vec![map];
+    bytes.extend(fields);
+    for &want in wants {
+        bytes.extend(groups(&set_of(want)));
+    }
+    if out_len < bytes.len() {
+        return refuse(9, bytes.len());
+    }
+    Ok(bytes)
+}
+
+// ---------------------------------------------------------------------------------------------
+// Handed lists and counts
+
+/// Refusals 5 and 10 of a handed list.
+fn handed(
+    places: Option<usize>,
+    curves: usize,
+    method: Option<usize>,
+    wants: &[u64],
+) -> Answer<()> {
+    if wants.is_empty() {
+        return refuse(5, 0);
+    }
+    if let Some(places) = places {
+        if !(1..=64).contains(&places) {
+            return refuse(10, 0);
+        }
+    }
+    if !(1..=64).contains(&curves) {
+        return refuse(10, 1);
+    }
+    if wants.len() > 256 {
+        return refuse(10, 2);
+    }
+    if let Some(method) = method {
+        if method > 3 {
+            return refuse(10, 3);
+        }
+    }
+    for (test, &want) in wants.iter().enumerate() {
+        if set_of(want).iter().any(|&curve| curve as usize >= curves) {
+            return refuse(10, 4 + test);
+        }
+    }
+    Ok(())
+}
+
+/// Refusal 7.
+fn none_too_wide(places: usize, wants: &[Curves]) -> Answer<()> {
+    for (test, want) in wants.iter().enumerate() {
+        if want.len() > places {
+            return refuse(7, test);
+        }
+    }
+    Ok(())
+}
+
+/// Refusal 8.
+fn each_test_once(tests: usize, order: &[u16]) -> Answer<()> {
+    let mut faults = Vec::new();
+    for (position, &test) in order.iter().enumerate() {
+        if test as usize >= tests || order[..position].contains(&test) {
+            faults.push(position);
+            break;
+        }
+    }
+    if order.len() < tests {
+        faults.push(order.len()); // first missing
+    }
+    if order.len() > tests {
+        faults.push(tests); // first surplus
+    }
+    match faults.iter().min() {
+        Some(&position) => refuse(8, position),
+        None => Ok(()),
+    }
+}
+
+// ---------------------------------------------------------------------------------------------
+// Orders
+
+pub fn order_tests(
+    places: usize,
+    curves: usize,
+    method: usize,
+    wants: &[u64],
+    order_len: usize,
+) -> Answer<Vec<u16>> {
+    handed(Some(places), curves, Some(method), wants)?;
+    let sets = sets_of(wants);
+    none_too_wide(places, &sets)?;
+    if order_len < wants.len() {
+        return refuse(9, wants.len());
+    }
+    let order = match method {
+        0 => (0..wants.len()).collect(),
+        1 => reverse_cuthill_mckee(&sets),
+        2 => spanning_tree(&sets),
+        _ => packages(places, &sets),
+    };
+    Ok(order.iter().map(|&test| test as u16).collect())
+}
+
+/// The weight of every two tests; a test has none with itself.
+fn weights(wants: &[Curves]) -> Vec<Vec<usize>> {
+    let mut table = Vec::new();
+    for (s, a) in wants.iter().enumerate() {
+        let mut row = Vec::new();
+        for (t, b) in wants.iter().enumerate() {
+            row.push(if s == t { 0 } else { common(a, b) });
+        }
+        table.push(row);
+    }
+    table
+}
+
+fn reverse_cuthill_mckee(wants: &[Curves]) -> Vec<usize> {
+    let weight = weights(wants);
+    let degree: Vec<usize> = weight.iter().map(|row| row.iter().sum()).collect();
+    // By rising degree, ties to the lowest test number.
+    let rising = |mut tests: Vec<usize>| -> Vec<usize> {
+        tests.sort_by_key(|&test| (degree[test], test));
+        tests
+    };
+    let unlisted = |list: &[usize]| -> Vec<usize> {
+        (0..wants.len())
+            .filter(|test| !list.contains(test))
+            .collect()
+    };
+    let mut list: Vec<usize> = Vec::new();
+    let mut along = 0;
+    while list.len() < wants.len() {
+        if along == list.len() {
+            let remaining = rising(unlisted(&list));
+            list.push(remaining[0]);
+        }
+        let present = list[along];
+        let neighbours = unlisted(&list)
+            .into_iter()
+            .filter(|&test| weight[present][test] >= 1)
+            .collect();
+        list.extend(rising(neighbours));
+        along += 1;
+    }
+    list.reverse();
+    list
+}
+
+fn spanning_tree(wants: &[Curves]) -> Vec<usize> {
+    let weight = weights(wants);
+    let mut list = vec![0];
+    while list.len() < wants.len() {
+        let mut best: Option<(usize, usize)> = None;
+        for test in 0..wants.len() {
+            if list.contains(&test) {
+                continue;
+            }
+            let greatest = list
+                .iter()
+                .map(|&listed| weight[listed][test])
+                .max()
+                .unwrap();
+            let better = match best {
+                None => true,
+                Some((_, so_far)) => greatest > so_far,
+            };
+            if better {
+                best = Some((test, greatest));
+            }
+        }
+        list.push(best.unwrap().0);
+    }
+    list
+}
+
+fn curves_of(package: &[usize], wants: &[Curves]) -> Curves {
+    let mut set = Curves::new();
+    for &test in package {
+        set.extend(&wants[test]);
+    }
+    set
+}
+
+/// Of all pairs (of those whose union is at most the bound, if there is one) the pair with most
+/// common curves; the earlier first, then the earlier second package on ties.
+fn best_pair(curves: &[Curves], bound: Option<usize>) -> Option<(usize, usize)> {
+    let mut best: Option<(usize, usize, usize)> = None;
+    for first in 0..curves.len() {
+        for second in first + 1..curves.len() {
+            let shared = common(&curves[first], &curves[second]);
+            if let Some(bound) = bound {
+                let together = curves[first].len() + curves[second].len() - shared;
+                if together > bound {
+                    continue;
+                }
+            }
+            let better = match best {
+                None => true,
+                Some((_, _, so_far)) => shared > so_far,
+            };
+            if better {
+                best = Some((first, second, shared));
+            }
+        }
+    }
+    best.map(|(first, second, _)| (first, second))
+}
+
+/// The curves of the longest run of these tests, from their start, whose union is at most the
+/// places. A longer run never has a smaller union, so the first that is too large ends it.
+fn opening(tests: &[usize], places: usize, wants: &[Curves]) -> Curves {
+    let mut run = Curves::new();
+    for &test in tests {
+        let longer = union(&run, &wants[test]);
+        if longer.len() > places {
+            break;
+        }
+        run = longer;
+    }
+    run
+}
+
+fn reversed(package: &[usize]) -> Vec<usize> {
+    package.iter().rev().copied().collect()
+}
+
+fn packages(places: usize, wants: &[Curves]) -> Vec<usize> {
+    let mut packages: Vec<Vec<usize>> = (0..wants.len()).map(|test| vec![test]).collect();
+    let mut curves: Vec<Curves> = wants.to_vec();
+
+    // First round.
+    while let Some((first, second)) = best_pair(&curves, Some(places)) {
+        let behind = packages.remove(second);
+        packages[first].extend(behind);
+        curves.remove(second);
+        curves[first] = curves_of(&packages[first], wants);
+    }
+
+    // Second round.
+    while packages.len() > 1 {
+        let (first, second) = best_pair(&curves, None).unwrap();
+        let mut front = packages[first].clone();
+        let mut behind = packages.remove(second);
+        let front_head = opening(&front, places, wants);
+        let front_tail = opening(&reversed(&front), places, wants);
+        let behind_head = opening(&behind, places, wants);
+        let behind_tail = opening(&reversed(&behind), places, wants);
+        // (common curves, first's head joins, second's tail joins)
+        let joints = [
+            (common(&front_tail, &behind_head), false, false),
+            (common(&front_tail, &behind_tail), false, true),
+            (common(&front_head, &behind_head), true, false),
+            (common(&front_head, &behind_tail), true, true),
+        ];
+        let most = joints.iter().map(|joint| joint.0).max().unwrap();
+        let won = joints.iter().find(|joint| joint.0 == most).unwrap();
+        if won.1 {
+            front.reverse();
+        }
+        if won.2 {
+            behind.reverse();
+        }
+        front.extend(behind);
+        packages[first] = front;
+        curves.remove(second);
+        curves[first] = curves_of(&packages[first], wants);
+    }
+    packages.remove(0)
+}
+
+// ---------------------------------------------------------------------------------------------
+// Plans
+
+/// Drops, loads and the load count.
+#[derive(Clone, Debug, PartialEq, Eq)]
+pub struct Plan {
+    pub drops: Vec<u64>,
+    pub loads: Vec<u64>,
+    pub count: u64,
+}
+
+pub fn plan(
+    places: usize,
+    curves: usize,
+    wants: &[u64],
+    order: &[u16],
+    drops_len: usize,
+    loads_len: usize,
+) -> Answer<Plan> {
+    handed(Some(places), curves, None, wants)?;
+    each_test_once(wants.len(), order)?;
+    let sets = sets_of(wants);
+    none_too_wide(places, &sets)?;
+    if drops_len < wants.len() || loads_len < wants.len() {
+        return refuse(9, wants.len());
+    }
+    let steps: Vec<Curves> = order
+        .iter()
+        .map(|&test| sets[test as usize].clone())
+        .collect();
+    let mut held = Curves::new();
+    let mut all_drops = Vec::new();
+    let mut all_loads = Vec::new();
+    let mut count = 0;
+    for (step, wanted) in steps.iter().enumerate() {
+        let mut drops = Curves::new();
+        while union(&held, wanted).len() > places {
+            let curve = furthest(&held, wanted, &steps[step + 1..]);
+            held.remove(&curve);
+            drops.insert(curve);
+        }
+        let loads: Curves = wanted.difference(&held).copied().collect();
+        count += loads.len() as u64;
+        held = union(&held, &loads);
+        all_drops.push(bits_of(&drops));
+        all_loads.push(bits_of(&loads));
+    }
+    Ok(Plan {
+        drops: all_drops,
+        loads: all_loads,
+        count,
+    })
+}
+
+/// Of the held curves that the test does not want, the one whose next use is furthest.
+fn furthest(held: &Curves, wanted: &Curves, later: &[Curves]) -> u8 {
+    let next_use = |curve: u8| later.iter().position(|wants| wants.contains(&curve));
+    let mut best: Option<(u8, Option<usize>)> = None;
+    for &curve in held.difference(wanted) {
+        let next = next_use(curve);
+        let further = match (best, next) {
+            (None, _) => true,
+            (Some((_, None)), _) => false,
+            (Some((_, Some(_))), None) => true,
+            (Some((_, Some(so_far))), Some(at)) => at > so_far,
+        };
+        if further {
+            best = Some((curve, next));
+        }
+    }
+    best.expect("a test is never wider than the places here").0
+}
+
+pub fn check_plan(
+    places: usize,
+    curves: usize,
+    wants: &[u64],
+    order: &[u16],
+    drops: &[u64],
+    loads: &[u64],
+) -> Answer<u64> {
+    handed(Some(places), curves, None, wants)?;
+    each_test_once(wants.len(), order)?;
+    let mut length_faults = Vec::new();
+    for list in [drops, loads] {
+        if list.len() < wants.len() {
+            length_faults.push(list.len());
+        }
+        if list.len() > wants.len() {
+            length_faults.push(wants.len());
+        }
+    }
+    if let Some(&position) = length_faults.iter().min() {
+        return refuse(12, position);
+    }
+    let mut held = Curves::new();
+    let mut count = 0;
+    for step in 0..wants.len() {
+        let wanted = set_of(wants[order[step] as usize]);
+        let dropped = set_of(drops[step]);
+        let loaded = set_of(loads[step]);
+        let every_drop_held = dropped.is_subset(&held);
+        let left: Curves = held.difference(&dropped).copied().collect();
+        let no_load_held = loaded.is_disjoint(&left);
+        let every_load_of_the_job = loaded.iter().all(|&curve| (curve as usize) < curves);
+        let after = union(&left, &loaded);
+        let passes = every_drop_held
+            && no_load_held
+            && every_load_of_the_job
+            && wanted.is_subset(&after)
+            && after.len() <= places;
+        if !passes {
+            return refuse(12, step);
+        }
+        count += loaded.len() as u64;
+        held = after;
+    }
+    Ok(count)
+}
+
+// ---------------------------------------------------------------------------------------------
+// Plan bytes
+
+/// The bytes of steps, whatever they hold. Tests are below 256.
+pub fn plan_bytes(order: &[u16], drops: &[u64], loads: &[u64]) -> Vec<u8> {
+    let mut bytes = Vec::new();
+    for step in 0..order.len() {
+        let dropped = set_of(drops[step]);
+        let loaded = set_of(loads[step]);
+        let mut map = 4;
+        if !dropped.is_empty() {
+            map += 1;
+        }
+        if !loaded.is_empty() {
+            map += 2;
+        }
+        bytes.push(map);
+        if !dropped.is_empty() {
+            bytes.extend(groups(&dropped));
+        }
+        if !loaded.is_empty() {
+            bytes.extend(groups(&loaded));
+        }
+        bytes.push(order[step] as u8);
+    }
+    bytes
+}
+
+#[allow(clippy::too_many_arguments)]
+pub fn write_plan(
+    places: usize,
+    curves: usize,
+    wants: &[u64],
+    order: &[u16],
+    drops: &[u64],
+    loads: &[u64],
+    out_len: usize,
+) -> Answer<Vec<u8>> {
+    check_plan(places, curves, wants, order, drops, loads)?;
+    let bytes = plan_bytes(order, drops, loads);
+    if out_len < bytes.len() {
+        return refuse(9, bytes.len());
+    }
+    Ok(bytes)
+}
+
+/// One step as it was read, with the part of the bytes it takes.
+#[derive(Clone, Debug, PartialEq, Eq)]
+pub struct Step {
+    pub test: u16,
+    pub drops: u64,
+    pub loads: u64,
+    pub start: usize,
+    pub end: usize,
+}
+
+/// The plan byte at this offset.
+fn planned(plan: &[u8], offset: usize) -> Answer<usize> {
+    match plan.get(offset) {
+        Some(&byte) => Ok(byte as usize),
+        None => refuse(11, plan.len()),
+    }
+}
+
+/// A set of a plan and the offset behind it.
+fn read_set(plan: &[u8], start: usize, curves: usize) -> Answer<(Curves, usize)> {
+    let map = planned(plan, start)?;
+    if map == 0 {
+        return refuse(11, start);
+    }
+    let mut set = Curves::new();
+    let mut offset = start + 1;
+    for group in set_of(map as u64) {
+        let byte = planned(plan, offset)?;
+        if byte == 0 {
+            return refuse(11, offset);
+        }
+        for bit in set_of(byte as u64) {
+            let curve = 8 * group + bit;
+            if curve as usize >= curves {
+                return refuse(11, offset);
+            }
+            set.insert(curve);
+        }
+        offset += 1;
+    }
+    Ok((set, offset))
+}
+
+fn read_step(plan: &[u8], start: usize, curves: usize, tests: usize) -> Answer<Step> {
+    let map = planned(plan, start)?;
+    if !(4..8).contains(&map) {
+        return refuse(11, start);
+    }
+    let mut offset = start + 1;
+    let mut drops = Curves::new();
+    let mut loads = Curves::new();
+    if map % 2 == 1 {
+        (drops, offset) = read_set(plan, offset, curves)?;
+    }
+    if map / 2 % 2 == 1 {
+        (loads, offset) = read_set(plan, offset, curves)?;
+    }
+    let test = planned(plan, offset)?;
+    if test >= tests {
+        return refuse(11, offset);
+    }
+    Ok(Step {
+        test: test as u16,
+        drops: bits_of(&drops),
+        loads: bits_of(&loads),
+        start,
+        end: offset + 1,
+    })
+}
+
+/// All steps of a plan, or refusal 11. The counts are in range.
+fn read_steps(plan: &[u8], curves: usize, tests: usize) -> Answer<Vec<Step>> {
+    let mut steps: Vec<Step> = Vec::new();
+    let mut offset = 0;
+    while steps.len() < tests {
+        let step = read_step(plan, offset, curves, tests)?;
+        offset = step.end;
+        steps.push(step);
+    }
+    if offset < plan.len() {
+        return refuse(11, offset);
+    }
+    Ok(steps)
+}
+
+fn handed_counts(curves: usize, tests: usize) -> Answer<()> {
+    if tests == 0 {
+        return refuse(5, 0);
+    }
+    if !(1..=64).contains(&curves) {
+        return refuse(10, 1);
+    }
+    if tests > 256 {
+        return refuse(10, 2);
+    }
+    Ok(())
+}
+
+pub fn read_plan(
+    curves: usize,
+    tests: usize,
+    plan: &[u8],
+    order_len: usize,
+    drops_len: usize,
+    loads_len: usize,
+) -> Answer<Vec<Step>> {
+    handed_counts(curves, tests)?;
+    let steps = read_steps(plan, curves, tests)?;
+    if order_len < tests || drops_len < tests || loads_len < tests {
+        return refuse(9, tests);
+    }
+    Ok(steps)
+}
+
+/// Start and length of a step's bytes; the empty part at the end where there is no answer.
+pub fn step_bytes(curves: usize, tests: usize, plan: &[u8], position: usize) -> (usize, usize) {
+    let nothing = (plan.len(), 0);
+    if handed_counts(curves, tests).is_err() {
+        return nothing;
+    }
+    match read_steps(plan, curves, tests) {
+        Err(_) => nothing,
+        Ok(steps) => match steps.get(position) {
+            None => nothing,
+            Some(step) => (step.start, step.end - step.start),
+        },
+    }
+}
+
+// ---------------------------------------------------------------------------------------------
+// The call of the C host, and the sheet
+
+/// Room for every list of a job.
+const LIST: usize = 256;
+
+fn planned_job(job: &[u8]) -> Answer<(Job, Vec<u16>, Plan)> {
+    let job = read_job(job, LIST)?;
+    let order = order_tests(job.places, job.curves, job.method, &job.wants, LIST)?;
+    let plan = plan(job.places, job.curves, &job.wants, &order, LIST, LIST)?;
+    Ok((job, order, plan))
+}
+
+/// The plan's bytes, or the refusal.
+pub fn call_bytes(job: &[u8], plan_len: usize) -> Answer<Vec<u8>> {
+    let (job, order, plan) = planned_job(job)?;
+    write_plan(
+        job.places,
+        job.curves,
+        &job.wants,
+        &order,
+        &plan.drops,
+        &plan.loads,
+        plan_len,
+    )
+}
+
+/// The number that the C host gets, and the bytes that fill the start of its buffer.
+pub fn call(job: &[u8], plan_len: usize) -> (u64, Vec<u8>) {
+    match call_bytes(job, plan_len) {
+        Ok(bytes) => (bytes.len() as u64, bytes),
+        Err(no) => (no.number * 65_536 + no.figure, Vec::new()),
+    }
+}
+
+fn curve_list(bits: u64) -> String {
+    let names: Vec<String> = set_of(bits).iter().map(|curve| curve.to_string()).collect();
+    if names.is_empty() {
+        "none".to_string()
+    } else {
+        names.join(" ")
+    }
+}
+
+pub fn sheet(job: &[u8]) -> String {
+    match planned_job(job) {
+        Err(no) => format!("refused {} at {}\n", no.number, no.figure),
+        Ok((job, order, plan)) => {
+            let mut text = format!(
+                "{} tests, {} places, method {}\n",
+                job.tests, job.places, job.method
+            );
+            for step in 0..job.tests {
+                text += &format!(
+                    "{}: test {} drop {} load {}\n",
+                    step,
+                    order[step],
+                    curve_list(plan.drops[step]),
+                    curve_list(plan.loads[step])
+                );
+            }
+            text + &format!("loads {}\n", plan.count)
+        }
+    }
+}
+
+// ---------------------------------------------------------------------------------------------
+// Two more ways to say what a plan is, for small jobs
+
+/// Whether a plan passes the check, told curve by curve: each curve of the 64 goes through the
+/// steps on its own, and the steps only count how many curves they hold.
+pub fn passes(
+    places: usize,
+    curves: usize,
+    wants: &[u64],
+    order: &[u16],
+    drops: &[u64],
+    loads: &[u64],
+) -> bool {
+    let tests = wants.len();
+    let mut named: Vec<usize> = order.iter().map(|&test| test as usize).collect();
+    named.sort();
+    let each_once = named == (0..tests).collect::<Vec<usize>>();
+    if !each_once || drops.len() != tests || loads.len() != tests {
+        return false;
+    }
+    let mut holding = vec![0usize; tests];
+    for curve in 0..64 {
+        let has = |set: u64| (set >> curve) & 1 == 1;
+        let mut inside = false;
+        for step in 0..tests {
+            let wanted = has(wants[order[step] as usize]);
+            match (inside, has(drops[step]), has(loads[step])) {
+                (false, true, _) => return false,     // dropped, not held
+                (true, false, true) => return false,  // loaded, held after the drops
+                (_, true, loaded) => inside = loaded, // out, and perhaps in again
+                (false, false, loaded) => inside = loaded,
+                (true, false, false) => {}
+            }
+            if has(loads[step]) && curve >= curves {
+                return false;
+            }
+            if wanted && !inside {
+                return false;
+            }
+            if inside {
+                holding[step] += 1;
+            }
+        }
+    }
+    holding.iter().all(|&number| number <= places)
+}
+
+/// The fewest loads of ANY plan for this job and order that passes the check, by trying every
+/// drop set and every load set from every set that can be held. `None`: no plan passes.
+/// For small jobs: curves up to about 8.
+pub fn least_loads(places: usize, curves: usize, wants: &[u64], order: &[u16]) -> Option<u64> {
+    let all = 1usize << curves;
+    // fewest[h]: fewest loads so far with h held.
+    let mut fewest: Vec<Option<u64>> = vec![None; all];
+    fewest[0] = Some(0);
+    for &test in order {
+        let wanted = wants[test as usize] as usize;
+        let mut then: Vec<Option<u64>> = vec![None; all];
+        for held in 0..all {
+            let Some(so_far) = fewest[held] else { continue };
+            for drops in (0..all).filter(|&drops| drops & !held == 0) {
+                let left = held & !drops;
+                for loads in (0..all).filter(|&loads| loads & left == 0) {
+                    let after = left | loads;
+                    let runs = wanted & !after == 0 && after.count_ones() as usize <= places;
+                    if !runs {
+                        continue;
+                    }
+                    let total = so_far + loads.count_ones() as u64;
+                    if then[after].is_none_or(|known| total < known) {
+                        then[after] = Some(total);
+                    }
+                }
+            }
+        }
+        fewest = then;
+    }
+    fewest.into_iter().flatten().min()
+}
+
+#[cfg(test)]
+mod tests {
+    use super::*;
+    use crate::generate;
+    use crate::random::Random;
+
+    #[test]
+    fn opening_is_the_longest_run() {
+        let mut random = Random::new(11);
+        for _ in 0..2_000 {
+            let job = generate::job(&mut random, generate::Size::Small);
+            let wants = sets_of(&job.wants);
+            let tests: Vec<usize> = (0..wants.len()).collect();
+            let longest = (0..=tests.len())
+                .rev()
+                .find(|&length| curves_of(&tests[..length], &wants).len() <= job.places)
+                .unwrap();
+            let expected = curves_of(&tests[..longest], &wants);
+            assert_eq!(opening(&tests, job.places, &wants), expected);
+        }
+    }
+}
