@@ -6,7 +6,7 @@ use lib.ListN.{length, take, drop}
 use lib.Seq.{take-at}
 use Rattle.job.specs.declared.Counted.{Counted}
 use Rattle.job.specs.declared.Refusal.{Refusal}
-use Rattle.job.specs.Refusal.{Outcome, done, refused, number, figure, countOutcome, _>>=_, _>>_, mapped, overwritten, leaves}
+use Rattle.job.specs.Refusal.{Outcome, done, refused, number, figure, countOutcome, _>>=_, _>>_, mapped, overwritten}
 use Rattle.job.specs.Handed.{countsKnown}
 use Rattle.job.specs.JobBytes.{Job, readBytes}
 use Rattle.job.proofs.Laws.{both-done, done-room, mapped-done, mapped-refused, leaves-done}
@@ -17,7 +17,7 @@ use Rattle.plan_bytes.proofs.ReadPlan.{plan-count}
 use Rattle.report.specs.declared.audit.Audited.{Audited}
 use Rattle.report.specs.Audit.{Audit, testsOf, dropsOf, loadsOf, auditSteps, auditPlan, audit, auditedOutcome, auditText, writeAudit, auditAnswer, auditBuffer}
 use Rattle.report.specs.Report.{text, decimal, printed}
-use Rattle.report.specs.Text.{fitted}
+use Rattle.report.specs.Text.{fitted, Filled}
 
 -- ---- outcomes
 
@@ -26,7 +26,7 @@ unfolding mapped
 mapped-twice f g (done a) = refl
 mapped-twice f g (refused k i) = refl
 
-mapped-bind : {A B : Type 0} (f : A → B) (a : Outcome A) → mapped f a ≡ _>>=_ a (λ x. done (f x))
+pub mapped-bind : {A B : Type 0} (f : A → B) (a : Outcome A) → mapped f a ≡ _>>=_ a (λ x. done (f x))
 unfolding mapped _>>=_
 mapped-bind f (done a) = refl
 mapped-bind f (refused k i) = refl
@@ -34,7 +34,7 @@ mapped-bind f (refused k i) = refl
 -- ---- the fewest loads
 
 -- lists that are long enough make no difference
-planning-room : (p c : ℕ) (ws order : List ℕ) (a b : ℕ) → length ws ≤ a → length ws ≤ b → planning p c ws order a a ≡ planning p c ws order b b
+pub planning-room : (p c : ℕ) (ws order : List ℕ) (a b : ℕ) → length ws ≤ a → length ws ≤ b → planning p c ws order a a ≡ planning p c ws order b b
 unfolding planning
 planning-room p c ws order a b l m = rw (done-room a (length ws) l, done-room b (length ws) m) refl
 
@@ -75,7 +75,7 @@ length-map f [] = refl
 length-map f (x ∷ xs) = ap suc (length-map f xs)
 
 -- the first entries of a list that a result was written to
-front : (new old : List ℕ) (n : ℕ) → length new ≡ n → take n (overwritten new old) ≡ new
+pub front : (new old : List ℕ) (n : ℕ) → length new ≡ n → take n (overwritten new old) ≡ new
 unfolding overwritten
 front new old n e = take-at new (drop (length new) old) n e
 
@@ -146,15 +146,15 @@ counts-lines l f = simp append-assoc
 
 module _ (job plan old : List ℕ) where
   -- what is written of an audit
-  pub audit-refused : (r : Refusal) → audit job plan ≡ refused (number r) (figure r)
-      → (auditAnswer job plan old ≡ mapped length (fitted (printed (refused (number r) (figure r))) (length old))) × (auditBuffer job plan old ≡ leaves (fitted (printed (refused (number r) (figure r))) (length old)) old)
+  pub audit-refused : {answer : Outcome ℕ} {new : List ℕ} (r : Refusal) → audit job plan ≡ refused (number r) (figure r) → Filled (printed (refused (number r) (figure r))) old answer new
+      → (answer ≡ auditAnswer job plan old) × (new ≡ auditBuffer job plan old)
   unfolding auditAnswer auditBuffer writeAudit auditText fitted
-  audit-refused r e = rw e (refl, refl)
+  audit-refused r e f = rw e (f .answers, f .holds)
 
-  pub audit-counted : (l f : ℕ) → audit job plan ≡ done (record { loads = l; fewest = f })
-      → (auditAnswer job plan old ≡ mapped length (fitted (auditText (done (record { loads = l; fewest = f }))) (length old))) × (auditBuffer job plan old ≡ leaves (fitted (auditText (done (record { loads = l; fewest = f }))) (length old)) old)
+  pub audit-counted : {answer : Outcome ℕ} {new : List ℕ} (l f : ℕ) → audit job plan ≡ done (record { loads = l; fewest = f }) → Filled (auditText (done (record { loads = l; fewest = f }))) old answer new
+      → (answer ≡ auditAnswer job plan old) × (new ≡ auditBuffer job plan old)
   unfolding auditAnswer auditBuffer writeAudit fitted
-  audit-counted l f e = rw e (refl, refl)
+  audit-counted l f e w = rw e (w .answers, w .holds)
 
 -- what the audit answered
 pub audited-refused : (x : Audited) (r : Refusal) (o : Outcome Audit) → x ≡ Audited.Refused r → auditedOutcome x ≡ o → o ≡ refused (number r) (figure r)

@@ -12,7 +12,7 @@ use Rattle.job.specs.Refusal.{Outcome, done, refused, number, figure, countOutc
 use Rattle.job.proofs.Laws.{mapped-done, both-done, done-same, room-done}
 use Rattle.report.specs.Report.{sheet, writeSheet, sheetAnswer}
 use Rattle.report.specs.Audit.{audit, auditText, writeAudit, auditAnswer}
-use Rattle.report.specs.Text.{Wrote, fitted}
+use Rattle.report.specs.Text.{Wrote, fitted, Filled}
 
 module _ (text old : List ℕ) where
   fitted-short : length old < length text → fitted text (length old) ≡ refused 9 (length text)
@@ -24,29 +24,21 @@ module _ (text old : List ℕ) where
   fitted-whole h = rw (le-leb (length text) (length old) h) refl
 
   module _ {dummy measured : List ℕ} {n : ℕ} (first : Wrote dummy 0 text measured n) where
-    pub answer-short : length old < n → countOutcome (Counted.Refused (Refusal.BufferTooSmall n)) ≡ mapped length (fitted text (length old))
-    unfolding countOutcome number figure mapped
-    answer-short h =
+    pub fill-short : length old < n → Filled text old (countOutcome (Counted.Refused (Refusal.BufferTooSmall n))) old
+    unfolding countOutcome number figure mapped leaves
+    fill-short h =
         let e : n ≡ length text = omega (arith, first .behind) in
-        rw (fitted-short (omega arith), e) refl
+        let f = fitted-short (omega arith) in
+        record { answers = rw (f, e) refl; holds = rw f refl }
 
-    pub buffer-short : length old < n → old ≡ leaves (fitted text (length old)) old
-    unfolding leaves
-    buffer-short h = rw (fitted-short (omega (arith, first .behind))) refl
-
-    module _ {new : List ℕ} {m : ℕ} (second : Wrote old 0 text new m) where
-      pub answer-whole : n ≤ length old → countOutcome (Counted.Count m) ≡ mapped length (fitted text (length old))
-      unfolding countOutcome mapped
-      answer-whole h =
-          let e : m ≡ length text = omega (arith, second .behind) in
-          rw (fitted-whole (omega (arith, first .behind)), e) refl
-
-      pub buffer-whole : n ≤ length old → new ≡ leaves (fitted text (length old)) old
-      unfolding leaves overwritten
-      buffer-whole h =
-          let l : length text ≤ length old = omega (arith, first .behind) in
-          let z : 0 + length text ≡ length text = omega arith in
-          second .written ∙ rw (fitted-whole l) (rw z at (sets-eq text old 0 (omega arith)))
+    pub fill-whole : {new : List ℕ} {m : ℕ} → n ≤ length old → Wrote old 0 text new m → Filled text old (countOutcome (Counted.Count m)) new
+    unfolding countOutcome mapped leaves overwritten
+    fill-whole {new} {m} h second =
+        let l : length text ≤ length old = omega (arith, first .behind) in
+        let e : m ≡ length text = omega (arith, second .behind) in
+        let z : 0 + length text ≡ length text = omega arith in
+        let f = fitted-whole l in
+        record { answers = rw (f, e) refl; holds = second .written ∙ rw f (rw z at (sets-eq text old 0 (omega arith))) }
 
 -- a count that was answered is within the buffer
 counted : (text : List ℕ) (lent k : ℕ) → mapped length (fitted text lent) ≡ done k → k ≤ lent

@@ -7,6 +7,7 @@
 --     Fitted   a text that was measured, and is then refused or written
 --     Longest  the longest sheet
 --     Auditing an audit, stage by stage
+--     Reporting the sheet, stage by stage
 --     Fewest   what an audit says: the loads of a plan, and the fewest
 pub mod Decimal
 pub mod Digits
@@ -17,3 +18,4 @@ pub mod Fitted
 pub mod Fewest
 pub mod Longest
 pub mod Auditing
+pub mod Reporting

@@ -9,10 +9,10 @@ use job::Refusal;
 ghost use mathlib.Core.Path.{_≡_};
 ghost use Prim.Native.Nat.{_≤_};
 ghost use lib.ListN.{length};
-ghost use Rattle.job.specs.Refusal.{done, mapped, countOutcome, leaves};
+ghost use Rattle.job.specs.Refusal.{done, mapped, countOutcome};
 ghost use Rattle.planning.specs.Plan.{loadCount};
 ghost use Rattle.planning.specs.Planning.{planning};
-ghost use Rattle.report.specs.Text.{Wrote, fitted};
+ghost use Rattle.report.specs.Text.{Wrote, Filled};
 ghost use Rattle.report.specs.Audit.{auditedOutcome, auditSteps, auditPlan, audit, auditText, auditAnswer, auditBuffer};
 
 // What an audit answers: the load count of the plan and the fewest.
@@ -72,7 +72,7 @@ fn audit(job: &[u8], plan: &[u8]) -> Audited
     ensures { λ r. ⌜ auditedOutcome r ≡ audit (now (job .entry)) (now (plan .entry)) ⌝ }
 {
     let mut wants = [0u64; 256];
-    match job::reading::read_job(job, &mut wants) {
+    match job::read_job(job, &mut wants) {
         JobRead::Refused(r) => Audited::Refused(r),
         JobRead::Read(head) => {
             let n = head.tests;
@@ -94,8 +94,7 @@ fn put_counts(out: &mut [u8], loads: usize, fewest: usize) -> usize
 // The counts as text, where the buffer has room for it.
 fn write_counts(loads: usize, fewest: usize, out: &mut [u8]) -> Counted
     requires { ⌜ fewest ≤ loads ⌝ }
-    ensures answer { λ r. ⌜ countOutcome r ≡ mapped length (fitted (auditText (done (record { loads = loads; fewest = fewest }))) (length (now (out .entry)))) ⌝ }
-    ensures bytes { λ _. ⌜ now (out .exit) ≡ leaves (fitted (auditText (done (record { loads = loads; fewest = fewest }))) (length (now (out .entry)))) (now (out .entry)) ⌝ }
+    ensures { λ r. ⌜ Filled (auditText (done (record { loads = loads; fewest = fewest }))) (now (out .entry)) (countOutcome r) (now (out .exit)) ⌝ }
 {
     let mut none = [0u8; 1];
     let needed = put_counts(&mut none, loads, fewest);

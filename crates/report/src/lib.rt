@@ -1,14 +1,16 @@
 // The text of the sheet, as bytes in a lent buffer.
 use job::Counted;
 use job::Head;
+use job::JobRead;
 use job::Refusal;
 ghost use mathlib.Core.Path.{_≡_};
 ghost use mathlib.Core.List.{[], _∷_, _++_};
-ghost use Prim.Native.Nat.{_+_, _^_, _<_};
+ghost use Prim.Native.Nat.{_+_, _^_, _≤_, _<_};
 ghost use lib.ListN.{length};
-ghost use Rattle.report.specs.Report.{text, decimal, setText, stepText, stepsText, headText, planText, printed};
-ghost use Rattle.report.specs.Text.{Wrote, shown, fitted};
-ghost use Rattle.job.specs.Refusal.{refused, number, figure, countOutcome, mapped, leaves};
+ghost use Rattle.report.specs.Report.{text, decimal, setText, stepText, stepsText, headText, planText, printed, sheetAnswer, sheetBuffer};
+ghost use Rattle.report.specs.Text.{Wrote, shown, Filled, planInOrder};
+ghost use Rattle.job.specs.Refusal.{refused, number, figure, countOutcome};
+ghost use Rattle.curveplan.specs.Call.{orderAndPlan};
 ghost use Rattle.planning.specs.Plan.{steps, loadCount};
 
 pub mod audit; // audit.rt: a plan beside the fewest loads
@@ -170,9 +172,8 @@ fn write_plan(
 ) -> Counted
     requires { ⌜ (length (now drops) ≡ length (now order)) × (length (now loads) ≡ length (now order)) ⌝ }
     requires { ⌜ count ≡ loadCount (now loads) ⌝ }
-    requires { ⌜ length (planText (shown head (now order) (now drops) (now loads))) < 2 ^ 64 ⌝ }
-    ensures answer { λ r. ⌜ countOutcome r ≡ mapped length (fitted (planText (shown head (now (order .entry)) (now (drops .entry)) (now (loads .entry)))) (length (now (out .entry)))) ⌝ }
-    ensures bytes { λ _. ⌜ now (out .exit) ≡ leaves (fitted (planText (shown head (now (order .entry)) (now (drops .entry)) (now (loads .entry)))) (length (now (out .entry)))) (now (out .entry)) ⌝ }
+    requires { ⌜ (head .tests ≤ 256) × (head .places ≤ 64) × (head .method ≤ 3) × (length (now order) ≤ 256) ⌝ }
+    ensures { λ r. ⌜ Filled (planText (shown head (now (order .entry)) (now (drops .entry)) (now (loads .entry)))) (now (out .entry)) (countOutcome r) (now (out .exit)) ⌝ }
 {
     let mut none = [0u8; 1];
     let needed = put_plan(&mut none, head, order, drops, loads, count);
@@ -224,15 +225,66 @@ fn refusal_figure(r: Refusal) -> usize
 
 // The sheet of a refusal, where the buffer has room for it.
 fn write_refusal(r: Refusal, out: &mut [u8]) -> Counted
-    ensures answer { λ c. ⌜ countOutcome c ≡ mapped length (fitted (printed (refused (number r) (figure r))) (length (now (out .entry)))) ⌝ }
-    ensures bytes { λ _. ⌜ now (out .exit) ≡ leaves (fitted (printed (refused (number r) (figure r))) (length (now (out .entry)))) (now (out .entry)) ⌝ }
+    ensures { λ c. ⌜ Filled (printed (refused (number r) (figure r))) (now (out .entry)) (countOutcome c) (now (out .exit)) ⌝ }
 {
     let number = refusal_number(r);
     let figure = refusal_figure(r);
     let mut none = [0u8; 1];
-    let needed = put_refusal(&mut none, number, figure);
-    if out.len() < needed {
-        return Counted::Refused(Refusal::BufferTooSmall(needed));
+    let bytes = put_refusal(&mut none, number, figure);
+    if out.len() < bytes {
+        return Counted::Refused(Refusal::BufferTooSmall(bytes));
     }
     Counted::Count(put_refusal(out, number, figure))
+}
+
+// The sheet of a job in a given order: planning, and its plan or its refusal.
+fn write_ordered(head: Head, wants: &[u64], order: &[u16], out: &mut [u8]) -> Counted
+    requires { ⌜ (head .tests ≤ 256) × (head .places ≤ 64) × (head .method ≤ 3) ⌝ }
+    requires { ⌜ (length (now wants) ≡ head .tests) × (length (now order) ≡ head .tests) ⌝ }
+    ensures { λ r. ⌜ Filled (printed (planInOrder (record { head = head; wants = now (wants .entry) }) (now (order .entry)))) (now (out .entry)) (countOutcome r) (now (out .exit)) ⌝ }
+{
+    let n = head.tests;
+    let mut drops = [0u64; 256];
+    let mut loads = [0u64; 256];
+    match planning::plan(
+        head.places,
+        head.curves,
+        wants,
+        order,
+        &mut drops,
+        &mut loads,
+    ) {
+        Counted::Refused(r) => write_refusal(r, out),
+        Counted::Count(count) => write_plan(head, order, &drops[..n], &loads[..n], count, out),
+    }
+}
+
+// The sheet of a job that was read: ordering, and planning in that order.
+fn write_read(head: Head, wants: &[u64], out: &mut [u8]) -> Counted
+    requires { ⌜ (head .tests ≤ 256) × (head .places ≤ 64) × (head .method ≤ 3) ⌝ }
+    requires { ⌜ length (now wants) ≡ head .tests ⌝ }
+    ensures { λ r. ⌜ Filled (printed (orderAndPlan (record { head = head; wants = now (wants .entry) }))) (now (out .entry)) (countOutcome r) (now (out .exit)) ⌝ }
+{
+    let n = head.tests;
+    let mut order = [0u16; 256];
+    match ordering::order_tests(head.places, head.curves, head.method, wants, &mut order) {
+        Counted::Refused(r) => write_refusal(r, out),
+        Counted::Count(_) => write_ordered(head, wants, &order[..n], out),
+    }
+}
+
+// "prints test count, places and method; for each step its position, test, drops and loads in rising order; the load count": of a job's bytes, in a lent
+// buffer.
+pub fn write_report(job: &[u8], out: &mut [u8]) -> Counted
+    ensures answer { λ r. ⌜ countOutcome r ≡ sheetAnswer (now (job .entry)) (now (out .entry)) ⌝ }
+    ensures bytes { λ _. ⌜ now (out .exit) ≡ sheetBuffer (now (job .entry)) (now (out .entry)) ⌝ }
+{
+    let mut wants = [0u64; 256];
+    match job::read_job(job, &mut wants) {
+        JobRead::Refused(r) => write_refusal(r, out),
+        JobRead::Read(head) => {
+            let n = head.tests;
+            write_read(head, &wants[..n], out)
+        }
+    }
 }

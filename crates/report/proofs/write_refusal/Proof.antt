@@ -2,7 +2,7 @@
 use denote.Ref.{now}
 use Rattle.report.specs.Report.{printed}
 use Rattle.job.specs.Refusal.{refused}
-use Rattle.report.proofs.Fitted.{answer-short, buffer-short, answer-whole, buffer-whole}
+use Rattle.report.proofs.Fitted.{fill-short, fill-whole}
 use borrow.Author.Needs.{needs}
 use Rattle.report.proofs.write_refusal.Statement.{statement}
 use Rattle.report.proofs.write_refusal.Tie as tie
@@ -26,7 +26,7 @@ returns c =
     let t = printed (refused (k .result) (i .result)) in
     let o = now (c .before .before .before .before .before .before .before .args .out) in
     let w = c .before .before .put-refusal .ensures in
-    rw (← k .ensures, ← i .ensures) (answer-short t o w (c .if1 .taken), buffer-short t o w (c .if1 .taken))
+    rw (← k .ensures, ← i .ensures) (fill-short t o w (c .if1 .taken))
 
 put-refusal-requires-2 : tie.Need-put-refusal-requires-2
 put-refusal-requires-2 c κs = search needs
@@ -42,7 +42,7 @@ returns-2 c =
     let o = now (c .before .before .before .before .before .before .before .before .before .before .before .args .out) in
     let w = c .before .before .before .before .before .before .put-refusal .ensures in
     let v = c .before .before .put-refusal2 .ensures in
-    rw (← k .ensures, ← i .ensures) (answer-whole t o w v (c .before .before .before .before .if1 .left), buffer-whole t o w v (c .before .before .before .before .if1 .left))
+    rw (← k .ensures, ← i .ensures) (fill-whole t o w (c .before .before .before .before .if1 .left) v)
 
 pub write-refusal-spec : {M : Type 1} → statement M
 write-refusal-spec =

@@ -1,5 +1,4 @@
 -- `report::audit::write_audit` meets its contract. That the fewest loads are at most the plan's is `audit-fewer`.
-use mathlib.Core.Path.{sym, _∙_}
 use native.Mathlib.Omega.{arith}
 use denote.Ref.{now}
 use Rattle.curveplan.proofs.Reading.{bytes-of}
@@ -33,8 +32,7 @@ same-length c = search needs
 returns : tie.Need-returns
 returns c =
     let a = c .before .before .before .before .before .before .before .before .before .before .before .args in
-    let e = audit-refused (now (a .job)) (now (a .plan)) (now (a .out)) _ (audited-refused _ _ _ (c .before .before .before .before .before .r .given .1) (c .before .before .before .before .before .before .before .audit .ensures)) in
-    (c .before .before .write-refusal .ensures .0 ∙ sym (e .0), c .before .before .write-refusal .ensures .1 ∙ sym (e .1))
+    audit-refused (now (a .job)) (now (a .plan)) (now (a .out)) _ (audited-refused _ _ _ (c .before .before .before .before .before .r .given .1) (c .before .before .before .before .before .before .before .audit .ensures)) (c .before .before .write-refusal .ensures)
 
 same-length-2 : tie.Need-same-length-2
 same-length-2 c = search needs
@@ -42,8 +40,7 @@ same-length-2 c = search needs
 returns-2 : tie.Need-returns-2
 returns-2 c =
     let a = c .before .before .before .before .before .before .before .before .before .before .before .args in
-    let e = audit-counted (now (a .job)) (now (a .plan)) (now (a .out)) _ _ (audited-counts _ _ _ _ (c .before .before .before .before .before .loads .given .1) (c .before .before .before .before .before .before .before .audit .ensures)) in
-    (c .before .before .write-counts .ensures .0 ∙ sym (e .0), c .before .before .write-counts .ensures .1 ∙ sym (e .1))
+    audit-counted (now (a .job)) (now (a .plan)) (now (a .out)) _ _ (audited-counts _ _ _ _ (c .before .before .before .before .before .loads .given .1) (c .before .before .before .before .before .before .before .audit .ensures)) (c .before .before .write-counts .ensures)
 
 pub write-audit-spec : {M : Type 1} → statement M
 write-audit-spec =

@@ -2,7 +2,7 @@
 use denote.Ref.{now}
 use Rattle.job.specs.Refusal.{done}
 use Rattle.report.specs.Audit.{auditText}
-use Rattle.report.proofs.Fitted.{answer-short, buffer-short, answer-whole, buffer-whole}
+use Rattle.report.proofs.Fitted.{fill-short, fill-whole}
 use borrow.Author.Needs.{needs}
 use Rattle.report.proofs.audit.write_counts.Statement.{statement}
 use Rattle.report.proofs.audit.write_counts.Tie as tie
@@ -18,7 +18,7 @@ returns c =
     let a = c .before .before .before .before .before .args in
     let t = auditText (done (record { loads = a .loads; fewest = a .fewest })) in
     let w = c .before .before .put-counts .ensures in
-    (answer-short t (now (a .out)) w (c .if1 .taken), buffer-short t (now (a .out)) w (c .if1 .taken))
+    (fill-short t (now (a .out)) w (c .if1 .taken))
 
 put-counts-requires-2 : tie.Need-put-counts-requires-2
 put-counts-requires-2 c κs = search needs
@@ -32,7 +32,7 @@ returns-2 c =
     let t = auditText (done (record { loads = a .loads; fewest = a .fewest })) in
     let w = c .before .before .before .before .before .before .put-counts .ensures in
     let v = c .before .before .put-counts2 .ensures in
-    (answer-whole t (now (a .out)) w v (c .before .before .before .before .if1 .left), buffer-whole t (now (a .out)) w v (c .before .before .before .before .if1 .left))
+    (fill-whole t (now (a .out)) w (c .before .before .before .before .if1 .left) v)
 
 pub write-counts-spec : {M : Type 1} → statement M
 write-counts-spec =
