@@ -1,2 +1,21 @@
--- The numbers of the sheet are in decimal.
+-- The text of the sheet.
+--     Decimal  the numbers of the sheet are in decimal
+--     Digits   the last digit of a number, and how many there are
+--     Curves   the curves of a set, from the lowest on
+--     Writing  texts that are put one behind the other
+--     Lines    the lines of the sheet, grouped as they are put
+--     Fitted   a text that was measured, and is then refused or written
+--     Longest  the longest sheet
+--     Auditing an audit, stage by stage
+--     Reporting the sheet, stage by stage
+--     Fewest   what an audit says: the loads of a plan, and the fewest
 pub mod Decimal
+pub mod Digits
+pub mod Curves
+pub mod Writing
+pub mod Lines
+pub mod Fitted
+pub mod Fewest
+pub mod Longest
+pub mod Auditing
+pub mod Reporting

@@ -1,1 +1,290 @@
-// The sheet's text.
+// The text of the sheet, as bytes in a lent buffer.
+use job::Counted;
+use job::Head;
+use job::JobRead;
+use job::Refusal;
+ghost use mathlib.Core.Path.{_≡_};
+ghost use mathlib.Core.List.{[], _∷_, _++_};
+ghost use Prim.Native.Nat.{_+_, _^_, _≤_, _<_};
+ghost use lib.ListN.{length};
+ghost use Rattle.report.specs.Report.{text, decimal, setText, stepText, stepsText, headText, planText, printed, sheetAnswer, sheetBuffer};
+ghost use Rattle.report.specs.Text.{Wrote, shown, Filled, planInOrder};
+ghost use Rattle.job.specs.Refusal.{refused, number, figure, countOutcome};
+ghost use Rattle.curveplan.specs.Call.{orderAndPlan};
+ghost use Rattle.planning.specs.Plan.{steps, loadCount};
+
+pub mod audit; // audit.rt: a plan beside the fewest loads
+
+// Each function that puts a text takes the buffer and a position, and answers the position behind the text. It writes the bytes that the buffer has room
+// for: so a first pass over a buffer of one byte tells how long a text is, and a second one writes it.
+
+fn put_byte(out: &mut [u8], at: usize, b: u8) -> usize
+    requires { ⌜ at + 1 < 2 ^ 64 ⌝ }
+    ensures { λ r. ⌜ Wrote (now (out .entry)) at (b ∷ []) (now (out .exit)) r ⌝ }
+{
+    if at < out.len() {
+        out[at] = b;
+    }
+    at + 1
+}
+
+fn put_text(out: &mut [u8], at: usize, text: &[u8]) -> usize
+    requires { ⌜ at + length (now text) < 2 ^ 64 ⌝ }
+    ensures { λ r. ⌜ Wrote (now (out .entry)) at (now (text .entry)) (now (out .exit)) r ⌝ }
+{
+    let mut to = at;
+    let mut i = 0;
+    while i < text.len() {
+        to = put_byte(out, to, text[i]);
+        i += 1;
+    }
+    to
+}
+
+// A number in decimal digits.
+fn put_decimal(out: &mut [u8], at: usize, n: usize) -> usize
+    requires { ⌜ at + length (decimal n) < 2 ^ 64 ⌝ }
+    ensures { λ r. ⌜ Wrote (now (out .entry)) at (decimal n) (now (out .exit)) r ⌝ }
+{
+    let mut to = at;
+    if 10 <= n {
+        to = put_decimal(out, at, n / 10);
+    }
+    put_byte(out, to, 48 + (n % 10) as u8)
+}
+
+// A number and the text behind it.
+fn put_number(out: &mut [u8], at: usize, n: usize, text: &[u8]) -> usize
+    requires { ⌜ at + length (decimal n ++ now text) < 2 ^ 64 ⌝ }
+    ensures { λ r. ⌜ Wrote (now (out .entry)) at (decimal n ++ now (text .entry)) (now (out .exit)) r ⌝ }
+{
+    let to = put_decimal(out, at, n);
+    put_text(out, to, text)
+}
+
+// The curves of a set "in rising order", or "none", each behind a space.
+fn put_set(out: &mut [u8], at: usize, s: u64) -> usize
+    requires { ⌜ at + length (setText s) < 2 ^ 64 ⌝ }
+    ensures { λ r. ⌜ Wrote (now (out .entry)) at (setText s) (now (out .exit)) r ⌝ }
+{
+    if s == 0 {
+        return put_text(out, at, b" none");
+    }
+    let mut to = at;
+    let mut left = s;
+    while left != 0 {
+        to = put_byte(out, to, b' ');
+        to = put_decimal(out, to, bitset::lowest(left));
+        left = bitset::without_lowest(left);
+    }
+    to
+}
+
+// The line of a step: its position, test, drops and loads.
+fn put_step(
+    out: &mut [u8],
+    at: usize,
+    position: usize,
+    test: usize,
+    drops: u64,
+    loads: u64,
+) -> usize
+    requires { ⌜ at + length (stepText position (record { test = test; drops = drops; loads = loads })) < 2 ^ 64 ⌝ }
+    ensures { λ r. ⌜ Wrote (now (out .entry)) at (stepText position (record { test = test; drops = drops; loads = loads })) (now (out .exit)) r ⌝ }
+{
+    let mut to = put_number(out, at, position, b": test ");
+    to = put_number(out, to, test, b" drop");
+    to = put_set(out, to, drops);
+    to = put_text(out, to, b" load");
+    to = put_set(out, to, loads);
+    put_byte(out, to, b'\n')
+}
+
+// "for each step its position, test, drops and loads"
+fn put_steps(out: &mut [u8], at: usize, order: &[u16], drops: &[u64], loads: &[u64]) -> usize
+    requires { ⌜ (length (now drops) ≡ length (now order)) × (length (now loads) ≡ length (now order)) ⌝ }
+    requires { ⌜ at + length (stepsText 0 (steps (now order) (now drops) (now loads))) < 2 ^ 64 ⌝ }
+    ensures { λ r. ⌜ Wrote (now (out .entry)) at (stepsText 0 (steps (now (order .entry)) (now (drops .entry)) (now (loads .entry)))) (now (out .exit)) r ⌝ }
+{
+    let mut to = at;
+    let mut i = 0;
+    while i < order.len() {
+        to = put_step(out, to, i, order[i] as usize, drops[i], loads[i]);
+        i += 1;
+    }
+    to
+}
+
+// "test count, places and method"
+fn put_head(out: &mut [u8], at: usize, head: Head) -> usize
+    requires { ⌜ at + length (headText (shown head [] [] [])) < 2 ^ 64 ⌝ }
+    ensures { λ r. ⌜ Wrote (now (out .entry)) at (headText (shown head [] [] [])) (now (out .exit)) r ⌝ }
+{
+    let mut to = put_number(out, at, head.tests, b" tests, ");
+    to = put_number(out, to, head.places, b" places, method ");
+    put_number(out, to, head.method, b"\n")
+}
+
+// "the load count"
+fn put_loads(out: &mut [u8], at: usize, count: usize) -> usize
+    requires { ⌜ at + length (text "loads " ++ decimal count ++ text "\n") < 2 ^ 64 ⌝ }
+    ensures { λ r. ⌜ Wrote (now (out .entry)) at (text "loads " ++ decimal count ++ text "\n") (now (out .exit)) r ⌝ }
+{
+    let to = put_text(out, at, b"loads ");
+    put_number(out, to, count, b"\n")
+}
+
+fn put_plan(
+    out: &mut [u8],
+    head: Head,
+    order: &[u16],
+    drops: &[u64],
+    loads: &[u64],
+    count: usize,
+) -> usize
+    requires { ⌜ (length (now drops) ≡ length (now order)) × (length (now loads) ≡ length (now order)) ⌝ }
+    requires { ⌜ count ≡ loadCount (now loads) ⌝ }
+    requires { ⌜ length (planText (shown head (now order) (now drops) (now loads))) < 2 ^ 64 ⌝ }
+    ensures { λ r. ⌜ Wrote (now (out .entry)) 0 (planText (shown head (now (order .entry)) (now (drops .entry)) (now (loads .entry)))) (now (out .exit)) r ⌝ }
+{
+    let mut to = put_head(out, 0, head);
+    to = put_steps(out, to, order, drops, loads);
+    put_loads(out, to, count)
+}
+
+// "A refusal prints only `refused 7 at 0` with its own figures."
+fn put_refusal(out: &mut [u8], number: usize, figure: usize) -> usize
+    ensures { λ r. ⌜ Wrote (now (out .entry)) 0 (printed (refused number figure)) (now (out .exit)) r ⌝ }
+{
+    let mut to = put_text(out, 0, b"refused ");
+    to = put_number(out, to, number, b" at ");
+    put_number(out, to, figure, b"\n")
+}
+
+// The sheet of a plan, where the buffer has room for it.
+fn write_plan(
+    head: Head,
+    order: &[u16],
+    drops: &[u64],
+    loads: &[u64],
+    count: usize,
+    out: &mut [u8],
+) -> Counted
+    requires { ⌜ (length (now drops) ≡ length (now order)) × (length (now loads) ≡ length (now order)) ⌝ }
+    requires { ⌜ count ≡ loadCount (now loads) ⌝ }
+    requires { ⌜ (head .tests ≤ 256) × (head .places ≤ 64) × (head .method ≤ 3) × (length (now order) ≤ 256) ⌝ }
+    ensures { λ r. ⌜ Filled (planText (shown head (now (order .entry)) (now (drops .entry)) (now (loads .entry)))) (now (out .entry)) (countOutcome r) (now (out .exit)) ⌝ }
+{
+    let mut none = [0u8; 1];
+    let needed = put_plan(&mut none, head, order, drops, loads, count);
+    if out.len() < needed {
+        return Counted::Refused(Refusal::BufferTooSmall(needed));
+    }
+    Counted::Count(put_plan(out, head, order, drops, loads, count))
+}
+
+// A refusal's number ..
+fn refusal_number(r: Refusal) -> usize
+    ensures { λ n. ⌜ n ≡ number r ⌝ }
+{
+    match r {
+        Refusal::Truncated(_) => 1,
+        Refusal::BadHeader(_) => 2,
+        Refusal::EmptyGroup(_) => 3,
+        Refusal::UnknownCurve(_) => 4,
+        Refusal::NoTests => 5,
+        Refusal::TrailingBytes(_) => 6,
+        Refusal::TestTooLarge(_) => 7,
+        Refusal::BadOrder(_) => 8,
+        Refusal::BufferTooSmall(_) => 9,
+        Refusal::BadArgument(_) => 10,
+        Refusal::BadPlanBytes(_) => 11,
+        Refusal::PlanRejected(_) => 12,
+    }
+}
+
+// .. and its figure.
+fn refusal_figure(r: Refusal) -> usize
+    ensures { λ n. ⌜ n ≡ figure r ⌝ }
+{
+    match r {
+        Refusal::Truncated(i) => i,
+        Refusal::BadHeader(i) => i,
+        Refusal::EmptyGroup(i) => i,
+        Refusal::UnknownCurve(i) => i,
+        Refusal::NoTests => 0,
+        Refusal::TrailingBytes(i) => i,
+        Refusal::TestTooLarge(i) => i,
+        Refusal::BadOrder(i) => i,
+        Refusal::BufferTooSmall(i) => i,
+        Refusal::BadArgument(i) => i,
+        Refusal::BadPlanBytes(i) => i,
+        Refusal::PlanRejected(i) => i,
+    }
+}
+
+// The sheet of a refusal, where the buffer has room for it.
+fn write_refusal(r: Refusal, out: &mut [u8]) -> Counted
+    ensures { λ c. ⌜ Filled (printed (refused (number r) (figure r))) (now (out .entry)) (countOutcome c) (now (out .exit)) ⌝ }
+{
+    let number = refusal_number(r);
+    let figure = refusal_figure(r);
+    let mut none = [0u8; 1];
+    let bytes = put_refusal(&mut none, number, figure);
+    if out.len() < bytes {
+        return Counted::Refused(Refusal::BufferTooSmall(bytes));
+    }
+    Counted::Count(put_refusal(out, number, figure))
+}
+
+// The sheet of a job in a given order: planning, and its plan or its refusal.
+fn write_ordered(head: Head, wants: &[u64], order: &[u16], out: &mut [u8]) -> Counted
+    requires { ⌜ (head .tests ≤ 256) × (head .places ≤ 64) × (head .method ≤ 3) ⌝ }
+    requires { ⌜ (length (now wants) ≡ head .tests) × (length (now order) ≡ head .tests) ⌝ }
+    ensures { λ r. ⌜ Filled (printed (planInOrder (record { head = head; wants = now (wants .entry) }) (now (order .entry)))) (now (out .entry)) (countOutcome r) (now (out .exit)) ⌝ }
+{
+    let n = head.tests;
+    let mut drops = [0u64; 256];
+    let mut loads = [0u64; 256];
+    match planning::plan(
+        head.places,
+        head.curves,
+        wants,
+        order,
+        &mut drops,
+        &mut loads,
+    ) {
+        Counted::Refused(r) => write_refusal(r, out),
+        Counted::Count(count) => write_plan(head, order, &drops[..n], &loads[..n], count, out),
+    }
+}
+
+// The sheet of a job that was read: ordering, and planning in that order.
+fn write_read(head: Head, wants: &[u64], out: &mut [u8]) -> Counted
+    requires { ⌜ (head .tests ≤ 256) × (head .places ≤ 64) × (head .method ≤ 3) ⌝ }
+    requires { ⌜ length (now wants) ≡ head .tests ⌝ }
+    ensures { λ r. ⌜ Filled (printed (orderAndPlan (record { head = head; wants = now (wants .entry) }))) (now (out .entry)) (countOutcome r) (now (out .exit)) ⌝ }
+{
+    let n = head.tests;
+    let mut order = [0u16; 256];
+    match ordering::order_tests(head.places, head.curves, head.method, wants, &mut order) {
+        Counted::Refused(r) => write_refusal(r, out),
+        Counted::Count(_) => write_ordered(head, wants, &order[..n], out),
+    }
+}
+
+// "prints test count, places and method; for each step its position, test, drops and loads in rising order; the load count": of a job's bytes, in a lent
+// buffer.
+pub fn write_report(job: &[u8], out: &mut [u8]) -> Counted
+    ensures answer { λ r. ⌜ countOutcome r ≡ sheetAnswer (now (job .entry)) (now (out .entry)) ⌝ }
+    ensures bytes { λ _. ⌜ now (out .exit) ≡ sheetBuffer (now (job .entry)) (now (out .entry)) ⌝ }
+{
+    let mut wants = [0u64; 256];
+    match job::read_job(job, &mut wants) {
+        JobRead::Refused(r) => write_refusal(r, out),
+        JobRead::Read(head) => {
+            let n = head.tests;
+            write_read(head, &wants[..n], out)
+        }
+    }
+}

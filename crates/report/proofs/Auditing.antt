@@ -1,0 +1,166 @@
+-- An audit, stage by stage, by what each function answered.
+use mathlib.Core.Path.{_≡_, refl, sym, ap, _∙_}
+use mathlib.Core.List.{List, [], _∷_, _++_, map, append-assoc}
+use Prim.Native.Nat.{ℕ, suc, _+_, _-_, _≤_}
+use lib.ListN.{length, take, drop}
+use lib.Seq.{take-at}
+use Rattle.job.specs.declared.Counted.{Counted}
+use Rattle.job.specs.declared.Refusal.{Refusal}
+use Rattle.job.specs.Refusal.{Outcome, done, refused, number, figure, countOutcome, _>>=_, _>>_, mapped, overwritten}
+use Rattle.job.specs.Handed.{countsKnown}
+use Rattle.job.specs.JobBytes.{Job, readBytes}
+use Rattle.job.proofs.Laws.{both-done, done-room, mapped-done, mapped-refused, leaves-done}
+use Rattle.planning.specs.Plan.{loadCount}
+use Rattle.planning.specs.Planning.{planning, checking, planAnswer}
+use Rattle.plan_bytes.specs.PlanBytes.{Placed, planSteps, readPlan, readPlanBytes, readPlanAnswer, readPlanOrder, readPlanDrops, readPlanLoads}
+use Rattle.plan_bytes.proofs.ReadPlan.{plan-count}
+use Rattle.report.specs.declared.audit.Audited.{Audited}
+use Rattle.report.specs.Audit.{Audit, testsOf, dropsOf, loadsOf, auditSteps, auditPlan, audit, auditedOutcome, auditText, writeAudit, auditAnswer, auditBuffer}
+use Rattle.report.specs.Report.{text, decimal, printed}
+use Rattle.report.specs.Text.{fitted, Filled}
+
+-- ---- outcomes
+
+mapped-twice : {A B C : Type 0} (f : A → B) (g : B → C) (a : Outcome A) → mapped g (mapped f a) ≡ mapped (λ x. g (f x)) a
+unfolding mapped
+mapped-twice f g (done a) = refl
+mapped-twice f g (refused k i) = refl
+
+pub mapped-bind : {A B : Type 0} (f : A → B) (a : Outcome A) → mapped f a ≡ _>>=_ a (λ x. done (f x))
+unfolding mapped _>>=_
+mapped-bind f (done a) = refl
+mapped-bind f (refused k i) = refl
+
+-- ---- the fewest loads
+
+-- lists that are long enough make no difference
+pub planning-room : (p c : ℕ) (ws order : List ℕ) (a b : ℕ) → length ws ≤ a → length ws ≤ b → planning p c ws order a a ≡ planning p c ws order b b
+unfolding planning
+planning-room p c ws order a b l m = rw (done-room a (length ws) l, done-room b (length ws) m) refl
+
+module _ (p c : ℕ) (ws order ds ls : List ℕ) (k n : ℕ) (fits : length ws ≤ n) (d : length ds ≡ 256) (l : length ls ≡ 256) (few : length ws ≤ 256)
+    (x : Counted) (e : countOutcome x ≡ planAnswer p c ws order ds ls) where
+  abbrev beside : Outcome Audit
+  beside = mapped (λ q. record { loads = k; fewest = loadCount (q .loads) }) (planning p c ws order n n)
+
+  counts : mapped (λ m. record { loads = k; fewest = m }) (countOutcome x) ≡ beside
+  unfolding planAnswer
+  counts =
+      rw (e, mapped-twice {C = Audit} (λ q. loadCount (q .loads)) (λ m. record { loads = k; fewest = m }) (planning p c ws order (length ds) (length ls)), d, l, planning-room p c ws order 256 n few fits) refl
+
+  pub fewest-refused : (r : Refusal) → x ≡ Counted.Refused r → auditedOutcome (Audited.Refused r) ≡ beside
+  unfolding auditedOutcome countOutcome mapped
+  fewest-refused r f = rw f at counts
+
+  pub fewest-counted : (m : ℕ) → x ≡ Counted.Count m → auditedOutcome (Audited.Counts k m) ≡ beside
+  unfolding auditedOutcome countOutcome mapped
+  fewest-counted m f = rw f at counts
+
+-- ---- the plan check
+
+module _ (j : Job) (order ds ls : List ℕ) (x : Counted) (e : countOutcome x ≡ checking (j .head .places) (j .head .curves) (j .wants) order ds ls) where
+  pub steps-refused : (r : Refusal) → x ≡ Counted.Refused r → auditedOutcome (Audited.Refused r) ≡ auditSteps j order ds ls
+  unfolding auditedOutcome auditSteps countOutcome _>>=_
+  steps-refused r f = rw (← e, f) refl
+
+  pub steps-counted : (n : ℕ) → x ≡ Counted.Count n
+      → mapped (λ q. record { loads = n; fewest = loadCount (q .loads) }) (planning (j .head .places) (j .head .curves) (j .wants) order (j .head .tests) (j .head .tests)) ≡ auditSteps j order ds ls
+  unfolding auditSteps countOutcome _>>=_
+  steps-counted n f = rw (← e, f) (mapped-bind (λ q. record { loads = n; fewest = loadCount (q .loads) }) (planning (j .head .places) (j .head .curves) (j .wants) order (j .head .tests) (j .head .tests)))
+
+-- ---- the plan's bytes
+
+length-map : {A : Type 0} (f : A → ℕ) (xs : List A) → length (map f xs) ≡ length xs
+length-map f [] = refl
+length-map f (x ∷ xs) = ap suc (length-map f xs)
+
+-- the first entries of a list that a result was written to
+pub front : (new old : List ℕ) (n : ℕ) → length new ≡ n → take n (overwritten new old) ≡ new
+unfolding overwritten
+front new old n e = take-at new (drop (length new) old) n e
+
+module _ (j : Job) (plan O D L : List ℕ) (o : length O ≡ 256) (d : length D ≡ 256) (l : length L ≡ 256) (few : j .head .tests ≤ 256) where
+  abbrev c : ℕ
+  c = j .head .curves
+
+  abbrev t : ℕ
+  t = j .head .tests
+
+  -- with 256 entries lent 9 never comes
+  whole : readPlan c t plan (length O) (length D) (length L) ≡ planSteps c t plan
+  unfolding readPlan _>>=_
+  whole = rw (o, d, l, done-room 256 t few) (go (planSteps c t plan))
+    where
+      go : (r : Outcome (List Placed)) → _>>=_ r (λ ss. _>>_ (done (tt {0})) (_>>_ (done (tt {0})) (_>>_ (done (tt {0})) (done ss)))) ≡ r
+      go (done ss) = unfold _>>_ in refl
+      go (refused k i) = refl
+
+  -- the first entries are the steps
+  given : (ss : List Placed) → planSteps c t plan ≡ done ss
+      → (O′ D′ L′ : List ℕ) → O′ ≡ readPlanOrder c t plan O D L → D′ ≡ readPlanDrops c t plan O D L → L′ ≡ readPlanLoads c t plan O D L
+      → auditSteps j (take t O′) (take t D′) (take t L′) ≡ auditPlan j plan
+  unfolding auditPlan readPlanOrder readPlanDrops readPlanLoads planSteps _>>=_
+  given ss m O′ D′ L′ eo ed el =
+      let r : readPlan c t plan (length O) (length D) (length L) ≡ done ss = whole ∙ m in
+      let b = both-done (countsKnown c t) (readPlanBytes c t plan) ss m in
+      let k = plan-count c t plan ss (b .1) in
+      let po : take t O′ ≡ testsOf ss = ap (take t) (eo ∙ leaves-done testsOf (readPlan c t plan (length O) (length D) (length L)) ss O r) ∙ front (testsOf ss) O t (length-map _ ss ∙ k) in
+      let pd : take t D′ ≡ dropsOf ss = ap (take t) (ed ∙ leaves-done dropsOf (readPlan c t plan (length O) (length D) (length L)) ss D r) ∙ front (dropsOf ss) D t (length-map _ ss ∙ k) in
+      let pl : take t L′ ≡ loadsOf ss = ap (take t) (el ∙ leaves-done loadsOf (readPlan c t plan (length O) (length D) (length L)) ss L r) ∙ front (loadsOf ss) L t (length-map _ ss ∙ k) in
+      rw (po, pd, pl, m) refl
+
+  module _ (x : Counted) (e : countOutcome x ≡ readPlanAnswer c t plan O D L) where
+    answered : countOutcome x ≡ mapped length (planSteps c t plan)
+    unfolding readPlanAnswer
+    answered = e ∙ ap (mapped length) whole
+
+    pub plan-refused : (r : Refusal) → x ≡ Counted.Refused r → auditedOutcome (Audited.Refused r) ≡ auditPlan j plan
+    unfolding auditedOutcome auditPlan countOutcome _>>=_
+    plan-refused r f =
+        let m : planSteps c t plan ≡ refused (number r) (figure r) = mapped-refused length (planSteps c t plan) (number r) (figure r) (sym answered ∙ rw f refl) in
+        rw m refl
+
+    pub plan-counted : (n : ℕ) → x ≡ Counted.Count n → (O′ D′ L′ : List ℕ) → O′ ≡ readPlanOrder c t plan O D L → D′ ≡ readPlanDrops c t plan O D L → L′ ≡ readPlanLoads c t plan O D L
+        → auditSteps j (take t O′) (take t D′) (take t L′) ≡ auditPlan j plan
+    unfolding countOutcome
+    plan-counted n f O′ D′ L′ eo ed el = let m = mapped-done length (planSteps c t plan) n (sym answered ∙ rw f refl) in given (m .0) (m .1) O′ D′ L′ eo ed el
+
+-- ---- the job's bytes
+
+module _ (job plan : List ℕ) where
+  pub job-refused : (r : Refusal) → readBytes job ≡ refused (number r) (figure r) → auditedOutcome (Audited.Refused r) ≡ audit job plan
+  unfolding auditedOutcome audit _>>=_
+  job-refused r e = rw e refl
+
+  pub job-done : (j : Job) → readBytes job ≡ done j → auditPlan j plan ≡ audit job plan
+  unfolding audit _>>=_
+  job-done j e = rw e refl
+
+-- ---- the text, grouped as it is put
+
+pub counts-lines : (l f : ℕ) →
+    auditText (done (record { loads = l; fewest = f }))
+    ≡ text "loads " ++ (decimal l ++ text "\nfewest ") ++ (decimal f ++ text "\nshorter by ") ++ (decimal (l - f) ++ text "\n")
+unfolding auditText
+counts-lines l f = simp append-assoc
+
+module _ (job plan old : List ℕ) where
+  -- what is written of an audit
+  pub audit-refused : {answer : Outcome ℕ} {new : List ℕ} (r : Refusal) → audit job plan ≡ refused (number r) (figure r) → Filled (printed (refused (number r) (figure r))) old answer new
+      → (answer ≡ auditAnswer job plan old) × (new ≡ auditBuffer job plan old)
+  unfolding auditAnswer auditBuffer writeAudit auditText fitted
+  audit-refused r e f = rw e (f .answers, f .holds)
+
+  pub audit-counted : {answer : Outcome ℕ} {new : List ℕ} (l f : ℕ) → audit job plan ≡ done (record { loads = l; fewest = f }) → Filled (auditText (done (record { loads = l; fewest = f }))) old answer new
+      → (answer ≡ auditAnswer job plan old) × (new ≡ auditBuffer job plan old)
+  unfolding auditAnswer auditBuffer writeAudit fitted
+  audit-counted l f e w = rw e (w .answers, w .holds)
+
+-- what the audit answered
+pub audited-refused : (x : Audited) (r : Refusal) (o : Outcome Audit) → x ≡ Audited.Refused r → auditedOutcome x ≡ o → o ≡ refused (number r) (figure r)
+unfolding auditedOutcome
+audited-refused x r o p q = sym q ∙ rw p refl
+
+pub audited-counts : (x : Audited) (l f : ℕ) (o : Outcome Audit) → x ≡ Audited.Counts l f → auditedOutcome x ≡ o → o ≡ done (record { loads = l; fewest = f })
+unfolding auditedOutcome
+audited-counts x l f o p q = sym q ∙ rw p refl

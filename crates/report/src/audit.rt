@@ -1,0 +1,116 @@
+// A plan from anywhere, beside the fewest loads that its order allows: "my sheet has 41 loads; can the same list be run with 40?"
+use crate::put_number;
+use crate::put_text;
+use crate::write_refusal;
+use job::Counted;
+use job::Head;
+use job::JobRead;
+use job::Refusal;
+ghost use mathlib.Core.Path.{_≡_};
+ghost use Prim.Native.Nat.{_≤_};
+ghost use lib.ListN.{length};
+ghost use Rattle.job.specs.Refusal.{done, mapped, countOutcome};
+ghost use Rattle.planning.specs.Plan.{loadCount};
+ghost use Rattle.planning.specs.Planning.{planning};
+ghost use Rattle.report.specs.Text.{Wrote, Filled};
+ghost use Rattle.report.specs.Audit.{auditedOutcome, auditSteps, auditPlan, audit, auditText, auditAnswer, auditBuffer};
+
+// What an audit answers: the load count of the plan and the fewest.
+pub enum Audited {
+    Counts(usize, usize),
+    Refused(Refusal),
+}
+
+// A load count beside that of our plan for the same order.
+fn beside_fewest(head: Head, wants: &[u64], order: &[u16], count: usize) -> Audited
+    requires { ⌜ (length (now wants) ≡ head .tests) × (head .tests ≤ 256) ⌝ }
+    ensures { λ r. ⌜ auditedOutcome r ≡ mapped (λ p. record { loads = count; fewest = loadCount (p .loads) }) (planning (head .places) (head .curves) (now (wants .entry)) (now (order .entry)) (head .tests) (head .tests)) ⌝ }
+{
+    let mut drops = [0u64; 256];
+    let mut loads = [0u64; 256];
+    match planning::plan(
+        head.places,
+        head.curves,
+        wants,
+        order,
+        &mut drops,
+        &mut loads,
+    ) {
+        Counted::Refused(r) => Audited::Refused(r),
+        Counted::Count(fewest) => Audited::Counts(count, fewest),
+    }
+}
+
+// The steps of a plan: the plan check, then the fewest loads.
+fn audit_steps(head: Head, wants: &[u64], order: &[u16], drops: &[u64], loads: &[u64]) -> Audited
+    requires { ⌜ (length (now wants) ≡ head .tests) × (head .tests ≤ 256) ⌝ }
+    ensures { λ r. ⌜ auditedOutcome r ≡ auditSteps (record { head = head; wants = now (wants .entry) }) (now (order .entry)) (now (drops .entry)) (now (loads .entry)) ⌝ }
+{
+    match planning::check_plan(head.places, head.curves, wants, order, drops, loads) {
+        Counted::Refused(r) => Audited::Refused(r),
+        Counted::Count(count) => beside_fewest(head, wants, order, count),
+    }
+}
+
+// A plan's bytes for a job that was read.
+fn audit_plan(head: Head, wants: &[u64], plan: &[u8]) -> Audited
+    requires { ⌜ (length (now wants) ≡ head .tests) × (head .tests ≤ 256) ⌝ }
+    ensures { λ r. ⌜ auditedOutcome r ≡ auditPlan (record { head = head; wants = now (wants .entry) }) (now (plan .entry)) ⌝ }
+{
+    let n = head.tests;
+    let mut order = [0u16; 256];
+    let mut drops = [0u64; 256];
+    let mut loads = [0u64; 256];
+    match plan_bytes::read_plan(head.curves, n, plan, &mut order, &mut drops, &mut loads) {
+        Counted::Refused(r) => Audited::Refused(r),
+        Counted::Count(_) => audit_steps(head, wants, &order[..n], &drops[..n], &loads[..n]),
+    }
+}
+
+// A job's bytes and a plan's bytes.
+fn audit(job: &[u8], plan: &[u8]) -> Audited
+    ensures { λ r. ⌜ auditedOutcome r ≡ audit (now (job .entry)) (now (plan .entry)) ⌝ }
+{
+    let mut wants = [0u64; 256];
+    match job::read_job(job, &mut wants) {
+        JobRead::Refused(r) => Audited::Refused(r),
+        JobRead::Read(head) => {
+            let n = head.tests;
+            audit_plan(head, &wants[..n], plan)
+        }
+    }
+}
+
+fn put_counts(out: &mut [u8], loads: usize, fewest: usize) -> usize
+    requires { ⌜ fewest ≤ loads ⌝ }
+    ensures { λ r. ⌜ Wrote (now (out .entry)) 0 (auditText (done (record { loads = loads; fewest = fewest }))) (now (out .exit)) r ⌝ }
+{
+    let mut to = put_text(out, 0, b"loads ");
+    to = put_number(out, to, loads, b"\nfewest ");
+    to = put_number(out, to, fewest, b"\nshorter by ");
+    put_number(out, to, loads - fewest, b"\n")
+}
+
+// The counts as text, where the buffer has room for it.
+fn write_counts(loads: usize, fewest: usize, out: &mut [u8]) -> Counted
+    requires { ⌜ fewest ≤ loads ⌝ }
+    ensures { λ r. ⌜ Filled (auditText (done (record { loads = loads; fewest = fewest }))) (now (out .entry)) (countOutcome r) (now (out .exit)) ⌝ }
+{
+    let mut none = [0u8; 1];
+    let needed = put_counts(&mut none, loads, fewest);
+    if out.len() < needed {
+        return Counted::Refused(Refusal::BufferTooSmall(needed));
+    }
+    Counted::Count(put_counts(out, loads, fewest))
+}
+
+// The audit of a plan's bytes for a job's bytes, as text in a lent buffer.
+pub fn write_audit(job: &[u8], plan: &[u8], out: &mut [u8]) -> Counted
+    ensures answer { λ r. ⌜ countOutcome r ≡ auditAnswer (now (job .entry)) (now (plan .entry)) (now (out .entry)) ⌝ }
+    ensures bytes { λ _. ⌜ now (out .exit) ≡ auditBuffer (now (job .entry)) (now (plan .entry)) (now (out .entry)) ⌝ }
+{
+    match audit(job, plan) {
+        Audited::Refused(r) => write_refusal(r, out),
+        Audited::Counts(loads, fewest) => write_counts(loads, fewest, out),
+    }
+}
