@@ -1,0 +1,97 @@
+// Document 01's examples of plans and orders, run through planning; each answer is proved to be the paper's.
+use job::Counted;
+ghost use mathlib.Core.Path.{_≡_};
+ghost use mathlib.Core.Bool.{true};
+
+// "Wants {0} {1} {2} {0}, 2 places: step 2 drops 1; 3 loads."
+fn furthest_use() -> bool
+    ensures { λ r. ⌜ r ≡ true ⌝ }
+{
+    let wants = [1u64, 2, 4, 1];
+    let order = [0u16, 1, 2, 3];
+    let mut drops = [0u64; 4];
+    let mut loads = [0u64; 4];
+    match planning::plan(2, 64, &wants, &order, &mut drops, &mut loads) {
+        Counted::Refused(_) => false,
+        Counted::Count(n) => n == 3 && drops[2] == 2,
+    }
+}
+
+// "Wants {0,1} {0,2} {0,2}, 2 places: step 2 drops nothing; 3 loads."
+fn nothing_dropped() -> bool
+    ensures { λ r. ⌜ r ≡ true ⌝ }
+{
+    let wants = [3u64, 5, 5];
+    let order = [0u16, 1, 2];
+    let mut drops = [9u64; 3];
+    let mut loads = [9u64; 3];
+    match planning::plan(2, 64, &wants, &order, &mut drops, &mut loads) {
+        Counted::Refused(_) => false,
+        Counted::Count(n) => n == 3 && drops[2] == 0,
+    }
+}
+
+// "One test wanting three curves: .. 3 places, 3 loads."
+fn just_fits() -> bool
+    ensures { λ r. ⌜ r ≡ true ⌝ }
+{
+    let wants = [7u64];
+    let order = [0u16];
+    let mut drops = [0u64; 1];
+    let mut loads = [0u64; 1];
+    match planning::plan(3, 64, &wants, &order, &mut drops, &mut loads) {
+        Counted::Refused(_) => false,
+        Counted::Count(n) => n == 3 && drops[0] == 0,
+    }
+}
+
+// "One test wanting three curves: 2 places 7 at 0"
+fn too_large() -> bool
+    ensures { λ r. ⌜ r ≡ true ⌝ }
+{
+    let wants = [7u64];
+    let order = [0u16];
+    let mut drops = [0u64; 1];
+    let mut loads = [0u64; 1];
+    match planning::plan(2, 64, &wants, &order, &mut drops, &mut loads) {
+        Counted::Count(_) => false,
+        Counted::Refused(r) => curveplan::number_of(r) == 7 && curveplan::figure_of(r) == 0,
+    }
+}
+
+// "Order 0 1 1 .. for three tests: 8 at 2."
+fn repeated_test() -> bool
+    ensures { λ r. ⌜ r ≡ true ⌝ }
+{
+    let wants = [1u64, 2, 4];
+    let order = [0u16, 1, 1];
+    let mut drops = [0u64; 3];
+    let mut loads = [0u64; 3];
+    match planning::plan(2, 64, &wants, &order, &mut drops, &mut loads) {
+        Counted::Count(_) => false,
+        Counted::Refused(r) => curveplan::number_of(r) == 8 && curveplan::figure_of(r) == 2,
+    }
+}
+
+// "Order .. 0 1 for three tests: 8 at 2."
+fn missing_test() -> bool
+    ensures { λ r. ⌜ r ≡ true ⌝ }
+{
+    let wants = [1u64, 2, 4];
+    let order = [0u16, 1];
+    let mut drops = [0u64; 3];
+    let mut loads = [0u64; 3];
+    match planning::plan(2, 64, &wants, &order, &mut drops, &mut loads) {
+        Counted::Count(_) => false,
+        Counted::Refused(r) => curveplan::number_of(r) == 8 && curveplan::figure_of(r) == 2,
+    }
+}
+
+fn main() {
+    check::expect(furthest_use());
+    check::expect(nothing_dropped());
+    check::expect(just_fits());
+    check::expect(too_large());
+    check::expect(repeated_test());
+    check::expect(missing_test());
+}
