@@ -9,7 +9,6 @@ use native.Mathlib.Nat.{min-eq-left}
 use native.Mathlib.Decide.{decLe}
 use lib.Dec.{ltb}
 use lib.ListN.{length, getD, drop, drop-of-length-le}
-use lib.Seq.{drop-cons}
 use lib.Pow.{pow-mono}
 use borrow.Author.Tests.{lt-ltb, le-ltb}
 use Rattle.bitset.specs.Set.{_∪_, bit, inside}
@@ -20,7 +19,7 @@ use Rattle.job.specs.Handed.{allCurves}
 use Rattle.job.specs.SetBytes.{Got, got, byteAt, groupOutcome, readGroup, readGroups}
 use Rattle.job.proofs.Laws.{refused≢done, done-same, both-done, mapped-done, mapped-refused}
 use Rattle.job.proofs.SetRoundTrip.{inside-below}
-use Rattle.job.proofs.Turns.{cons-here}
+use Rattle.job.proofs.Turns.{byte-there, cons-here}
 
 -- the contract of `read_group`
 abbrev pub Answers : List ℕ → ℕ → ℕ → ℕ → GroupRead → Type 0
@@ -49,22 +48,18 @@ module _ (bs : List ℕ) (k j curves : ℕ) where
   due-owed h owed empty unknown i = rw (drop-of-length-le bs h) refl
 
   module _ (h : k < length bs) where
-    byte-there : (owed i : ℕ) → byteAt owed i (drop k bs) ≡ done (got (getD bs k 0) (suc i) (drop (suc k) bs))
-    unfolding byteAt
-    byte-there owed i = rw (drop-cons bs k 0 h) refl
-
     pub due-empty : getD bs k 0 ≡ 0 → Answers bs k j curves Empty
     unfolding groupOutcome readGroup _>>=_ _>>_ demand mapped
-    due-empty z owed empty unknown i = rw (byte-there owed i, le-ltb 0 (getD bs k 0) (omega arith)) refl
+    due-empty z owed empty unknown i = rw (byte-there owed i k bs h, le-ltb 0 (getD bs k 0) (omega arith)) refl
 
     module _ (p : 0 < getD bs k 0) where
       pub due-unknown : inside (getD bs k 0 * 2 ^ (8 * j)) (allCurves (min curves 64)) ≡ false → Answers bs k j curves Unknown
       unfolding groupOutcome readGroup _>>=_ _>>_ demand mapped
-      due-unknown f owed empty unknown i = rw (byte-there owed i, lt-ltb 0 (getD bs k 0) p, f) refl
+      due-unknown f owed empty unknown i = rw (byte-there owed i k bs h, lt-ltb 0 (getD bs k 0) p, f) refl
 
       pub due-curves : (s : ℕ) → s ≡ getD bs k 0 * 2 ^ (8 * j) → inside s (allCurves (min curves 64)) ≡ true → Answers bs k j curves (Curves s)
       unfolding groupOutcome readGroup _>>=_ _>>_ demand mapped
-      due-curves s e f owed empty unknown i = rw (byte-there owed i, lt-ltb 0 (getD bs k 0) p, ← e, f) refl
+      due-curves s e f owed empty unknown i = rw (byte-there owed i k bs h, lt-ltb 0 (getD bs k 0) p, ← e, f) refl
 
 -- a group that was read is one byte long
 module _ (owed empty unknown curves j i k : ℕ) (bs : List ℕ) where
@@ -75,7 +70,7 @@ module _ (owed empty unknown curves j i k : ℕ) (bs : List ℕ) where
   one-some : k < length bs → readGroup owed empty unknown curves 1 j i (drop k bs)
       ≡ _>>_ (demand (ltb 0 (getD bs k 0)) empty i) (_>>_ (demand (inside (getD bs k 0 * 2 ^ (8 * j)) (allCurves curves)) unknown i) (done (got (getD bs k 0 * 2 ^ (8 * j)) (suc i) (drop (suc k) bs))))
   unfolding readGroup _>>=_
-  one-some h = rw (byte-there bs k j curves h owed i) refl
+  one-some h = rw (byte-there owed i k bs h) refl
 
   group-one : (g : Got ℕ) → readGroup owed empty unknown curves 1 j i (drop k bs) ≡ done g → (k < length bs) × (g ≡ got (g .value) (suc i) (drop (suc k) bs))
   group-one g e = go (decLe (length bs) k)

@@ -6,8 +6,7 @@ use Prim.Native.Nat.{ℕ, zero, suc, _+_, _-_, _*_, _≤_, _<_}
 use native.Mathlib.Omega.{arith}
 use native.Mathlib.Decide.{decLe}
 use lib.Dec.{leb, ltb, eqb}
-use lib.ListN.{length, getD, drop, drop-of-length-le}
-use lib.Seq.{drop-cons}
+use lib.ListN.{length, getD, drop}
 use borrow.Author.Tests.{leb-true, ltb-true, lt-ltb, le-ltb, le-leb, lt-leb, eq-eqb, ne-eqb}
 use Rattle.bitset.specs.Set.{bit}
 use Rattle.job.specs.declared.Head.{Head}
@@ -15,6 +14,7 @@ use Rattle.job.specs.Refusal.{Outcome, done, refused, _>>=_, _>>_, mappe
 use Rattle.job.specs.Handed.{between}
 use Rattle.job.specs.SetBytes.{Got, got, byteAt}
 use Rattle.job.specs.JobBytes.{readNumber, readField, readHead}
+use Rattle.job.proofs.Turns.{byte-there, byte-none}
 use Rattle.job.proofs.Laws.{refused≢done, done-same, bind-done, both, both-done, demand-true, mapped-done, done-mapped}
 
 -- what was read of the whole bytes ends within them, and the rest is what stands behind it
@@ -22,26 +22,16 @@ pub record Placed {A : Type 0} (bs : List ℕ) (g : Got A) : Type 0 where
   pub within : g .next ≤ length bs
   pub behind : g .rest ≡ drop (g .next) bs
 
--- ---- one byte
-module _ (o i : ℕ) (bs : List ℕ) where
-  pub byte-at : i < length bs → byteAt o i (drop i bs) ≡ done (got (getD bs i 0) (suc i) (drop (suc i) bs))
-  unfolding byteAt
-  byte-at h = rw (drop-cons bs i 0 h) refl
-
-  pub byte-none : length bs ≤ i → byteAt o i (drop i bs) ≡ refused o i
-  unfolding byteAt
-  byte-none h = rw (drop-of-length-le bs h) refl
-
 -- ---- a number of w bytes
 module _ (bs : List ℕ) where
   number-next : (w i : ℕ) → i < length bs
       → readNumber (suc w) i (drop i bs) ≡ _>>=_ (readNumber w (suc i) (drop (suc i) bs)) (λ r. done (got (getD bs i 0 + 256 * r .value) (r .next) (r .rest)))
   unfolding readNumber _>>=_
-  number-next w i h = rw (byte-at 1 i bs h) refl
+  number-next w i h = rw (byte-there 1 i i bs h) refl
 
   number-none : (w i : ℕ) → length bs ≤ i → readNumber (suc w) i (drop i bs) ≡ refused 1 i
   unfolding readNumber _>>=_
-  number-none w i h = rw (byte-none 1 i bs h) refl
+  number-none w i h = rw (byte-none 1 i i bs h) refl
 
   number-refused : (w i k f : ℕ) → i < length bs → readNumber w (suc i) (drop (suc i) bs) ≡ refused k f → readNumber (suc w) i (drop i bs) ≡ refused k f
   unfolding _>>=_
@@ -170,11 +160,11 @@ field-at bs w high absent (suc d) i v n o b l m e =
 -- ---- the head, field after field
 pub head-none : (bs : List ℕ) → length bs ≡ 0 → readHead bs ≡ refused 1 0
 unfolding readHead _>>=_
-head-none bs h = rw (byte-none 1 0 bs (omega arith)) refl
+head-none bs h = rw (byte-none 1 0 0 bs (omega arith)) refl
 
 module _ (bs : List ℕ) (M : ℕ) (some : 0 < length bs) (first : getD bs 0 0 ≡ M) where
   map-byte : byteAt 1 0 bs ≡ done (got M 1 (drop 1 bs))
-  map-byte = byte-at 1 0 bs some ∙ ap (λ (x : ℕ). done (got x 1 (drop 1 bs))) first
+  map-byte = byte-there 1 0 0 bs some ∙ ap (λ (x : ℕ). done (got x 1 (drop 1 bs))) first
 
   pub head-map : 16 ≤ M → readHead bs ≡ refused 2 0
   unfolding readHead demand _>>=_ _>>_

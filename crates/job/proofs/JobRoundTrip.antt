@@ -54,7 +54,7 @@ field-back w low high absent i v rest small holds = go (eqb v absent) refl
         let h = holds (eqb-false v absent e) in
         rw (number-back w i v rest small, e, le-leb low v (h .0), le-leb v high (h .1)) refl
 
-bit-le : (b : Bool) → fieldBit b ≤ 1
+pub bit-le : (b : Bool) → fieldBit b ≤ 1
 unfolding fieldBit
 bit-le true = omega arith
 bit-le false = omega arith

@@ -14,6 +14,7 @@ use Rattle.job.specs.Refusal.{Outcome, done, refused, _>>_, mapped, dema
 use Rattle.job.specs.Handed.{jobKnownBy}
 use Rattle.job.specs.SetBytes.{setBytes}
 use Rattle.job.specs.JobBytes.{numberBytes, fieldBytes, fieldBit, headBytes, recordBytes, jobBytes, jobOf, writeJob, writeJobAnswer, writeJobBuffer}
+use Rattle.job.proofs.JobRoundTrip.{bit-le}
 use Rattle.job.proofs.Encoding.{set-le, sets-append, sets-cons}
 
 -- ---- a field
@@ -25,11 +26,6 @@ field-bit-none v absent e = rw (eq-eqb v absent e) refl
 pub field-bit-some : (v absent : ℕ) → (v ≡ absent → ⊥) → fieldBit (eqb v absent) ≡ 1
 unfolding fieldBit
 field-bit-some v absent e = rw (ne-eqb v absent e) refl
-
-pub bit-le : (b : Bool) → fieldBit b ≤ 1
-unfolding fieldBit
-bit-le true = omega arith
-bit-le false = omega arith
 
 -- what a field's bytes are, and what storing them from `at` on leaves
 module _ (v absent w : ℕ) where

@@ -17,9 +17,8 @@ use Rattle.job.specs.Handed.{someTests}
 use Rattle.job.specs.SetBytes.{Got, got, byteAt, readGroups}
 use Rattle.job.specs.JobBytes.{Job, readHead, readRecord, readRecords, atEnd, readBytes, readJob, readJobAnswer, readJobWants}
 use Rattle.job.proofs.Laws.{refused≢done, done-same, mapped-done, done-mapped, refused-mapped}
-use Rattle.job.proofs.Heads.{byte-none}
 use Rattle.job.proofs.Spans.{Spans, span-done, records-span}
-use Rattle.job.proofs.Turns.{record-next}
+use Rattle.job.proofs.Turns.{byte-none, record-next}
 
 -- ---- one record of n; t are read, and the next begins at offset i of the job
 byte-first : (o i : ℕ) (bs : List ℕ) → 0 < length bs → byteAt o i bs ≡ done (got (getD bs 0 0) (i + 1) (drop 1 bs))
@@ -33,7 +32,7 @@ module _ (job : List ℕ) (curves n t i : ℕ) (wants : List ℕ) (more : t < n)
 
   pub record-none : length job ≤ i → records ≡ refused 1 i
   unfolding readRecord _>>=_
-  record-none h = record-next curves n t wants i (drop i job) more ∙ rw (byte-none 1 i job h) refl
+  record-none h = record-next curves n t wants i (drop i job) more ∙ rw (byte-none 1 i i job h) refl
 
   module _ (bs : List ℕ) (part : bs ≡ drop i job) (some : 0 < length bs) where
     abbrev groups : Outcome (Got ℕ)

@@ -11,7 +11,7 @@ use Rattle.bitset.specs.Set.{_∪_, bit}
 use Rattle.job.specs.Refusal.{Outcome, done, refused, _>>=_, _>>_, demand}
 use Rattle.job.specs.SetBytes.{Got, got, byteAt, readGroup, readGroups}
 use Rattle.job.specs.JobBytes.{readNumber, readField, readHead, readRecord, readRecords}
-use Rattle.job.proofs.Heads.{byte-at, byte-none}
+use Rattle.job.proofs.Turns.{byte-there, byte-none}
 
 -- what was read ends at `next`, and `rest` is what stands behind it
 pub record Ends (w i : ℕ) (bs : List ℕ) (next : ℕ) (rest : List ℕ) : Type 0 where
@@ -66,8 +66,8 @@ module _ (bs : List ℕ) where
   byte-span o i l = go (decLe (length bs) i)
     where
       go : Dec (length bs ≤ i) → Spans 1 i bs (byteAt o i (drop i bs))
-      go (yes z) = subst (Spans 1 i bs) (sym (byte-none o i bs z)) (points o i (omega arith) l)
-      go (no z) = subst (Spans 1 i bs) (sym (byte-at o i bs (omega arith))) (ends _ (record { after = omega arith; most = omega arith; within = omega arith; behind = refl }))
+      go (yes z) = subst (Spans 1 i bs) (sym (byte-none o i i bs z)) (points o i (omega arith) l)
+      go (no z) = subst (Spans 1 i bs) (sym (byte-there o i i bs (omega arith))) (ends _ (record { after = omega arith; most = omega arith; within = omega arith; behind = refl }))
 
   number-span : (w i : ℕ) → i ≤ length bs → Spans w i bs (readNumber w i (drop i bs))
   unfolding readNumber

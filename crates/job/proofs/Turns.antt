@@ -1,11 +1,10 @@
 -- One turn of a loop over bytes: what a rule that reads comes to at byte k of the part bs, which begins at offset a of the input.
-use mathlib.Core.Path.{_≡_, refl, sym, ap, _∙_}
-use mathlib.Core.Bool.{Bool, true, false}
+use mathlib.Core.Path.{_≡_, refl, _∙_}
+use mathlib.Core.Bool.{true, false}
 use mathlib.Core.List.{List, [], _∷_, _++_}
-use Prim.Native.Nat.{ℕ, zero, suc, _+_, _-_, _*_, _^_, _≤_, _<_}
+use Prim.Native.Nat.{ℕ, suc, _+_, _-_, _*_, _^_, _≤_, _<_}
 use native.Mathlib.Omega.{arith}
 use native.Mathlib.Numerals.{add-one}
-use lib.Dec.{ltb}
 use lib.ListN.{length, getD, drop, drop-of-length-le}
 use lib.Seq.{drop-cons}
 use borrow.Author.Tests.{lt-ltb, le-ltb}
@@ -16,15 +15,22 @@ use Rattle.job.specs.Handed.{allCurves}
 use Rattle.job.specs.SetBytes.{Got, got, byteAt, readGroup, readGroups}
 use Rattle.job.specs.JobBytes.{readRecord, readRecords}
 
--- ---- one byte
+-- ---- one byte: position k of the bytes bs, at offset i of the input
+module _ (o i k : ℕ) (bs : List ℕ) where
+  pub byte-there : k < length bs → byteAt o i (drop k bs) ≡ done (got (getD bs k 0) (suc i) (drop (suc k) bs))
+  unfolding byteAt
+  byte-there h = rw (drop-cons bs k 0 h) refl
+
+  pub byte-none : length bs ≤ k → byteAt o i (drop k bs) ≡ refused o i
+  unfolding byteAt
+  byte-none h = rw (drop-of-length-le bs h) refl
+
 module _ (o a k : ℕ) (bs : List ℕ) where
   pub byte-here : k < length bs → byteAt o (a + k) (drop k bs) ≡ done (got (getD bs k 0) (a + (k + 1)) (drop (k + 1) bs))
-  unfolding byteAt
-  byte-here h = let e : a + (k + 1) ≡ suc (a + k) = omega arith in rw (e, add-one k, drop-cons bs k 0 h) refl
+  byte-here h = let e : a + (k + 1) ≡ suc (a + k) = omega arith in rw (e, add-one k) (byte-there o (a + k) k bs h)
 
   pub byte-owed : length bs ≤ k → byteAt o (a + k) (drop k bs) ≡ refused o (a + k)
-  unfolding byteAt
-  byte-owed h = rw (drop-of-length-le bs h) refl
+  byte-owed h = byte-none o (a + k) k bs h
 
 -- ---- one group
 ∪-none : (s : ℕ) → s ∪ 0 ≡ s

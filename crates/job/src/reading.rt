@@ -20,10 +20,12 @@ fn number_at(job: &[u8], at: usize, width: usize) -> usize
     requires { ⌜ (1 ≤ width) × (width ≤ 2) × (at + width ≤ length (now job)) ⌝ }
     ensures { λ r. ⌜ readNumber width at (drop at (now (job .entry))) ≡ done (got r (at + width) (drop (at + width) (now (job .entry)))) ⌝ }
 {
+    let low = job[at] as usize;
     if width == 2 {
-        return job[at] as usize + 256 * (job[at + 1] as usize);
+        let high = job[at + 1] as usize;
+        return low + 256 * high;
     }
-    job[at] as usize
+    low
 }
 
 // A field of the head, if its bit stands: "cut before value"; "A field never holds its absent value".
@@ -162,11 +164,13 @@ fn read_records(job: &[u8], start: usize, tests: usize, curves: usize, list: &mu
                         break 'tests;
                     }
                     GroupRead::Empty => {
-                        answer = Examined::Refused(Refusal::EmptyGroup(at + used));
+                        let offset = at + used;
+                        answer = Examined::Refused(Refusal::EmptyGroup(offset));
                         break 'tests;
                     }
                     GroupRead::Unknown => {
-                        answer = Examined::Refused(Refusal::UnknownCurve(at + used));
+                        let offset = at + used;
+                        answer = Examined::Refused(Refusal::UnknownCurve(offset));
                         break 'tests;
                     }
                 }

@@ -1,5 +1,5 @@
-// Method 3 of "Orders": packages with both rounds, heads, tails and flipping. The packages lie one behind the other in a list of tests; beside it stand the
-// length of each package and its curves.
+// Method 3 of "Orders": packages with both rounds, heads, tails and flipping. The packages lie one behind the other in a list of tests. Beside it stand the
+// length and the curves of each package, and its partner: the package behind it that would be the best second one of a pair with it, 0 for none.
 ghost use mathlib.Core.Path.{_≡_};
 ghost use mathlib.Core.Bool.{Bool, cond};
 ghost use mathlib.Core.List.{List, _++_, map, reverse};
@@ -8,8 +8,8 @@ ghost use lib.ListN.{length, getD, take, drop, set};
 ghost use lib.Dec.{leb, ltb};
 ghost use Rattle.bitset.specs.Set.{_∪_, size};
 ghost use Rattle.job.specs.Refusal.{overwritten};
-ghost use Rattle.job.specs.Choice.{Found, nobody, keep, bestOf};
-ghost use Rattle.ordering.specs.Methods.{common, Pair, eligible, closer, bestPair, flat, head, tail, flipped, packages};
+ghost use Rattle.job.specs.Choice.{nobody, keep, bestOf};
+ghost use Rattle.ordering.specs.Methods.{common, eligible, closer, bestPair, flat, head, tail, flipped, packages};
 
 // Two places in the list of packages; no pair where the second is 0.
 pub struct PackagePair {
@@ -210,7 +210,7 @@ fn join_entry(xs: &mut [u64], first: usize, second: usize, value: u64)
     }
 }
 
-// The best second package for the first: "the pair with most common curves; ties to .. the earlier second package". 0 where no union is at most the bound.
+// The partner of a package: "the pair with most common curves; ties to .. the earlier second package". 0 where no union is at most the bound.
 fn best_partner(bound: usize, curves: &[u64], first: usize) -> usize
     requires { ⌜ first < length (now curves) ⌝ }
     ensures { λ r. ⌜ bestOf (eligible (λ u. leb (size u) bound) (now (curves .entry))) (closer (now (curves .entry))) (λ j. record { first = first; second = j }) (length (now (curves .entry))) nobody
@@ -242,7 +242,8 @@ fn score(curves: &[u64], first: usize, second: usize) -> usize
     1 + shared(entry(curves, first), entry(curves, second))
 }
 
-// The pair with most common curves, "ties to the earlier first, then the earlier second package", from the best second package for each first.
+// The pair with most common curves, "ties to the earlier first, then the earlier second package", found among the packages and their
+// partners.
 fn closest(curves: &[u64], partners: &[usize]) -> PackagePair
     requires { ⌜ length (now partners) ≡ length (now curves) ⌝ }
     ensures { λ r. ⌜ ((fits : ℕ → Bool)
@@ -267,7 +268,7 @@ fn closest(curves: &[u64], partners: &[usize]) -> PackagePair
     PackagePair { first, second }
 }
 
-// The best second package for each first.
+// The partner of each package.
 fn best_partners(bound: usize, curves: &[u64], partners: &mut [usize])
     requires { ⌜ length (now partners) ≡ length (now curves) ⌝ }
     ensures { λ _. ⌜ ((k : ℕ) → k < length (now (curves .entry))
@@ -288,8 +289,8 @@ fn moved(second: usize, place: usize) -> usize
     if second < place { place - 1 } else { place }
 }
 
-// The best second package for a row after the join of `first` and `second`; `old` was the best before. What is left of the others is as good as it was, so a row
-// is scanned anew only where its best is gone: the joined package is as good as either part, unless it no longer fits.
+// The partner of the package at `row` after the join of `first` and `second`; `old` was its partner before. The others are as good as they were, so it is looked
+// for anew only where the old one is gone; and for a package before the joined one, that is as good as either part, unless it no longer fits.
 fn renewed(
     bound: usize,
     curves: &[u64],
@@ -342,7 +343,7 @@ fn renewed(
     if first < other { first } else { other }
 }
 
-// The best second package for each row after the join.
+// The partner of each package after the join.
 fn renew_partners(bound: usize, curves: &[u64], partners: &mut [usize], first: usize, second: usize)
     requires { ⌜ (first < second) × (second ≤ length (now curves)) × (length (now partners) ≡ suc (length (now curves))) ⌝ }
     ensures { λ _. ⌜ ((cs : List ℕ) → length cs ≡ suc (length (now (curves .entry)))

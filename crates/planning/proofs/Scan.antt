@@ -52,13 +52,13 @@ module _ (W cs m rest : ℕ) (f : From cs m rest) (some : 0 < rest) (range : res
   pub from-next : From cs (suc t) (rest ∖ 2 ^ t)
   from-next =
       record {
-        gone = λ c h. gone' c h (ℕ-discrete c t);
+        gone = λ c h. passed c h (ℕ-discrete c t);
         same = λ c h. rest-other c t rest (λ e. omega arith) ∙ f .same c (omega (arith, from-below));
       }
     where
-      gone' : (c : ℕ) → c < suc t → Dec (c ≡ t) → bit c (rest ∖ 2 ^ t) ≡ 0
-      gone' c h (yes e) = rw e (rest-same t rest)
-      gone' c h (no d) = rest-other c t rest d ∙ lowest-least W rest c (omega arith)
+      passed : (c : ℕ) → c < suc t → Dec (c ≡ t) → bit c (rest ∖ 2 ^ t) ≡ 0
+      passed c h (yes e) = rw e (rest-same t rest)
+      passed c h (no d) = rest-other c t rest d ∙ lowest-least W rest c (omega arith)
 
 module _ (better : ℕ → ℕ → Bool) (cs : ℕ) where
   abbrev pub scanned : ℕ → Found ℕ

@@ -60,12 +60,12 @@ used : (cs never : ℕ) (uses ws : List ℕ) (v t : ℕ) (n : Candidate) → Tol
     → (n .curve ≡ t) × (n .next ≡ nextUse (n .curve) ws)
 used cs never uses ws v t n told e i r = (r .0 ∙ e, go (bit v never) refl ∙ ap (λ (x : ℕ). nextUse x ws) (sym (r .0)))
   where
-    in' : bit v cs ≡ 1
-    in' = rw e i
+    member : bit v cs ≡ 1
+    member = rw e i
 
     go : (d : ℕ) → bit v never ≡ d → n .next ≡ nextUse v ws
-    go zero p = r .1 .1 p ∙ sym (told .1 v in' p)
-    go (suc d) p = let o : bit v never ≡ 1 = omega arith in r .1 .0 o ∙ sym (told .0 v in' o)
+    go zero p = r .1 .1 p ∙ sym (told .1 v member p)
+    go (suc d) p = let o : bit v never ≡ 1 = omega arith in r .1 .0 o ∙ sym (told .0 v member o)
 
 -- the newcomer n, whose curve is t, against b
 module _ (cs : ℕ) (ws : List ℕ) (t : ℕ) (b n : Candidate) (old : b .next ≡ nextUse (b .curve) ws) (new : (n .curve ≡ t) × (n .next ≡ nextUse (n .curve) ws)) where

@@ -1,3 +1,4 @@
+-- `in_order` meets its contract. The invariant: the first i entries are the wants of the first i steps.
 use mathlib.Core.Path.{_≡_, refl, ap, _∙_}
 use mathlib.Core.List.{List, [], _∷_, _++_}
 use Prim.Native.Nat.{ℕ, _≤_, _<_, _-_}
@@ -19,6 +20,7 @@ Inv-loop wants order steps₀ i₀ steps i =
 abbrev μ-loop : tie.MeasureT-loop
 μ-loop wants order steps₀ i₀ steps i = length order - i
 
+-- the test of step i is one of the job's
 test-below : (c : tie.In-loop Inv-loop μ-loop) → getD (now (c .before .before .args .order)) (c .before .loop .i) 0 < length (now (c .before .before .args .wants))
 test-below c = c .before .before .pre .1 (c .before .loop .i) (c .loop-test .taken)
 

@@ -1,3 +1,4 @@
+-- `note` meets its contract. The invariant: k is noted for the curves that are no longer left, and nothing else has changed.
 use mathlib.Core.Path.{_≡_, refl, sym, ap, _∙_}
 use Prim.Native.Nat.{ℕ, _<_, _^_}
 use native.Mathlib.Omega.{arith}
@@ -27,6 +28,7 @@ Inv-loop curves k uses₀ left₀ uses left =
 abbrev μ-loop : tie.MeasureT-loop
 μ-loop curves k uses₀ left₀ uses left = left
 
+-- the lowest of the curves left
 low : (c : tie.In-loop Inv-loop μ-loop) → (trailingZeros 64 (c .before .loop .left) < 64) × (bit (trailingZeros 64 (c .before .loop .left)) (c .before .loop .left) ≡ 1)
 low c =
     let q = c .before .loop in
@@ -36,18 +38,19 @@ low c =
 none : (s x : ℕ) → s ≡ 0 → bit x s ≡ 0
 none s x e = rw e (bit-empty x)
 
-go-part : (s t x : ℕ) → bit x s ≡ 0 → bit x (s ∖ 2 ^ t) ≡ 0
-go-part s t x h = omega (arith, bit-∖ x s (2 ^ t))
+-- what t's leaving means for x
+still-out : (s t x : ℕ) → bit x s ≡ 0 → bit x (s ∖ 2 ^ t) ≡ 0
+still-out s t x h = omega (arith, bit-∖ x s (2 ^ t))
 
-go-noted : (uses : List ℕ) (s t x k : ℕ) → t < length uses → (bit x s ≡ 0 → getD uses x 0 ≡ k) → bit x (s ∖ 2 ^ t) ≡ 0 → getD (set uses t k) x 0 ≡ k
-go-noted uses s t x k h old e = go (ℕ-discrete x t)
+noted-too : (uses : List ℕ) (s t x k : ℕ) → t < length uses → (bit x s ≡ 0 → getD uses x 0 ≡ k) → bit x (s ∖ 2 ^ t) ≡ 0 → getD (set uses t k) x 0 ≡ k
+noted-too uses s t x k h old e = go (ℕ-discrete x t)
   where
     go : Dec (x ≡ t) → getD (set uses t k) x 0 ≡ k
     go (yes p) = rw p (getD-set-same uses t k 0 h)
     go (no d) = getD-set-other uses t x k 0 d ∙ old (sym (rest-other x t s d) ∙ e)
 
-go-kept : (s t x : ℕ) → bit t s ≡ 1 → bit x s ≡ 0 → x ≡ t → ⊥
-go-kept s t x l h e = omega (arith, ap (λ (y : ℕ). bit y s) e)
+apart : (s t x : ℕ) → bit t s ≡ 1 → bit x s ≡ 0 → x ≡ t → ⊥
+apart s t x l h e = omega (arith, ap (λ (y : ℕ). bit y s) e)
 
 loop-holds : tie.Need-loop-holds Inv-loop μ-loop
 loop-holds c = record { range = search needs; long = c .before .pre; part = λ x h. h; noted = λ x h e. absurd (omega arith); kept = λ x h. refl }
@@ -78,9 +81,9 @@ loop-again c =
     record {
       range = omega (arith, c .without-lowest .ok);
       long = set-long ℕ (q .uses) t 64 (a .k) (q .inv .long);
-      part = λ x h. go-part (q .left) t x (q .inv .part x h);
-      noted = λ x h e. go-noted (q .uses) (q .left) t x (a .k) (omega (arith, q .inv .long)) (q .inv .noted x h) e;
-      kept = λ x h. getD-set-other (q .uses) t x (a .k) 0 (λ e. go-kept (q .left) t x (l .1) (q .inv .part x h) e) ∙ q .inv .kept x h;
+      part = λ x h. still-out (q .left) t x (q .inv .part x h);
+      noted = λ x h e. noted-too (q .uses) (q .left) t x (a .k) (omega (arith, q .inv .long)) (q .inv .noted x h) e;
+      kept = λ x h. getD-set-other (q .uses) t x (a .k) 0 (λ e. apart (q .left) t x (l .1) (q .inv .part x h) e) ∙ q .inv .kept x h;
     }
 
 same-length : tie.Need-same-length Inv-loop μ-loop

@@ -88,14 +88,14 @@ enum-told c = search needs
 enum-told-2 : tie.Need-enum-told-2 Inv-groups μ-groups Inv-tests μ-tests
 enum-told-2 c = search needs
 
-add-t31 : tie.Need-add-t31 Inv-groups μ-groups Inv-tests μ-tests
-add-t31 c = search needs
+add-offset : tie.Need-add-offset Inv-groups μ-groups Inv-tests μ-tests
+add-offset c = search needs
 
 enum-told-3 : tie.Need-enum-told-3 Inv-groups μ-groups Inv-tests μ-tests
 enum-told-3 c = search needs
 
-add-t33 : tie.Need-add-t33 Inv-groups μ-groups Inv-tests μ-tests
-add-t33 c = search needs
+add-offset-2 : tie.Need-add-offset-2 Inv-groups μ-groups Inv-tests μ-tests
+add-offset-2 c = search needs
 
 add-j : tie.Need-add-j Inv-groups μ-groups Inv-tests μ-tests
 add-j c = search needs
@@ -265,9 +265,9 @@ read-records-spec =
     add-used
     enum-told
     enum-told-2
-    add-t31
+    add-offset
     enum-told-3
-    add-t33
+    add-offset-2
     add-j
     groups-less
     groups-again

@@ -5,7 +5,8 @@ use native.Mathlib.Omega.{arith}
 use lib.ListN.{length, length-set}
 use lib.Dec.{eqb}
 use denote.Ref.{now}
-use Rattle.job.proofs.JobWritten.{bit-le, headMap, head-sum, head-sets}
+use Rattle.job.proofs.JobRoundTrip.{bit-le}
+use Rattle.job.proofs.JobWritten.{headMap, head-sum, head-sets}
 use borrow.Author.Needs.{needs}
 use Rattle.job.proofs.writing.put_head.Statement.{statement}
 use Rattle.job.proofs.writing.put_head.Tie as tie

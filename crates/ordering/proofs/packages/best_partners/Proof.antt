@@ -1,4 +1,4 @@
--- `packages::best_partners` meets its contract. Invariant: the rows below k have their best.
+-- `packages::best_partners` meets its contract. Invariant: the packages before k have their partner.
 use mathlib.Core.Path.{_≡_, refl, sym, ap, _∙_}
 use Prim.Native.Nat.{ℕ, _≤_, _<_, _-_}
 use native.Mathlib.Omega.{arith}

@@ -1,4 +1,4 @@
--- `packages::renew_partners` meets its contract. Invariant: the rows below `row` have their best after the join, the others what they had before.
+-- `packages::renew_partners` meets its contract. Invariant: the packages before `row` have their partner after the join, the others the one before it.
 use mathlib.Core.Path.{_≡_, refl, sym, ap, _∙_}
 use mathlib.Core.List.{List, _++_}
 use mathlib.Core.Logic.{⊎-elim}

@@ -1,4 +1,4 @@
--- `packages::renewed` meets its contract.
+-- `packages::renewed` meets its contract. Each return is one way in which a join leaves a package's partner (`PackageRenew`).
 use mathlib.Core.Bool.{false≢true, Bool, true, false}
 use mathlib.Core.Logic.{inl, inr}
 use mathlib.Core.Path.{_≡_, sym, ap, _∙_}

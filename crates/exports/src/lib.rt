@@ -1,0 +1,127 @@
+// The functions of the library for tests in other languages: numbers and slices in, one number out. Each calls the function of its name and promises nothing of
+// its own; what the library promises is in the contracts of the functions called.
+use job::Counted;
+use job::JobRead;
+
+// A count, or number × 2^48 + figure.
+fn packed(c: Counted) -> u64 {
+    match c {
+        Counted::Count(n) => n as u64,
+        Counted::Refused(r) => {
+            (curveplan::number_of(r) % 16) * 281474976710656
+                + curveplan::figure_of(r) % 281474976710656
+        }
+    }
+}
+
+fn put(list: &mut [u64], at: usize, n: usize) {
+    if at < list.len() {
+        list[at] = n as u64;
+    }
+}
+
+// The four numbers of the head go to `head`.
+#[no_mangle]
+pub extern "C" fn t_read_job(job: &[u8], wants: &mut [u64], head: &mut [u64]) -> u64 {
+    match job::reading::read_job(job, wants) {
+        JobRead::Refused(r) => packed(Counted::Refused(r)),
+        JobRead::Read(h) => {
+            put(head, 0, h.places);
+            put(head, 1, h.curves);
+            put(head, 2, h.tests);
+            put(head, 3, h.method);
+            h.tests as u64
+        }
+    }
+}
+
+#[no_mangle]
+pub extern "C" fn t_write_job(
+    places: usize,
+    curves: usize,
+    method: usize,
+    wants: &[u64],
+    out: &mut [u8],
+) -> u64 {
+    packed(job::writing::write_job(places, curves, method, wants, out))
+}
+
+#[no_mangle]
+pub extern "C" fn t_order_tests(
+    places: usize,
+    curves: usize,
+    method: usize,
+    wants: &[u64],
+    order: &mut [u16],
+) -> u64 {
+    packed(ordering::order_tests(places, curves, method, wants, order))
+}
+
+#[no_mangle]
+pub extern "C" fn t_plan(
+    places: usize,
+    curves: usize,
+    wants: &[u64],
+    order: &[u16],
+    drops: &mut [u64],
+    loads: &mut [u64],
+) -> u64 {
+    packed(planning::plan(places, curves, wants, order, drops, loads))
+}
+
+#[no_mangle]
+pub extern "C" fn t_check_plan(
+    places: usize,
+    curves: usize,
+    wants: &[u64],
+    order: &[u16],
+    drops: &[u64],
+    loads: &[u64],
+) -> u64 {
+    packed(planning::check_plan(places, curves, wants, order, drops, loads))
+}
+
+#[no_mangle]
+pub extern "C" fn t_write_plan(
+    places: usize,
+    curves: usize,
+    wants: &[u64],
+    order: &[u16],
+    drops: &[u64],
+    loads: &[u64],
+    out: &mut [u8],
+) -> u64 {
+    packed(plan_bytes::write_plan(places, curves, wants, order, drops, loads, out))
+}
+
+#[no_mangle]
+pub extern "C" fn t_read_plan(
+    curves: usize,
+    tests: usize,
+    plan: &[u8],
+    order: &mut [u16],
+    drops: &mut [u64],
+    loads: &mut [u64],
+) -> u64 {
+    packed(plan_bytes::read_plan(curves, tests, plan, order, drops, loads))
+}
+
+// How many bytes the steps before a position have together.
+fn front_len(curves: usize, tests: usize, plan: &[u8], position: usize) -> usize {
+    let mut start: usize = 0;
+    for k in 0..position {
+        start = (start % 65536) + plan_bytes::step_bytes(curves, tests, plan, k).len() % 65536;
+    }
+    start
+}
+
+// Where the step at a position begins and how many bytes it has, as start × 65,536 + count: it begins where the parts of the steps before it end.
+#[no_mangle]
+pub extern "C" fn t_step_bytes(curves: usize, tests: usize, plan: &[u8], position: usize) -> u64 {
+    let count = plan_bytes::step_bytes(curves, tests, plan, position).len();
+    if count == 0 {
+        return (plan.len() % 65536) as u64 * 65536;
+    }
+    let start = front_len(curves, tests, plan, position);
+    (start % 65536) as u64 * 65536 + (count % 65536) as u64
+}
