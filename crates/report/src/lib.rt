@@ -183,52 +183,12 @@ fn write_plan(
     Counted::Count(put_plan(out, head, order, drops, loads, count))
 }
 
-// A refusal's number ..
-fn refusal_number(r: Refusal) -> usize
-    ensures { λ n. ⌜ n ≡ number r ⌝ }
-{
-    match r {
-        Refusal::Truncated(_) => 1,
-        Refusal::BadHeader(_) => 2,
-        Refusal::EmptyGroup(_) => 3,
-        Refusal::UnknownCurve(_) => 4,
-        Refusal::NoTests => 5,
-        Refusal::TrailingBytes(_) => 6,
-        Refusal::TestTooLarge(_) => 7,
-        Refusal::BadOrder(_) => 8,
-        Refusal::BufferTooSmall(_) => 9,
-        Refusal::BadArgument(_) => 10,
-        Refusal::BadPlanBytes(_) => 11,
-        Refusal::PlanRejected(_) => 12,
-    }
-}
-
-// .. and its figure.
-fn refusal_figure(r: Refusal) -> usize
-    ensures { λ n. ⌜ n ≡ figure r ⌝ }
-{
-    match r {
-        Refusal::Truncated(i) => i,
-        Refusal::BadHeader(i) => i,
-        Refusal::EmptyGroup(i) => i,
-        Refusal::UnknownCurve(i) => i,
-        Refusal::NoTests => 0,
-        Refusal::TrailingBytes(i) => i,
-        Refusal::TestTooLarge(i) => i,
-        Refusal::BadOrder(i) => i,
-        Refusal::BufferTooSmall(i) => i,
-        Refusal::BadArgument(i) => i,
-        Refusal::BadPlanBytes(i) => i,
-        Refusal::PlanRejected(i) => i,
-    }
-}
-
 // The sheet of a refusal, where the buffer has room for it.
 fn write_refusal(r: Refusal, out: &mut [u8]) -> Counted
     ensures { λ c. ⌜ Filled (printed (refused (number r) (figure r))) (now (out .entry)) (countOutcome c) (now (out .exit)) ⌝ }
 {
-    let number = refusal_number(r);
-    let figure = refusal_figure(r);
+    let number = curveplan::number_of(r) as usize;
+    let figure = curveplan::figure_of(r) as usize;
     let mut none = [0u8; 1];
     let bytes = put_refusal(&mut none, number, figure);
     if out.len() < bytes {

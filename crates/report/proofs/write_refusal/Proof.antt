@@ -1,17 +1,17 @@
 -- `report::write_refusal` meets its contract: the first pass measures the text, the second writes it.
 use denote.Ref.{now}
-use Rattle.report.specs.Report.{printed}
 use Rattle.job.specs.Refusal.{refused}
+use Rattle.report.specs.Report.{printed}
 use Rattle.report.proofs.Fitted.{fill-short, fill-whole}
 use borrow.Author.Needs.{needs}
 use Rattle.report.proofs.write_refusal.Statement.{statement}
 use Rattle.report.proofs.write_refusal.Tie as tie
 
-refusal-number-requires : tie.Need-refusal-number-requires
-refusal-number-requires c κs = search needs
+number-of-requires : tie.Need-number-of-requires
+number-of-requires c κs = search needs
 
-refusal-figure-requires : tie.Need-refusal-figure-requires
-refusal-figure-requires c κs = search needs
+figure-of-requires : tie.Need-figure-of-requires
+figure-of-requires c κs = search needs
 
 slice-aggregate-put-refusal : tie.Need-slice-aggregate-put-refusal
 slice-aggregate-put-refusal c = search needs
@@ -21,12 +21,11 @@ put-refusal-requires c κs = search needs
 
 returns : tie.Need-returns
 returns c =
-    let k = c .before .before .before .before .before .refusal-number in
-    let i = c .before .before .before .before .refusal-figure in
+    let k = c .before .before .before .before .before .number-of in
+    let i = c .before .before .before .before .figure-of in
     let t = printed (refused (k .result) (i .result)) in
     let o = now (c .before .before .before .before .before .before .before .args .out) in
-    let w = c .before .before .put-refusal .ensures in
-    rw (← k .ensures, ← i .ensures) (fill-short t o w (c .if1 .taken))
+    rw (← k .ensures, ← i .ensures) (fill-short t o (c .before .before .put-refusal .ensures) (c .if1 .taken))
 
 put-refusal-requires-2 : tie.Need-put-refusal-requires-2
 put-refusal-requires-2 c κs = search needs
@@ -36,20 +35,18 @@ same-length c = search needs
 
 returns-2 : tie.Need-returns-2
 returns-2 c =
-    let k = c .before .before .before .before .before .before .before .before .before .refusal-number in
-    let i = c .before .before .before .before .before .before .before .before .refusal-figure in
+    let k = c .before .before .before .before .before .before .before .before .before .number-of in
+    let i = c .before .before .before .before .before .before .before .before .figure-of in
     let t = printed (refused (k .result) (i .result)) in
     let o = now (c .before .before .before .before .before .before .before .before .before .before .before .args .out) in
-    let w = c .before .before .before .before .before .before .put-refusal .ensures in
-    let v = c .before .before .put-refusal2 .ensures in
-    rw (← k .ensures, ← i .ensures) (fill-whole t o w (c .before .before .before .before .if1 .left) v)
+    rw (← k .ensures, ← i .ensures) (fill-whole t o (c .before .before .before .before .before .before .put-refusal .ensures) (c .before .before .before .before .if1 .left) (c .before .before .put-refusal2 .ensures))
 
 pub write-refusal-spec : {M : Type 1} → statement M
 write-refusal-spec =
     tie.close
     (tie.spec
-    refusal-number-requires
-    refusal-figure-requires
+    number-of-requires
+    figure-of-requires
     slice-aggregate-put-refusal
     put-refusal-requires
     returns
