@@ -28,7 +28,7 @@ fn print_audit(job: &[u8], plan: &[u8]) {
     }
 }
 
-// A job that reads has at most 2,310 bytes, and a plan at most 5,120: what follows the next byte never changes the answer.
+// A job that reads has at most 2,310 bytes, and a plan that passes at most 5,120: one byte more is read of each, so that a surplus is seen.
 fn main() {
     let job_file = open_argument(1);
     if job_file < 0 {
