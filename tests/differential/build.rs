@@ -1,4 +1,4 @@
-//! Finds the static library `exports`, only when the feature `product` is on.
+//! Finds the static libraries `exports` and `curveplan`, only when the feature `product` is on.
 //!
 //! The archive best comes from a crate that links the standard library. If it brings a panic
 //! handler of its own instead, set PRODUCT_OWN_PANIC=1: the linker then takes the first of the
@@ -21,10 +21,12 @@ fn main() {
             here.join("../../target/staticlib")
         }
     };
-    let archive = folder.join("libexports.a");
-    println!("cargo:rerun-if-changed={}", archive.display());
     println!("cargo:rustc-link-search=native={}", folder.display());
-    println!("cargo:rustc-link-lib=static=exports");
+    for name in ["exports", "curveplan"] {
+        let archive = folder.join(format!("lib{name}.a"));
+        println!("cargo:rerun-if-changed={}", archive.display());
+        println!("cargo:rustc-link-lib=static={name}");
+    }
     if env::var_os("PRODUCT_OWN_PANIC").is_some() {
         println!("cargo:rustc-link-arg=-Wl,--allow-multiple-definition");
     }

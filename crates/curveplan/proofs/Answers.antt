@@ -8,10 +8,12 @@ use native.Mathlib.Omega.{arith}
 use lib.Dec.{leb}
 use lib.ListN.{length, getD}
 use Rattle.bitset.specs.Set.{size}
-use Rattle.job.specs.Refusal.{Outcome, done, refused, _>>=_, _>>_, demand, room}
+use Rattle.job.specs.declared.Refusal.{Refusal}
+use Rattle.job.specs.declared.Counted.{Counted}
+use Rattle.job.specs.Refusal.{Outcome, done, refused, number, figure, countOutcome, _>>=_, _>>_, mapped, demand, room}
 use Rattle.job.specs.Handed.{each, wantsFit}
 use Rattle.job.specs.JobBytes.{Job, readBytes}
-use Rattle.job.proofs.Laws.{refused≢done, done-same, both-done, each-cases}
+use Rattle.job.proofs.Laws.{refused≢done, done-same, both-done, each-cases, mapped-done, mapped-refused, count-done, count-refused}
 use Rattle.job.proofs.Refuses.{Refuses, refuses, refuses-demand, refuses-both}
 use Rattle.job.proofs.SetRoundTrip.{Bytes}
 use Rattle.job.proofs.ReadExact.{ReadJob, read-exact}
@@ -22,7 +24,8 @@ use Rattle.planning.proofs.Demand3.{our-least}
 use Rattle.plan_bytes.specs.PlanBytes.{Placed, planSteps, writePlan}
 use Rattle.plan_bytes.proofs.PlanRoundTrip.{plan-back}
 use Rattle.plan_bytes.proofs.PlanLength.{passed-length}
-use Rattle.curveplan.specs.Call.{jobToPlan, numberOf, callAnswer}
+use Rattle.curveplan.specs.Call.{planJob, jobToPlan, numberOf, callAnswer, callPlan}
+use Rattle.curveplan.specs.Stages.{GivesPlan}
 use Rattle.curveplan.proofs.Composed.{orderOf, planOf, bytesOf, checked, call-written, call-too-large, call-unread}
 use Rattle.curveplan.proofs.ReadRefuses.{ByReading, read-refuses}
 
@@ -59,6 +62,34 @@ module _ (bs : List ℕ) (all : Bytes bs) (lent : ℕ) where
           let n = refuses ByReading (readBytes bs) k i (read-refuses bs) e in
           rw (call-unread bs k i e lent) (inl (n .0, omega (arith, n .1)), omega (arith, figure-short bs k i e .0))
       go (done j) e = by-size j e (sizes (j .head .places) (j .wants))
+
+  -- a plan takes no more than 5,120 bytes
+  pub call-counts : (plan : List ℕ) → jobToPlan bs lent ≡ done plan → length plan ≤ 5120
+  call-counts plan p = go (readBytes bs) refl
+    where
+      by-size : (j : Job) → readBytes bs ≡ done j
+          → (wantsFit (j .head .places) (j .wants) ≡ done tt) ⊎ ((t : ℕ) × (t < length (j .wants)) × (wantsFit (j .head .places) (j .wants) ≡ refused 7 t)) → length plan ≤ 5120
+      by-size j e (inr x) = absurd (refused≢done (sym (call-too-large bs j all e 7 (x .0) (x .2) lent) ∙ p))
+      by-size j e (inl f) =
+          let w = both-done (room lent (length (bytesOf j))) (done (bytesOf j)) plan (sym (call-written bs j all e f lent) ∙ p) in
+          rw (sym (done-same (w .1))) (passed-length _ _ _ _ _ _ _ (checked j (read-exact bs j all e) f))
+
+      go : (o : Outcome Job) → readBytes bs ≡ o → length plan ≤ 5120
+      go (refused k i) e = absurd (refused≢done (sym (call-unread bs k i e lent) ∙ p))
+      go (done j) e = by-size j e (sizes (j .head .places) (j .wants))
+
+  -- COUNTS AND REFUSALS NEVER MEET: an answer below 65,536 is the count of the bytes written, any other tells the refusal's number and figure
+  pub call-tells : ((plan : List ℕ) → jobToPlan bs lent ≡ done plan → (numberOf (jobToPlan bs lent) ≡ length plan) × (length plan < 65536))
+      × ((k i : ℕ) → jobToPlan bs lent ≡ refused k i → (65536 ≤ numberOf (jobToPlan bs lent)) × (numberOf (jobToPlan bs lent) / 65536 ≡ k) × (numberOf (jobToPlan bs lent) % 65536 ≡ i))
+  unfolding numberOf
+  call-tells = (
+    (λ plan e. rw e (refl, omega (arith, call-counts plan e))),
+    (λ k i e. let r = refuses CallRefusal (jobToPlan bs lent) k i call-refuses e in rw e (told k i (r .0) (r .1))),
+  )
+    where
+      told : (k i : ℕ) → ((1 ≤ k) × (k ≤ 7)) ⊎ (k ≡ 9) → i ≤ 5120 → (65536 ≤ k * 65536 + i) × ((k * 65536 + i) / 65536 ≡ k) × ((k * 65536 + i) % 65536 ≡ i)
+      told k i (inl b) l = (omega (arith, b .0), omega arith, omega arith)
+      told k i (inr b) l = (omega (arith, b), omega arith, omega arith)
 
   -- THE BYTES WRITTEN read back to a plan that passes the check, for the method's order, and no plan for that order that passes has fewer loads
   pub record Planned (plan : List ℕ) : Type 0 where
@@ -102,3 +133,33 @@ module _ (bs : List ℕ) (all : Bytes bs) (lent : ℕ) where
       go : (o : Outcome Job) → readBytes bs ≡ o → Planned plan
       go (refused k i) e = absurd (refused≢done (sym (call-unread bs k i e lent) ∙ p))
       go (done j) e = by-size j e (sizes (j .head .places) (j .wants))
+
+-- ---- the answer as one number, of what the stages gave
+
+module _ (bs old : List ℕ) (x : Counted) {new : List ℕ} (g : GivesPlan (planJob bs) old (countOutcome x) new) where
+  given : countOutcome x ≡ mapped length (jobToPlan bs (length old))
+  unfolding jobToPlan
+  given = g .answers
+
+  pub holds-plan : new ≡ callPlan bs old
+  unfolding callPlan jobToPlan
+  holds-plan = g .holds
+
+  pub answers-count : (n : ℕ) → x ≡ Counted.Count n → n ≡ callAnswer bs old
+  unfolding callAnswer numberOf
+  answers-count n e = let m = mapped-done length (jobToPlan bs (length old)) n (count-done x _ n given e) in rw (m .1) (sym (m .2))
+
+  refusal : (r : Refusal) → x ≡ Counted.Refused r → jobToPlan bs (length old) ≡ refused (number r) (figure r)
+  refusal r e = mapped-refused length (jobToPlan bs (length old)) (number r) (figure r) (count-refused x _ r given e)
+
+  pub answers-refusal : (r : Refusal) → x ≡ Counted.Refused r → number r * 65536 + figure r ≡ callAnswer bs old
+  unfolding callAnswer numberOf
+  answers-refusal r e = rw (refusal r e) refl
+
+  -- it fits in 64 bits
+  pub refusal-bounds : Bytes bs → (r : Refusal) → x ≡ Counted.Refused r → (number r ≤ 9) × (figure r ≤ 5120)
+  refusal-bounds all r e = let b = refuses CallRefusal (jobToPlan bs (length old)) (number r) (figure r) (call-refuses bs all (length old)) (refusal r e) in (below (b .0), b .1)
+    where
+      below : {k : ℕ} → ((1 ≤ k) × (k ≤ 7)) ⊎ (k ≡ 9) → k ≤ 9
+      below (inl b) = omega (arith, b .1)
+      below (inr b) = omega (arith, b)

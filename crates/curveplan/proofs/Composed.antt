@@ -20,7 +20,7 @@ use Rattle.planning.specs.Planning.{Plan, ourPlan, planning, checking}
 use Rattle.planning.proofs.OrderExact.{order-passes}
 use Rattle.planning.proofs.Demand3.{planning-done, our-check}
 use Rattle.plan_bytes.specs.PlanBytes.{planBytes, writePlan}
-use Rattle.curveplan.specs.Call.{Planned, orderAndPlan, planJob, jobToPlan}
+use Rattle.curveplan.specs.Call.{Planned, planInOrder, orderAndPlan, planJob, written, jobToPlan}
 
 -- EACH METHOD'S ORDER PASSES the examination of orders: planning never answers 8 after ordering
 pub order-known : (method places : ℕ) (wants : List ℕ) → orderKnown (length wants) (orderBy method places wants) ≡ done tt
@@ -75,15 +75,15 @@ module _ (bs : List ℕ) (j : Job) (all : Bytes bs) (read : readBytes bs ≡ don
   is = read-exact bs j all read
 
   pub job-planned : wantsFit (j .head .places) (j .wants) ≡ done tt → planJob bs ≡ done (record { job = j; order = orderOf j; plan = planOf j })
-  unfolding planJob orderAndPlan _>>=_
+  unfolding planJob orderAndPlan planInOrder _>>=_
   job-planned f = rw (read, ordered j is f, planned j is f) refl
 
   pub job-too-large : (k i : ℕ) → wantsFit (j .head .places) (j .wants) ≡ refused k i → planJob bs ≡ refused k i
-  unfolding planJob orderAndPlan _>>=_
+  unfolding planJob orderAndPlan planInOrder _>>=_
   job-too-large k i f = rw (read, too-large j is k i f) refl
 
   pub call-written : wantsFit (j .head .places) (j .wants) ≡ done tt → (lent : ℕ) → jobToPlan bs lent ≡ _>>_ (room lent (length (bytesOf j))) (done (bytesOf j))
-  unfolding jobToPlan writePlan _>>=_
+  unfolding jobToPlan written writePlan _>>=_
   call-written f lent = rw (job-planned f, checked j is f) refl
 
   pub call-too-large : (k i : ℕ) → wantsFit (j .head .places) (j .wants) ≡ refused k i → (lent : ℕ) → jobToPlan bs lent ≡ refused k i
@@ -92,7 +92,7 @@ module _ (bs : List ℕ) (j : Job) (all : Bytes bs) (read : readBytes bs ≡ don
 
 -- of bytes that do not
 pub unread : (bs : List ℕ) (k i : ℕ) → readBytes bs ≡ refused k i → planJob bs ≡ refused k i
-unfolding planJob orderAndPlan _>>=_
+unfolding planJob orderAndPlan planInOrder _>>=_
 unread bs k i e = rw e refl
 
 pub call-unread : (bs : List ℕ) (k i : ℕ) → readBytes bs ≡ refused k i → (lent : ℕ) → jobToPlan bs lent ≡ refused k i

@@ -6,9 +6,7 @@ use native.Mathlib.Omega.{arith}
 use lib.ListN.{length, getD, take, drop}
 use lib.Seq.{take-at}
 use Rattle.job.specs.declared.Head.{Head}
-use Rattle.job.specs.declared.Refusal.{Refusal}
-use Rattle.job.specs.declared.JobRead.{JobRead}
-use Rattle.job.specs.Refusal.{Outcome, done, refused, number, figure, readOutcome, _>>=_, _>>_, mapped, room, overwritten, leaves}
+use Rattle.job.specs.Refusal.{Outcome, done, refused, _>>=_, _>>_, mapped, room, overwritten, leaves}
 use Rattle.job.specs.JobBytes.{Job, readBytes, readJob, readJobAnswer, readJobWants}
 use Rattle.job.proofs.Laws.{refused≢done, done-same, mapped-done, mapped-refused, leaves-done, done-room}
 use Rattle.job.proofs.SetRoundTrip.{Bytes}
@@ -19,14 +17,11 @@ pub bytes-of : (bs : List ℕ) → ((k : ℕ) → k < length bs → getD bs k 0 
 bytes-of [] h = tt
 bytes-of (b ∷ bs) h = (h 0 (omega arith), bytes-of bs (λ k l. h (suc k) (omega arith)))
 
--- what reading answered
-pub read-refused : (x : JobRead) (r : Refusal) (o : Outcome Head) → x ≡ JobRead.Refused r → readOutcome x ≡ o → o ≡ refused (number r) (figure r)
-unfolding readOutcome
-read-refused x r o p q = sym q ∙ rw p refl
-
-pub read-done : (x : JobRead) (h : Head) (o : Outcome Head) → x ≡ JobRead.Read h → readOutcome x ≡ o → o ≡ done h
-unfolding readOutcome
-read-done x h o p q = sym q ∙ rw p refl
+-- a job that was read, with its wants in the first entries
+pub record Read256 (bs : List ℕ) (h : Head) (W′ : List ℕ) : Type 0 where
+  pub read : readBytes bs ≡ done (record { head = h; wants = take (h .tests) W′ })
+  pub tests : length (take (h .tests) W′) ≡ h .tests
+  pub few : h .tests ≤ 256
 
 module _ (bs W : List ℕ) (all : Bytes bs) (entries : length W ≡ 256) where
   -- with 256 entries lent, reading is the reading of the bytes
@@ -44,12 +39,7 @@ module _ (bs W : List ℕ) (all : Bytes bs) (entries : length W ≡ 256) where
   unfolding readJobAnswer
   answer-refused k i e = sym whole ∙ mapped-refused (λ j. j .head) (readJob bs (length W)) k i e
 
-  pub record Read256 (h : Head) (W′ : List ℕ) : Type 0 where
-    pub read : readBytes bs ≡ done (record { head = h; wants = take (h .tests) W′ })
-    pub tests : length (take (h .tests) W′) ≡ h .tests
-    pub few : h .tests ≤ 256
-
-  pub answer-done : (h : Head) (W′ : List ℕ) → readJobAnswer bs W ≡ done h → W′ ≡ readJobWants bs W → Read256 h W′
+  pub answer-done : (h : Head) (W′ : List ℕ) → readJobAnswer bs W ≡ done h → W′ ≡ readJobWants bs W → Read256 bs h W′
   unfolding readJobAnswer readJobWants
   answer-done h W′ e w =
       let x = mapped-done (λ j. j .head) (readJob bs (length W)) h e in

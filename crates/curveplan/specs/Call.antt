@@ -14,12 +14,17 @@ pub record Planned : Type 0 where
   pub order : List ℕ
   pub plan : Plan
 
--- ordering and planning; the lists between are the call's own, with an entry for each test
+-- planning in a given order; the lists between are the call's own, with an entry for each test
+unfoldable pub planInOrder : Job → List ℕ → Outcome Planned
+planInOrder j order = do
+  plan ← planning (j .head .places) (j .head .curves) (j .wants) order (j .head .tests) (j .head .tests)
+  done (record { job = j; order = order; plan = plan })
+
+-- ordering before that
 unfoldable pub orderAndPlan : Job → Outcome Planned
 orderAndPlan j = do
   order ← ordering (j .head .places) (j .head .curves) (j .head .method) (j .wants) (j .head .tests)
-  plan ← planning (j .head .places) (j .head .curves) (j .wants) order (j .head .tests) (j .head .tests)
-  done (record { job = j; order = order; plan = plan })
+  planInOrder j order
 
 -- reading before that
 unfoldable pub planJob : List ℕ → Outcome Planned
@@ -27,11 +32,15 @@ planJob bs = do
   j ← readBytes bs
   orderAndPlan j
 
--- .. and writing, into a buffer of so many bytes
+-- writing, into a buffer of so many bytes
+unfoldable pub written : ℕ → Planned → Outcome (List ℕ)
+written lent p = writePlan (p .job .head .places) (p .job .head .curves) (p .job .wants) (p .order) (p .plan .drops) (p .plan .loads) lent
+
+-- "reading, ordering, planning, writing"
 unfoldable pub jobToPlan : List ℕ → ℕ → Outcome (List ℕ)
 jobToPlan bs lent = do
   p ← planJob bs
-  writePlan (p .job .head .places) (p .job .head .curves) (p .job .wants) (p .order) (p .plan .drops) (p .plan .loads) lent
+  written lent p
 
 -- "It answers one number: the count of plan bytes, or on a refusal its number × 65,536 plus its figure."
 unfoldable pub numberOf : Outcome (List ℕ) → ℕ

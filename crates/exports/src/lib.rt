@@ -125,3 +125,13 @@ pub extern "C" fn t_step_bytes(curves: usize, tests: usize, plan: &[u8], positio
     let start = front_len(curves, tests, plan, position);
     (start % 65536) as u64 * 65536 + (count % 65536) as u64
 }
+
+#[no_mangle]
+pub extern "C" fn t_sheet(job: &[u8], out: &mut [u8]) -> u64 {
+    packed(report::write_report(job, out))
+}
+
+#[no_mangle]
+pub extern "C" fn t_audit(job: &[u8], plan: &[u8], out: &mut [u8]) -> u64 {
+    packed(report::audit::write_audit(job, plan, out))
+}

@@ -14,6 +14,7 @@ use Rattle.planning.specs.Plan.{loadCount}
 use Rattle.planning.specs.Planning.{planning, checking, planAnswer}
 use Rattle.plan_bytes.specs.PlanBytes.{Placed, planSteps, readPlan, readPlanBytes, readPlanAnswer, readPlanOrder, readPlanDrops, readPlanLoads}
 use Rattle.plan_bytes.proofs.ReadPlan.{plan-count}
+use Rattle.curveplan.proofs.Stages.{front, planning-room}
 use Rattle.report.specs.declared.audit.Audited.{Audited}
 use Rattle.report.specs.Audit.{Audit, testsOf, dropsOf, loadsOf, auditSteps, auditPlan, audit, auditedOutcome, auditText, writeAudit, auditAnswer, auditBuffer}
 use Rattle.report.specs.Report.{text, decimal, printed}
@@ -26,17 +27,12 @@ unfolding mapped
 mapped-twice f g (done a) = refl
 mapped-twice f g (refused k i) = refl
 
-pub mapped-bind : {A B : Type 0} (f : A → B) (a : Outcome A) → mapped f a ≡ _>>=_ a (λ x. done (f x))
+mapped-bind : {A B : Type 0} (f : A → B) (a : Outcome A) → mapped f a ≡ _>>=_ a (λ x. done (f x))
 unfolding mapped _>>=_
 mapped-bind f (done a) = refl
 mapped-bind f (refused k i) = refl
 
 -- ---- the fewest loads
-
--- lists that are long enough make no difference
-pub planning-room : (p c : ℕ) (ws order : List ℕ) (a b : ℕ) → length ws ≤ a → length ws ≤ b → planning p c ws order a a ≡ planning p c ws order b b
-unfolding planning
-planning-room p c ws order a b l m = rw (done-room a (length ws) l, done-room b (length ws) m) refl
 
 module _ (p c : ℕ) (ws order ds ls : List ℕ) (k n : ℕ) (fits : length ws ≤ n) (d : length ds ≡ 256) (l : length ls ≡ 256) (few : length ws ≤ 256)
     (x : Counted) (e : countOutcome x ≡ planAnswer p c ws order ds ls) where
@@ -73,11 +69,6 @@ module _ (j : Job) (order ds ls : List ℕ) (x : Counted) (e : countOutcome x �
 length-map : {A : Type 0} (f : A → ℕ) (xs : List A) → length (map f xs) ≡ length xs
 length-map f [] = refl
 length-map f (x ∷ xs) = ap suc (length-map f xs)
-
--- the first entries of a list that a result was written to
-pub front : (new old : List ℕ) (n : ℕ) → length new ≡ n → take n (overwritten new old) ≡ new
-unfolding overwritten
-front new old n e = take-at new (drop (length new) old) n e
 
 module _ (j : Job) (plan O D L : List ℕ) (o : length O ≡ 256) (d : length D ≡ 256) (l : length L ≡ 256) (few : j .head .tests ≤ 256) where
   abbrev c : ℕ

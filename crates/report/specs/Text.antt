@@ -5,10 +5,9 @@ use Prim.Native.Nat.{ℕ, _+_}
 use lib.ListN.{length}
 use lib.Seq.{sets}
 use Rattle.job.specs.declared.Head.{Head}
-use Rattle.job.specs.Refusal.{Outcome, done, _>>_, mapped, room, leaves}
-use Rattle.job.specs.JobBytes.{Job}
-use Rattle.planning.specs.Planning.{planning}
+use Rattle.job.specs.Refusal.{Outcome, done, _>>_, room}
 use Rattle.curveplan.specs.Call.{Planned}
+use Rattle.curveplan.specs.Stages.{Gives}
 
 -- the text was put at a position: the position behind it is answered, and the buffer has as much of the text as there is room for (`sets` stores nothing beyond a list)
 pub record Wrote (old : List ℕ) (at : ℕ) (text new : List ℕ) (next : ℕ) : Type 0 where
@@ -25,12 +24,6 @@ fitted text lent = do
   room lent (length text)
   done text
 
--- the count that is answered then, and what the buffer holds
-pub record Filled (text old : List ℕ) (answer : Outcome ℕ) (new : List ℕ) : Type 0 where
-  pub answers : answer ≡ mapped length (fitted text (length old))
-  pub holds : new ≡ leaves (fitted text (length old)) old
-
--- a job planned in a given order
-abbrev pub planInOrder : Job → List ℕ → Outcome Planned
-planInOrder j order =
-    mapped (λ plan. record { job = j; order = order; plan = plan }) (planning (j .head .places) (j .head .curves) (j .wants) order (j .head .tests) (j .head .tests))
+-- a lent buffer is filled with a text
+abbrev pub Filled : List ℕ → List ℕ → Outcome ℕ → List ℕ → Type 0
+Filled text old answer new = Gives (fitted text (length old)) old answer new

@@ -8,9 +8,9 @@ ghost use mathlib.Core.List.{[], _∷_, _++_};
 ghost use Prim.Native.Nat.{_+_, _^_, _≤_, _<_};
 ghost use lib.ListN.{length};
 ghost use Rattle.report.specs.Report.{text, decimal, setText, stepText, stepsText, headText, planText, printed, sheetAnswer, sheetBuffer};
-ghost use Rattle.report.specs.Text.{Wrote, shown, Filled, planInOrder};
+ghost use Rattle.report.specs.Text.{Wrote, shown, Filled};
 ghost use Rattle.job.specs.Refusal.{refused, number, figure, countOutcome};
-ghost use Rattle.curveplan.specs.Call.{orderAndPlan};
+ghost use Rattle.curveplan.specs.Call.{planInOrder, orderAndPlan};
 ghost use Rattle.planning.specs.Plan.{steps, loadCount};
 
 pub mod audit; // audit.rt: a plan beside the fewest loads

@@ -98,11 +98,9 @@ impl Subject for Product {
         -> Option<u64> {
         Some(product::step_bytes(curves, tests, plan, position))
     }
-    #[cfg(feature = "whole")]
     fn call(&self, job: &[u8], plan: &mut [u8]) -> Option<u64> {
         Some(product::call(job, plan))
     }
-    #[cfg(feature = "whole")]
     fn sheet(&self, job: &[u8], out: &mut [u8]) -> Option<u64> {
         Some(product::sheet(job, out))
     }

@@ -90,9 +90,7 @@ extern "C" {
         plan_len: usize,
         position: usize,
     ) -> u64;
-    #[cfg(feature = "whole")]
     fn curveplan_plan(job: *const u8, job_len: usize, plan: *mut u8, plan_len: usize) -> u64;
-    #[cfg(feature = "whole")]
     fn t_sheet(job: *const u8, job_len: usize, out: *mut u8, out_len: usize) -> u64;
 }
 
@@ -255,12 +253,10 @@ pub fn step_bytes(curves: usize, tests: usize, plan: &[u8], position: usize) -> 
     unsafe { t_step_bytes(curves, tests, plan.as_ptr(), plan.len(), position) }
 }
 
-#[cfg(feature = "whole")]
 pub fn call(job: &[u8], plan: &mut [u8]) -> u64 {
     unsafe { curveplan_plan(job.as_ptr(), job.len(), plan.as_mut_ptr(), plan.len()) }
 }
 
-#[cfg(feature = "whole")]
 pub fn sheet(job: &[u8], out: &mut [u8]) -> u64 {
     unsafe { t_sheet(job.as_ptr(), job.len(), out.as_mut_ptr(), out.len()) }
 }

@@ -2,7 +2,9 @@
 use mathlib.Core.Path.{refl, sym, _∙_}
 use native.Mathlib.Omega.{arith}
 use denote.Ref.{now}
-use Rattle.report.proofs.Reporting.{Given, counted-refused, counted-done, plan-refused, plan-given, refusal-printed, plan-printed}
+use Rattle.job.proofs.Laws.{count-refused, count-done}
+use Rattle.curveplan.proofs.Stages.{Given, plan-refused, plan-given}
+use Rattle.report.proofs.Reporting.{refusal-printed, plan-printed}
 use borrow.Author.Needs.{needs}
 use Rattle.report.proofs.write_ordered.Statement.{statement}
 use Rattle.report.proofs.write_ordered.Tie as tie
@@ -36,7 +38,7 @@ given : (c : tie.After-known-told2) →
 given c =
     let a = c .before .before .before .before .before .before .before .before .before .before .before .args in
     let r = c .before .before .before .before .before .plan in
-    plan-given (a .head) (now (a .wants)) (now (a .order)) _ _ (c .before .before .before .before .before .before .before .before .before .before .before .pre .1 .0) (c .before .before .before .before .before .before .before .before .before .before .before .pre .0 .0) refl refl (c .before .count .given .0 .0) _ _ (counted-done _ _ _ (c .before .count .given .1) (r .ensures .0)) (r .ensures .1 .0) (r .ensures .1 .1 .0)
+    plan-given (a .head) (now (a .wants)) (now (a .order)) _ _ (c .before .before .before .before .before .before .before .before .before .before .before .pre .1 .0) (c .before .before .before .before .before .before .before .before .before .before .before .pre .0 .0) refl refl (c .before .count .given .0 .0) _ _ (count-done _ _ _ (r .ensures .0) (c .before .count .given .1)) (r .ensures .1 .0) (r .ensures .1 .1 .0)
 
 slice-aggregate-write-plan : tie.Need-slice-aggregate-write-plan
 slice-aggregate-write-plan c = sym (given (c .before) .drops)
@@ -60,7 +62,7 @@ returns : tie.Need-returns
 returns c =
     let a = c .before .before .before .before .before .before .before .before .before .before .before .before .before .before .before .args in
     let p = c .before .before .before .before .before .before .before .before .before .before .before .before .before .before .before .pre in
-    refusal-printed _ _ (plan-refused (a .head) (now (a .wants)) (now (a .order)) _ _ (p .1 .0) (p .0 .0) refl refl _ _ (counted-refused _ _ _ (c .before .before .before .before .before .r .given .1) (c .before .before .before .before .before .before .before .before .before .plan .ensures .0))) (c .before .before .write-refusal .ensures)
+    refusal-printed _ _ (plan-refused (a .head) (now (a .wants)) (now (a .order)) _ _ (p .1 .0) (p .0 .0) refl refl _ _ (count-refused _ _ _ (c .before .before .before .before .before .before .before .before .before .plan .ensures .0) (c .before .before .before .before .before .r .given .1))) (c .before .before .write-refusal .ensures)
 
 same-length-2 : tie.Need-same-length-2
 same-length-2 c = search needs

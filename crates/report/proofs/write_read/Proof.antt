@@ -1,7 +1,9 @@
 -- `report::write_read` meets its contract: the order stands in the first entries of the list.
 use mathlib.Core.Path.{refl, sym}
 use denote.Ref.{now}
-use Rattle.report.proofs.Reporting.{Ordered, counted-refused, counted-done, order-refused, order-given, refusal-printed, order-printed}
+use Rattle.job.proofs.Laws.{count-refused, count-done}
+use Rattle.curveplan.proofs.Stages.{Ordered, order-refused, order-given}
+use Rattle.report.proofs.Reporting.{refusal-printed, order-printed}
 use borrow.Author.Needs.{needs}
 use Rattle.report.proofs.write_read.Statement.{statement}
 use Rattle.report.proofs.write_read.Tie as tie
@@ -28,7 +30,7 @@ array-share-prefix-order c = search needs
 given : (c : tie.After-enum-told) → Ordered (record { head = c .before .before .before .before .before .before .before .args .head; wants = now (c .before .before .before .before .before .before .before .args .wants) }) (c .before .before .before .order-tests .last .1 .1 .1 .1 .0)
 given c =
     let r = c .before .before .before .order-tests in
-    order-given (record { head = c .before .before .before .before .before .before .before .args .head; wants = now (c .before .before .before .before .before .before .before .args .wants) }) _ (c .before .before .before .before .before .before .before .pre .1) (c .before .before .before .before .before .before .before .pre .0 .0) refl _ _ (counted-done _ _ _ (c .enum-told .given .1) (r .ensures .0)) (r .ensures .1)
+    order-given (record { head = c .before .before .before .before .before .before .before .args .head; wants = now (c .before .before .before .before .before .before .before .args .wants) }) _ (c .before .before .before .before .before .before .before .pre .1) (c .before .before .before .before .before .before .before .pre .0 .0) refl _ _ (count-done _ _ _ (r .ensures .0) (c .enum-told .given .1)) (r .ensures .1)
 
 slice-aggregate-write-ordered : tie.Need-slice-aggregate-write-ordered
 slice-aggregate-write-ordered c = sym (given (c .before) .long)
@@ -41,7 +43,7 @@ same-length c = search needs
 
 returns : tie.Need-returns
 returns c =
-    refusal-printed _ _ (order-refused (record { head = c .before .before .before .before .before .before .before .before .before .before .before .before .args .head; wants = now (c .before .before .before .before .before .before .before .before .before .before .before .before .args .wants) }) _ (c .before .before .before .before .before .before .before .before .before .before .before .before .pre .1) (c .before .before .before .before .before .before .before .before .before .before .before .before .pre .0 .0) refl _ _ (counted-refused _ _ _ (c .before .before .before .before .before .r .given .1) (c .before .before .before .before .before .before .before .before .order-tests .ensures .0))) (c .before .before .write-refusal .ensures)
+    refusal-printed _ _ (order-refused (record { head = c .before .before .before .before .before .before .before .before .before .before .before .before .args .head; wants = now (c .before .before .before .before .before .before .before .before .before .before .before .before .args .wants) }) _ (c .before .before .before .before .before .before .before .before .before .before .before .before .pre .1) (c .before .before .before .before .before .before .before .before .before .before .before .before .pre .0 .0) refl _ _ (count-refused _ _ _ (c .before .before .before .before .before .before .before .before .order-tests .ensures .0) (c .before .before .before .before .before .r .given .1))) (c .before .before .write-refusal .ensures)
 
 same-length-2 : tie.Need-same-length-2
 same-length-2 c = search needs

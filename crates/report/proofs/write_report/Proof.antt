@@ -8,7 +8,8 @@ use Rattle.job.specs.Refusal.{done}
 use Rattle.job.specs.JobBytes.{readBytes}
 use Rattle.job.proofs.SetRoundTrip.{Bytes}
 use Rattle.job.proofs.ReadExact.{read-exact}
-use Rattle.curveplan.proofs.Reading.{bytes-of, read-refused, read-done, answer-refused, answer-done}
+use Rattle.job.proofs.Laws.{read-refused, read-done}
+use Rattle.curveplan.proofs.Reading.{bytes-of, answer-refused, answer-done}
 use Rattle.report.proofs.Reporting.{sheet-unread, sheet-read}
 use borrow.Author.Needs.{needs}
 use Rattle.report.proofs.write_report.Statement.{statement}
@@ -40,7 +41,7 @@ read : (c : tie.After-known-told2) →
     (readBytes (now (c .before .before .before .before .before .before .before .before .args .job)) ≡ done (record { head = h; wants = take (h .tests) w })) × (length (take (h .tests) w) ≡ h .tests) × (h .tests ≤ 256)
 read c =
     let r = c .before .before .before .before .read-job in
-    let x = answer-done (now (c .before .before .before .before .before .before .before .before .args .job)) _ (bytes (c .before .before .before .before .before .before .before)) refl _ _ (read-done _ _ _ (c .before .head .given .1) (r .ensures .0)) (r .ensures .1) in
+    let x = answer-done (now (c .before .before .before .before .before .before .before .before .args .job)) _ (bytes (c .before .before .before .before .before .before .before)) refl _ _ (read-done _ _ _ (r .ensures .0) (c .before .head .given .1)) (r .ensures .1) in
     (x .read, x .tests, x .few)
 
 array-share-prefix-wants : tie.Need-array-share-prefix-wants
@@ -62,7 +63,7 @@ returns : tie.Need-returns
 returns c =
     let a = c .before .before .before .before .before .before .before .before .before .before .before .before .args in
     let r = c .before .before .before .before .before .before .before .before .read-job in
-    sheet-unread (now (a .job)) (now (a .out)) _ _ (answer-refused (now (a .job)) _ (bytes (c .before .before .before .before .before .before .before .before .before .before .before)) refl _ _ (read-refused _ _ _ (c .before .before .before .before .before .r .given .1) (r .ensures .0))) (c .before .before .write-refusal .ensures)
+    sheet-unread (now (a .job)) (now (a .out)) _ _ (answer-refused (now (a .job)) _ (bytes (c .before .before .before .before .before .before .before .before .before .before .before)) refl _ _ (read-refused _ _ _ (r .ensures .0) (c .before .before .before .before .before .r .given .1))) (c .before .before .write-refusal .ensures)
 
 same-length-2 : tie.Need-same-length-2
 same-length-2 c = search needs

@@ -4,7 +4,7 @@
 //!
 //! Each figure is the median time of one call in microseconds, over all repetitions of 16
 //! different jobs, and in brackets the fastest: on a busy machine the medians wander. With the
-//! feature `product` the library's functions are timed in the same run, turn and turn about with the
+//! feature `product` the library's call is timed in the same run, turn and turn about with the
 //! baseline, and the last column is its median divided by the baseline's.
 
 use differential::generate;
@@ -42,21 +42,6 @@ fn jobs(places: usize, method: usize, low: usize, high: usize) -> Vec<Vec<u8>> {
         .collect()
 }
 
-/// Reading, ordering, planning and writing in turn, by the library's functions.
-#[cfg(feature = "product")]
-fn composed(job: &[u8], plan: &mut [u8]) -> u64 {
-    let mut wants = [0u64; 256];
-    let mut order = [0u16; 256];
-    let mut drops = [0u64; 256];
-    let mut loads = [0u64; 256];
-    let mut head = [0u64; 4];
-    product::read_job(job, &mut wants, &mut head);
-    let [places, curves, n, method] = head.map(|x| x as usize);
-    product::order_tests(places, curves, method, &wants[..n], &mut order[..n]);
-    product::plan(places, curves, &wants[..n], &order[..n], &mut drops[..n], &mut loads[..n]);
-    product::write_plan(places, curves, &wants[..n], &order[..n], &drops[..n], &loads[..n], plan)
-}
-
 /// The time of one call, in nanoseconds.
 fn time(call: Call, job: &[u8], plan: &mut [u8], expected: u64) -> u64 {
     let start = Instant::now();
@@ -84,7 +69,7 @@ fn main() {
     #[allow(unused_mut)]
     let mut calls: Vec<(&str, Call)> = vec![("tuned", tuned::call)];
     #[cfg(feature = "product")]
-    calls.push(("product", composed));
+    calls.push(("library", product::call));
 
     println!(
         "256 tests, 64 curves; median (fastest) of {} calls, µs",

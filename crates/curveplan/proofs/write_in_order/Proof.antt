@@ -1,0 +1,80 @@
+-- `curveplan::write_in_order` meets its contract: the plan stands in the first entries of the two lists.
+use mathlib.Core.Path.{refl, sym}
+use denote.Ref.{now}
+use Rattle.job.proofs.Laws.{count-refused, count-done}
+use Rattle.curveplan.proofs.Stages.{Given, plan-refused, plan-given, gives-refusal, gives-plan}
+use borrow.Author.Needs.{needs}
+use Rattle.curveplan.proofs.write_in_order.Statement.{statement}
+use Rattle.curveplan.proofs.write_in_order.Tie as tie
+
+slice-aggregate-plan : tie.Need-slice-aggregate-plan
+slice-aggregate-plan c = search needs
+
+slice-aggregate-plan-2 : tie.Need-slice-aggregate-plan-2
+slice-aggregate-plan-2 c = search needs
+
+plan-requires : tie.Need-plan-requires
+plan-requires c κs = search needs
+
+enum-known-r : tie.Need-enum-known-r
+enum-known-r c = search needs
+
+enum-told : tie.Need-enum-told
+enum-told c = search needs
+
+array-share-prefix-drops : tie.Need-array-share-prefix-drops
+array-share-prefix-drops c = search needs
+
+-- the plan that planning gave
+given : (c : tie.After-enum-told) →
+    let a = c .before .before .before .before .before .before .before .before .before .before .args in
+    let r = c .before .before .before .before .plan in
+    Given (a .head) (now (a .wants)) (now (a .order)) (c .enum-told .given .0 .0) (r .last .1 .1 .1 .1 .0) (r .last .1 .1 .1 .1 .1 .0)
+given c =
+    let a = c .before .before .before .before .before .before .before .before .before .before .args in
+    let p = c .before .before .before .before .before .before .before .before .before .before .pre in
+    let r = c .before .before .before .before .plan in
+    plan-given (a .head) (now (a .wants)) (now (a .order)) _ _ (p .1 .0) (p .0) refl refl (c .enum-told .given .0 .0) _ _ (count-done _ _ _ (r .ensures .0) (c .enum-told .given .1)) (r .ensures .1 .0) (r .ensures .1 .1 .0)
+
+slice-aggregate-write-plan : tie.Need-slice-aggregate-write-plan
+slice-aggregate-write-plan c = sym (given (c .before) .drops)
+
+array-share-prefix-loads : tie.Need-array-share-prefix-loads
+array-share-prefix-loads c = search needs
+
+slice-aggregate-write-plan-2 : tie.Need-slice-aggregate-write-plan-2
+slice-aggregate-write-plan-2 c = sym (given (c .before .before) .loads)
+
+write-plan-requires : tie.Need-write-plan-requires
+write-plan-requires c κs = search needs
+
+returns : tie.Need-returns
+returns c = let a = c .before .before .before .before .before .before .before .before .before .before .before .args in
+    let p = c .before .before .before .before .before .before .before .before .before .before .before .pre in
+    gives-refusal _ (plan-refused (a .head) (now (a .wants)) (now (a .order)) _ _ (p .1 .0) (p .0) refl refl _ _ (count-refused _ _ _ (c .before .before .before .before .before .plan .ensures .0) (c .before .r .given .1)))
+
+same-length : tie.Need-same-length
+same-length c = search needs
+
+returns-2 : tie.Need-returns-2
+returns-2 c = let a = c .before .before .before .before .before .before .before .before .before .before .before .before .before .before .before .before .args in
+    let w = c .before .before .write-plan .ensures in
+    gives-plan (a .head) (now (a .wants)) (now (a .order)) _ _ (given (c .before .before .before .before .before .before) .is) (w .0) (w .1)
+
+pub write-in-order-spec : {M : Type 1} → statement M
+write-in-order-spec =
+    tie.close
+    (tie.spec
+    slice-aggregate-plan
+    slice-aggregate-plan-2
+    plan-requires
+    enum-known-r
+    enum-told
+    array-share-prefix-drops
+    slice-aggregate-write-plan
+    array-share-prefix-loads
+    slice-aggregate-write-plan-2
+    write-plan-requires
+    returns
+    same-length
+    returns-2)
