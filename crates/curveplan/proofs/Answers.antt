@@ -92,7 +92,7 @@ module _ (bs : List ℕ) (all : Bytes bs) (lent : ℕ) where
       told k i (inr b) l = (omega (arith, b), omega arith, omega arith)
 
   -- THE BYTES WRITTEN read back to a plan that passes the check, for the method's order, and no plan for that order that passes has fewer loads
-  pub record Planned (plan : List ℕ) : Type 0 where
+  pub record WrittenPlan (plan : List ℕ) : Type 0 where
     pub job : Job
     pub read : readBytes bs ≡ done job
     pub steps : List Placed
@@ -102,12 +102,12 @@ module _ (bs : List ℕ) (all : Bytes bs) (lent : ℕ) where
     pub passes : checking (job .head .places) (job .head .curves) (job .wants) (orderOf job) (map (λ s. s .step .drops) steps) (map (λ s. s .step .loads) steps) ≡ done count
     pub least : (drops loads : List ℕ) (m : ℕ) → checking (job .head .places) (job .head .curves) (job .wants) (orderOf job) drops loads ≡ done m → count ≤ loadCount loads
 
-  pub call-planned : (plan : List ℕ) → jobToPlan bs lent ≡ done plan → Planned plan
+  pub call-planned : (plan : List ℕ) → jobToPlan bs lent ≡ done plan → WrittenPlan plan
   unfolding ourPlan
   call-planned plan p = go (readBytes bs) refl
     where
       by-size : (j : Job) → readBytes bs ≡ done j
-          → (wantsFit (j .head .places) (j .wants) ≡ done tt) ⊎ ((t : ℕ) × (t < length (j .wants)) × (wantsFit (j .head .places) (j .wants) ≡ refused 7 t)) → Planned plan
+          → (wantsFit (j .head .places) (j .wants) ≡ done tt) ⊎ ((t : ℕ) × (t < length (j .wants)) × (wantsFit (j .head .places) (j .wants) ≡ refused 7 t)) → WrittenPlan plan
       by-size j e (inr x) = absurd (refused≢done (sym (call-too-large bs j all e 7 (x .0) (x .2) lent) ∙ p))
       by-size j e (inl f) =
           let r : ReadJob j = read-exact bs j all e in
@@ -130,7 +130,7 @@ module _ (bs : List ℕ) (all : Bytes bs) (lent : ℕ) where
               → writePlan (j .head .places) (j .head .curves) (j .wants) (orderOf j) (planOf j .drops) (planOf j .loads) lent ≡ _>>_ (room lent (length (bytesOf j))) (done (bytesOf j))
           written c = unfold writePlan _>>=_ in (rw c refl)
 
-      go : (o : Outcome Job) → readBytes bs ≡ o → Planned plan
+      go : (o : Outcome Job) → readBytes bs ≡ o → WrittenPlan plan
       go (refused k i) e = absurd (refused≢done (sym (call-unread bs k i e lent) ∙ p))
       go (done j) e = by-size j e (sizes (j .head .places) (j .wants))
 
