@@ -11,9 +11,9 @@ use borrow.Author.Tests.{lt-leb}
 use Rattle.job.specs.declared.Refusal.{Refusal}
 use Rattle.job.specs.declared.Counted.{Counted}
 use Rattle.job.specs.Refusal.{Outcome, done, refused, number, figure, countOutcome, _>>=_, _>>_, mapped, demand, room, leaves, overwritten}
-use Rattle.job.specs.SetBytes.{stands, setBytes}
+use Rattle.job_bytes.specs.SetBytes.{stands, setBytes}
 use Rattle.job.proofs.Laws.{done-both, done-room}
-use Rattle.job.proofs.Encoding.{set-le, sets-append, sets-part, put, put-fits}
+use Rattle.job_bytes.proofs.Encoding.{set-le, sets-append, sets-part, put, put-fits}
 use Rattle.planning.specs.Plan.{Step, steps}
 use Rattle.planning.specs.Planning.{checking}
 use Rattle.planning.proofs.OrderExact.{own-tests}

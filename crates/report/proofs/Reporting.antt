@@ -9,7 +9,7 @@ use Rattle.job.specs.declared.Refusal.{Refusal}
 use Rattle.job.specs.declared.Head.{Head}
 use Rattle.job.specs.Refusal.{Outcome, done, refused, number, figure, countOutcome, _>>=_, _>>_, mapped, room, leaves}
 use Rattle.job.specs.Handed.{jobKnownBy, wantsFit}
-use Rattle.job.specs.JobBytes.{Job, readBytes}
+use Rattle.job_bytes.specs.JobBytes.{Job, readBytes}
 use Rattle.job.proofs.Laws.{both-done, done-room, mapped-done, mapped-refused, leaves-done, refused≢done, done-same}
 use Rattle.job.proofs.Orders.{order-length}
 use Rattle.ordering.specs.Methods.{orderBy}

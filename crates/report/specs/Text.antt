@@ -6,7 +6,7 @@ use lib.ListN.{length}
 use lib.Seq.{sets}
 use Rattle.job.specs.declared.Head.{Head}
 use Rattle.job.specs.Refusal.{Outcome, done, _>>_, mapped, room, leaves}
-use Rattle.job.specs.JobBytes.{Job}
+use Rattle.job_bytes.specs.JobBytes.{Job}
 use Rattle.planning.specs.Planning.{planning}
 use Rattle.curveplan.specs.Call.{Planned}
 
