@@ -13,7 +13,7 @@ use Rattle.job_bytes.proofs.SetRoundTrip.{Bytes}
 use Rattle.job_bytes.proofs.ReadExact.{ReadJob, read-exact}
 use Rattle.ordering.specs.Methods.{orderBy}
 use Rattle.ordering.specs.Ordering.{ordering}
-use Rattle.ordering.proofs.Rounds.{order-complete}
+use Rattle.ordering.proofs.Complete.{order-complete}
 use Rattle.planning.specs.Order.{orderKnown}
 use Rattle.planning.specs.Plan.{loadCount}
 use Rattle.planning.specs.Planning.{Plan, ourPlan, planning, checking}

@@ -18,7 +18,7 @@ use Rattle.job_bytes.proofs.JobBounds.{figure-short}
 use Rattle.job.proofs.Orders.{order-length}
 use Rattle.job_bytes.proofs.ReadExact.{ReadJob, read-exact}
 use Rattle.job_bytes.proofs.SetRoundTrip.{Bytes}
-use Rattle.ordering.proofs.Rounds.{order-complete}
+use Rattle.ordering.proofs.Complete.{order-complete}
 use Rattle.planning.specs.Plan.{inOrder, loadCount, loadSets, furthest, heldAfter}
 use Rattle.planning.specs.Planning.{ourPlan}
 use Rattle.planning.proofs.OrderExact.{own-tests}

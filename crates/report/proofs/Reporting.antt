@@ -14,7 +14,7 @@ use Rattle.job.proofs.Laws.{both-done, done-room, mapped-done, mapped-refused, 
 use Rattle.job.proofs.Orders.{order-length}
 use Rattle.ordering.specs.Methods.{orderBy}
 use Rattle.ordering.specs.Ordering.{ordering, orderAnswer, orderList}
-use Rattle.ordering.proofs.Rounds.{order-complete}
+use Rattle.ordering.proofs.Complete.{order-complete}
 use Rattle.planning.specs.Plan.{loadCount}
 use Rattle.planning.specs.Planning.{Plan, planning, planAnswer, planDrops, planLoads}
 use Rattle.planning.proofs.Demand3.{plan-lengths}
