@@ -29,7 +29,7 @@ fn write_order(places: usize, method: usize, wants: &[u64], order: &mut [u16])
     ensures { λ _. ⌜ now (order .exit) ≡ overwritten (orderBy method places (now (wants .entry))) (now (order .entry)) ⌝ }
 {
     if method == 0 {
-        packages::as_listed(wants.len(), order);
+        packages::listed_order(wants.len(), order);
         return;
     }
     if method == 1 {

@@ -2,6 +2,7 @@
 --     Written  what a list holds of which the first entries were written
 --     Listed   the tests in list order
 --     Rounds   the rounds end, and each test comes once
+--     Entered  tests that are written to a list where they fit
 --     Lists    lists that are changed in place
 --     Rows     the closest pair, row by row
 --     Renew    the best second package of each row, kept over a join
@@ -10,6 +11,7 @@
 pub mod Written
 pub mod Listed
 pub mod Rounds
+pub mod Entered
 pub mod Lists
 pub mod Rows
 pub mod Renew

@@ -1,8 +1,11 @@
--- What every order speaks of: the wants of a test, common curves, and the tests in list order. A test is named by its number, its place in the list of wants.
+-- What every order speaks of: the wants of a test, common curves, the tests in list order, and a list to which they are written. A test is named by its
+-- number, its place in the list of wants.
 use mathlib.Core.List.{List, [], _∷_, _++_}
 use Prim.Native.Nat.{ℕ, zero, suc}
-use lib.ListN.{getD}
+use lib.ListN.{length, getD}
 use Rattle.bitset.specs.Set.{_∩_, size}
+use Rattle.job.specs.Refusal.{_>>_, mapped, room, leaves}
+use Rattle.job.specs.Handed.{testsKnown}
 
 -- the wants of test t
 abbrev pub wantsOf : List ℕ → ℕ → ℕ
@@ -16,3 +19,7 @@ common a b = size (a ∩ b)
 unfoldable pub upTo : ℕ → List ℕ
 upTo zero = []
 upTo (suc n) = upTo n ++ (n ∷ [])
+
+-- what a list holds afterwards to which tests are written: their numbers, if they are at most 256 and the list takes them; else nothing new
+unfoldable pub entered : List ℕ → List ℕ → List ℕ
+entered new old = leaves (mapped (λ _. new) (_>>_ (testsKnown (length new)) (room (length old) (length new)))) old

@@ -4,12 +4,12 @@ ghost use mathlib.Core.Path.{_≡_};
 ghost use mathlib.Core.Bool.{Bool, cond};
 ghost use mathlib.Core.List.{List, _++_, map, reverse};
 ghost use Prim.Native.Nat.{ℕ, suc, _+_, _-_, _≤_, _<_};
-ghost use lib.ListN.{length, getD, take, drop, set};
+ghost use lib.ListN.{length, getD, take, drop, set, replicate};
 ghost use lib.Dec.{leb, ltb};
 ghost use Rattle.bitset.specs.Set.{_∪_, size};
 ghost use Rattle.job.specs.Refusal.{overwritten};
 ghost use Rattle.job.specs.Choice.{nobody, keep, bestOf};
-ghost use Rattle.packages.specs.Tests.{common, upTo};
+ghost use Rattle.packages.specs.Tests.{common, upTo, entered};
 ghost use Rattle.packages.specs.Packages.{eligible, closer, bestPair, flat, head, tail, flipped, packages};
 
 // Two places in the list of packages; no pair where the second is 0.
@@ -382,8 +382,8 @@ fn first_curves(wants: &[u64]) -> [u64; 256]
     curves
 }
 
-// Writes 0, 1, .., one number for each test: method 0, "as listed".
-pub fn as_listed(tests: usize, order: &mut [u16])
+// Writes 0, 1, .., one number for each test.
+fn as_listed(tests: usize, order: &mut [u16])
     requires { ⌜ (tests ≤ 256) × (tests ≤ length (now order)) ⌝ }
     ensures { λ _. ⌜ now (order .exit) ≡ overwritten (upTo tests) (now (order .entry)) ⌝ }
 {
@@ -392,6 +392,19 @@ pub fn as_listed(tests: usize, order: &mut [u16])
         order[t] = t as u16;
         t += 1;
     }
+}
+
+// "0, as listed", of at most 256 tests: writes their numbers to the beginning of `order`, where they fit.
+pub fn listed_order(tests: usize, order: &mut [u16])
+    ensures { λ _. ⌜ now (order .exit) ≡ entered (upTo tests) (now (order .entry)) ⌝ }
+{
+    if 256 < tests {
+        return;
+    }
+    if order.len() < tests {
+        return;
+    }
+    as_listed(tests, order);
 }
 
 // Method 3: "Each test begins as a package, in list order". The first round joins while a pair's union is at most the places, the second until one is left:
@@ -447,12 +460,14 @@ fn order_by_packages(places: usize, wants: &[u64], order: &mut [u16])
     }
 }
 
-// The order of method 3 as an array, of which the first entries count, one for each test.
+// The order of method 3 as an array, of which the first entries count, one for each of at most 256 tests.
 pub fn package_order(places: usize, wants: &[u64]) -> [u16; 256]
-    requires { ⌜ length (now wants) ≤ 256 ⌝ }
-    ensures { λ r. ⌜ take (length (now (wants .entry))) r ≡ packages places (now (wants .entry)) ⌝ }
+    ensures { λ r. ⌜ r ≡ entered (packages places (now (wants .entry))) (replicate 256 0) ⌝ }
 {
     let mut order = [0u16; 256];
+    if 256 < wants.len() {
+        return order;
+    }
     order_by_packages(places, wants, &mut order);
     order
 }
