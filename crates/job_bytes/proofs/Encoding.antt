@@ -15,10 +15,15 @@ use Rattle.job_bytes.specs.SetBytes.{groupOf, stands, groupBytes, groupM
 less : (j : ℕ) → j < 8 → 8 - j ≡ suc (8 - (j + 1))
 less j h = omega arith
 
-stands-some : (x : ℕ) → (x ≡ 0 → ⊥) → stands x ≡ 1
+pub stands-some : (x : ℕ) → (x ≡ 0 → ⊥) → stands x ≡ 1
 unfolding stands
 stands-some zero h = absurd (h refl)
 stands-some (suc x) h = refl
+
+pub stands-le : (x : ℕ) → stands x ≤ 1
+unfolding stands
+stands-le zero = omega arith
+stands-le (suc x) = omega arith
 
 group-some : (x : ℕ) (l : List ℕ) → (x ≡ 0 → ⊥) → groupOf x l ≡ x ∷ l
 unfolding groupOf

@@ -1,6 +1,5 @@
 -- A set of curves that is written reads back, and bytes that read as a set are those that are written for it.
 use mathlib.Core.Path.{_≡_, refl, sym, ap, _∙_, subst}
-use mathlib.Core.Bool.{Bool, true, false}
 use mathlib.Core.List.{List, [], _∷_, _++_}
 use Prim.Native.Nat.{ℕ, zero, suc, _+_, _-_, _*_, _/_, _%_, _^_, _≤_, _<_}
 use native.Mathlib.Omega.{arith}
@@ -12,12 +11,13 @@ use lib.Bits.{or-shifted-r, or-zero-r, or-lt}
 use lib.ListN.{length}
 use borrow.Author.Tests.{ltb-true, lt-ltb}
 use Rattle.bitset.specs.Set.{_∪_, bit, inside}
-use Rattle.bitset.proofs.Bits.{bit-zero, bit-suc, bit-beyond, same-by-bits}
+use Rattle.bitset.proofs.Bits.{bit-suc, bit-beyond, same-by-bits}
 use Rattle.job.specs.Refusal.{Outcome, done, refused, _>>=_, _>>_, demand}
 use Rattle.job.specs.Handed.{allCurves}
-use Rattle.job_bytes.specs.SetBytes.{groupOf, stands, groupBytes, groupMap, setBytes, Got, got, byteAt, readGroup, readGroups}
+use Rattle.job_bytes.specs.SetBytes.{groupOf, stands, groupBytes, groupMap, Got, got, byteAt, readGroup, readGroups}
 use Rattle.job.proofs.Laws.{refused≢done, demand-true, both-bind}
 use Rattle.job.proofs.JobExact.{below-inside, inside-below}
+use Rattle.job_bytes.proofs.Encoding.{stands-le}
 
 -- ---- groups of eight
 
@@ -40,11 +40,6 @@ room-suc s j b h l =
     below l = omega arith
 
 -- the lowest bit of the map, and the others
-stands-le : (b : ℕ) → stands b ≤ 1
-unfolding stands
-stands-le zero = omega arith
-stands-le (suc b) = omega arith
-
 map-first : (k s : ℕ) → bit 0 (groupMap (suc k) s) ≡ stands (s % 256)
 unfolding groupMap
 map-first k s = omega (arith, stands-le (s % 256))

@@ -1,17 +1,14 @@
 -- One turn of a loop over bytes: what a rule that reads comes to at byte k of the part bs, which begins at offset a of the input.
 use mathlib.Core.Path.{_≡_, refl, _∙_}
-use mathlib.Core.Bool.{true, false}
 use mathlib.Core.List.{List, [], _∷_, _++_}
-use Prim.Native.Nat.{ℕ, suc, _+_, _-_, _*_, _^_, _≤_, _<_}
+use Prim.Native.Nat.{ℕ, suc, _+_, _-_, _≤_, _<_}
 use native.Mathlib.Omega.{arith}
 use native.Mathlib.Numerals.{add-one}
 use lib.ListN.{length, getD, drop, drop-of-length-le}
 use lib.Seq.{drop-cons}
-use borrow.Author.Tests.{lt-ltb, le-ltb}
-use Rattle.bitset.specs.Set.{_∪_, bit, inside}
+use Rattle.bitset.specs.Set.{_∪_, bit}
 use Rattle.bitset.proofs.Bits.{bit-empty, bit-∪, same-by-bits}
-use Rattle.job.specs.Refusal.{Outcome, done, refused, _>>=_, _>>_, demand}
-use Rattle.job.specs.Handed.{allCurves}
+use Rattle.job.specs.Refusal.{Outcome, done, refused, _>>=_}
 use Rattle.job_bytes.specs.SetBytes.{Got, got, byteAt, readGroup, readGroups}
 use Rattle.job_bytes.specs.JobBytes.{readRecord, readRecords}
 
@@ -50,22 +47,6 @@ module _ (owed empty unknown curves map s a k j : ℕ) (bs : List ℕ) (below : 
   pub group-absent : bit j map ≡ 0 → groupsHere ≡ groupsNext s k
   unfolding readGroup _>>=_
   group-absent z = cons-here ∙ rw (z, ∪-none s) refl
-
-  pub group-owed : bit j map ≡ 1 → length bs ≤ k → groupsHere ≡ refused owed (a + k)
-  unfolding readGroup _>>=_
-  group-owed o h = cons-here ∙ rw (o, byte-owed owed a k bs h) refl
-
-  pub group-empty : bit j map ≡ 1 → k < length bs → getD bs k 0 ≡ 0 → groupsHere ≡ refused empty (a + k)
-  unfolding readGroup _>>=_ _>>_ demand
-  group-empty o h z = cons-here ∙ rw (o, byte-here owed a k bs h, le-ltb 0 (getD bs k 0) (omega arith)) refl
-
-  pub group-unknown : bit j map ≡ 1 → k < length bs → 0 < getD bs k 0 → inside (getD bs k 0 * 2 ^ (8 * j)) (allCurves curves) ≡ false → groupsHere ≡ refused unknown (a + k)
-  unfolding readGroup _>>=_ _>>_ demand
-  group-unknown o h p f = cons-here ∙ rw (o, byte-here owed a k bs h, lt-ltb 0 (getD bs k 0) p, f) refl
-
-  pub group-read : bit j map ≡ 1 → k < length bs → 0 < getD bs k 0 → inside (getD bs k 0 * 2 ^ (8 * j)) (allCurves curves) ≡ true → groupsHere ≡ groupsNext (s ∪ getD bs k 0 * 2 ^ (8 * j)) (k + 1)
-  unfolding readGroup _>>=_ _>>_ demand
-  group-read o h p f = cons-here ∙ rw (o, byte-here owed a k bs h, lt-ltb 0 (getD bs k 0) p, f) refl
 
 pub groups-end : (owed empty unknown curves map s i : ℕ) (bs : List ℕ) → readGroups owed empty unknown curves (8 - 8) 8 map s i bs ≡ done (got s i bs)
 unfolding readGroups

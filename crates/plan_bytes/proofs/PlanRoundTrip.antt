@@ -28,7 +28,8 @@ use Rattle.planning.specs.Planning.{checking}
 use Rattle.planning.proofs.Fewest.{_≼_, ≼-inside, held-≼}
 use Rattle.planning.proofs.CheckExact.{StepsOk, Passes, passed}
 use Rattle.plan_bytes.specs.PlanBytes.{setField, stepBytes, stepsBytes, planBytes, Placed, readSet, readStep, readSteps, readPlanBytes, planSteps, writePlan}
-use Rattle.plan_bytes.proofs.Writing.{one, stands-le}
+use Rattle.job_bytes.proofs.Encoding.{stands-le}
+use Rattle.plan_bytes.proofs.Writing.{one}
 
 -- ---- a set that is not empty has a group map that is not zero
 

@@ -46,16 +46,6 @@ pub stands-none : (s : ℕ) → s ≡ 0 → stands s ≡ 0
 unfolding stands
 stands-none s e = rw e refl
 
-pub stands-some : (s : ℕ) → (s ≡ 0 → ⊥) → stands s ≡ 1
-unfolding stands
-stands-some zero h = absurd (h refl)
-stands-some (suc s) h = refl
-
-pub stands-le : (s : ℕ) → stands s ≤ 1
-unfolding stands
-stands-le zero = omega arith
-stands-le (suc s) = omega arith
-
 abbrev pub one : ℕ → ℕ → ℕ → Step
 one t d l = record { test = t; drops = d; loads = l }
 

@@ -4,7 +4,8 @@ use mathlib.Core.Logic.{⊎-elim}
 use Prim.Native.Nat.{_+_}
 use native.Mathlib.Omega.{arith}
 use Rattle.job_bytes.specs.SetBytes.{stands}
-use Rattle.plan_bytes.proofs.Writing.{stands-none, stands-some, stands-le}
+use Rattle.job_bytes.proofs.Encoding.{stands-some, stands-le}
+use Rattle.plan_bytes.proofs.Writing.{stands-none}
 use borrow.Author.Needs.{needs}
 use Rattle.plan_bytes.proofs.step_map.Statement.{statement}
 use Rattle.plan_bytes.proofs.step_map.Tie as tie
