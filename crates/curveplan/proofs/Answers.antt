@@ -12,12 +12,12 @@ use Rattle.job.specs.declared.Refusal.{Refusal}
 use Rattle.job.specs.declared.Counted.{Counted}
 use Rattle.job.specs.Refusal.{Outcome, done, refused, number, figure, countOutcome, _>>=_, _>>_, mapped, demand, room}
 use Rattle.job.specs.Handed.{each, wantsFit}
-use Rattle.job.specs.JobBytes.{Job, readBytes}
+use Rattle.job_bytes.specs.JobBytes.{Job, readBytes}
 use Rattle.job.proofs.Laws.{refused≢done, done-same, both-done, each-cases, mapped-done, mapped-refused, count-done, count-refused}
 use Rattle.job.proofs.Refuses.{Refuses, refuses, refuses-demand, refuses-both}
-use Rattle.job.proofs.SetRoundTrip.{Bytes}
-use Rattle.job.proofs.ReadExact.{ReadJob, read-exact}
-use Rattle.job.proofs.JobBounds.{figure-short}
+use Rattle.job_bytes.proofs.SetRoundTrip.{Bytes}
+use Rattle.job_bytes.proofs.ReadExact.{ReadJob, read-exact}
+use Rattle.job_bytes.proofs.JobBounds.{figure-short}
 use Rattle.planning.specs.Plan.{loadCount}
 use Rattle.planning.specs.Planning.{ourPlan, checking}
 use Rattle.planning.proofs.Demand3.{our-least}

@@ -6,14 +6,14 @@ use native.Mathlib.Omega.{arith}
 use lib.ListN.{length}
 use Rattle.job.specs.Refusal.{Outcome, done, refused, _>>=_, _>>_, room}
 use Rattle.job.specs.Handed.{jobKnown, jobKnownBy, wantsFit}
-use Rattle.job.specs.JobBytes.{Job, readBytes}
+use Rattle.job_bytes.specs.JobBytes.{Job, readBytes}
 use Rattle.job.proofs.Laws.{done-both, done-room}
 use Rattle.job.proofs.JobExact.{job-exact, job-by-exact}
-use Rattle.job.proofs.SetRoundTrip.{Bytes}
-use Rattle.job.proofs.ReadExact.{ReadJob, read-exact}
+use Rattle.job_bytes.proofs.SetRoundTrip.{Bytes}
+use Rattle.job_bytes.proofs.ReadExact.{ReadJob, read-exact}
 use Rattle.ordering.specs.Methods.{orderBy}
 use Rattle.ordering.specs.Ordering.{ordering}
-use Rattle.ordering.proofs.Rounds.{order-complete}
+use Rattle.ordering.proofs.Complete.{order-complete}
 use Rattle.planning.specs.Order.{orderKnown}
 use Rattle.planning.specs.Plan.{loadCount}
 use Rattle.planning.specs.Planning.{Plan, ourPlan, planning, checking}

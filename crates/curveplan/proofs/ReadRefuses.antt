@@ -8,8 +8,8 @@ use lib.Dec.{ltb, eqb}
 use Rattle.bitset.specs.Set.{_∪_, bit, inside}
 use Rattle.job.specs.Refusal.{Outcome, done, refused, _>>=_, _>>_, demand}
 use Rattle.job.specs.Handed.{between, allCurves, someTests}
-use Rattle.job.specs.SetBytes.{Got, got, byteAt, readGroup, readGroups}
-use Rattle.job.specs.JobBytes.{readNumber, readField, readHead, readRecord, readRecords, atEnd, readBytes}
+use Rattle.job_bytes.specs.SetBytes.{Got, got, byteAt, readGroup, readGroups}
+use Rattle.job_bytes.specs.JobBytes.{readNumber, readField, readHead, readRecord, readRecords, atEnd, readBytes}
 use Rattle.job.proofs.Refuses.{Refuses, refuses-demand, refuses-both, refuses-bind}
 
 abbrev pub ByReading : ℕ → ℕ → Type 0

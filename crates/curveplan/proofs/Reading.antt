@@ -7,10 +7,10 @@ use lib.ListN.{length, getD, take, drop}
 use lib.Seq.{take-at}
 use Rattle.job.specs.declared.Head.{Head}
 use Rattle.job.specs.Refusal.{Outcome, done, refused, _>>=_, _>>_, mapped, room, overwritten, leaves}
-use Rattle.job.specs.JobBytes.{Job, readBytes, readJob, readJobAnswer, readJobWants}
+use Rattle.job_bytes.specs.JobBytes.{Job, readBytes, readJob, readJobAnswer, readJobWants}
 use Rattle.job.proofs.Laws.{refused≢done, done-same, mapped-done, mapped-refused, leaves-done, done-room}
-use Rattle.job.proofs.SetRoundTrip.{Bytes}
-use Rattle.job.proofs.ReadExact.{ReadJob, read-exact}
+use Rattle.job_bytes.proofs.SetRoundTrip.{Bytes}
+use Rattle.job_bytes.proofs.ReadExact.{ReadJob, read-exact}
 
 -- entries that are bytes
 pub bytes-of : (bs : List ℕ) → ((k : ℕ) → k < length bs → getD bs k 0 < 256) → Bytes bs

@@ -10,12 +10,12 @@ use Rattle.job.specs.declared.Refusal.{Refusal}
 use Rattle.job.specs.declared.Counted.{Counted}
 use Rattle.job.specs.Refusal.{Outcome, done, refused, number, figure, countOutcome, _>>=_, _>>_, mapped, room, overwritten, leaves}
 use Rattle.job.specs.Handed.{jobKnownBy, wantsFit}
-use Rattle.job.specs.JobBytes.{Job, readBytes}
+use Rattle.job_bytes.specs.JobBytes.{Job, readBytes}
 use Rattle.job.proofs.Laws.{both-done, done-room, mapped-done, mapped-refused, leaves-done, refused≢done, done-same}
 use Rattle.job.proofs.Orders.{order-length}
 use Rattle.ordering.specs.Methods.{orderBy}
 use Rattle.ordering.specs.Ordering.{ordering, orderAnswer, orderList}
-use Rattle.ordering.proofs.Rounds.{order-complete}
+use Rattle.ordering.proofs.Complete.{order-complete}
 use Rattle.planning.specs.Plan.{loadCount}
 use Rattle.planning.specs.Planning.{Plan, planning, planAnswer, planDrops, planLoads}
 use Rattle.planning.proofs.Demand3.{plan-lengths}

@@ -3,7 +3,7 @@ use mathlib.Core.List.{List}
 use Prim.Native.Nat.{ℕ, _+_, _*_}
 use lib.ListN.{length}
 use Rattle.job.specs.Refusal.{Outcome, done, refused, _>>=_, leaves}
-use Rattle.job.specs.JobBytes.{Job, readBytes}
+use Rattle.job_bytes.specs.JobBytes.{Job, readBytes}
 use Rattle.ordering.specs.Ordering.{ordering}
 use Rattle.planning.specs.Planning.{Plan, planning}
 use Rattle.plan_bytes.specs.PlanBytes.{writePlan}

@@ -99,7 +99,7 @@ fn job_to_plan(job: &[u8], plan: &mut [u8]) -> Counted
     ensures { λ r. ⌜ GivesPlan (planJob (now (job .entry))) (now (plan .entry)) (countOutcome r) (now (plan .exit)) ⌝ }
 {
     let mut wants = [0u64; 256];
-    match job::read_job(job, &mut wants) {
+    match job_bytes::read_job(job, &mut wants) {
         JobRead::Refused(r) => Counted::Refused(r),
         JobRead::Read(head) => {
             let n = head.tests;

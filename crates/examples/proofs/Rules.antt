@@ -4,9 +4,11 @@ use Rattle.bitset.specs.Set.{inside}
 use Rattle.job.specs.Refusal.{number, figure, readOutcome, countOutcome, _>>=_, _>>_, mapped, demand, room, overwritten, leaves}
 use Rattle.job.specs.Choice.{keep, choose, bestOf}
 use Rattle.job.specs.Handed.{between, listed, each, someTests, placesKnown, curvesKnown, testsKnown, methodKnown, wantsKnown, wantsFit, numbersKnown, jobKnown, jobKnownBy, countsKnown}
-use Rattle.job.specs.SetBytes.{groupOf, stands, groupBytes, groupMap, setBytes, byteAt, readGroup, readGroups}
-use Rattle.job.specs.JobBytes.{readNumber, readField, readHead, readRecord, readRecords, atEnd, readBytes, readJob, readJobAnswer, readJobWants, numberBytes, fieldBytes, fieldBit, headBytes, recordBytes, jobBytes, writeJob, writeJobAnswer, writeJobBuffer}
-use Rattle.ordering.specs.Methods.{weight, weights, degree, upTo, appended, grown, bestUnlisted, orElse, neighbour, nextOf, cuthillMcKee, reverseCuthillMcKee, reach, spanningTree, flat, bestPair, without, joined, onPair, curvesOf, joinAll, try, pickTry, _orMore_, longer, runFrom, flipped, packages, orderBy}
+use Rattle.job_bytes.specs.SetBytes.{groupOf, stands, groupBytes, groupMap, setBytes, byteAt, readGroup, readGroups}
+use Rattle.job_bytes.specs.JobBytes.{readNumber, readField, readHead, readRecord, readRecords, atEnd, readBytes, readJob, readJobAnswer, readJobWants, numberBytes, fieldBytes, fieldBit, headBytes, recordBytes, jobBytes, writeJob, writeJobAnswer, writeJobBuffer}
+use Rattle.packages.specs.Tests.{upTo}
+use Rattle.packages.specs.Packages.{flat, bestPair, without, joined, onPair, curvesOf, joinAll, try, pickTry, _orMore_, longer, runFrom, flipped, packages}
+use Rattle.ordering.specs.Methods.{weight, weights, degree, appended, grown, bestUnlisted, orElse, neighbour, nextOf, cuthillMcKee, reverseCuthillMcKee, reach, spanningTree, orderBy}
 use Rattle.ordering.specs.Ordering.{ordering, orderAnswer, orderList}
 use Rattle.planning.specs.Order.{orderFrom}
 use Rattle.planning.specs.Plan.{steps, inOrder, loadCount, stepPasses, checkSteps, later, useBy, nextUse, further, furthest, andThen, victims, dropsFor, heldAfter, dropSets, loadSets}

@@ -4,7 +4,7 @@ use mathlib.Core.List.{List, [], _∷_}
 use Prim.Native.Nat.{ℕ}
 use Rattle.job.specs.declared.Head.{Head}
 use Rattle.job.specs.Refusal.{Outcome, done, refused}
-use Rattle.job.specs.JobBytes.{Job, jobOf, readJob, writeJob}
+use Rattle.job_bytes.specs.JobBytes.{Job, jobOf, readJob, writeJob}
 use Rattle.ordering.specs.Ordering.{ordering}
 use Rattle.planning.specs.Planning.{Plan, planning, planAnswer, planDrops, planLoads, checking}
 use Rattle.plan_bytes.specs.PlanBytes.{planSteps, readPlan, writePlan, stepAt}

@@ -23,7 +23,7 @@ fn put(list: &mut [u64], at: usize, n: usize) {
 // The four numbers of the head go to `head`.
 #[no_mangle]
 pub extern "C" fn t_read_job(job: &[u8], wants: &mut [u64], head: &mut [u64]) -> u64 {
-    match job::reading::read_job(job, wants) {
+    match job_bytes::read_job(job, wants) {
         JobRead::Refused(r) => packed(Counted::Refused(r)),
         JobRead::Read(h) => {
             put(head, 0, h.places);
@@ -43,7 +43,7 @@ pub extern "C" fn t_write_job(
     wants: &[u64],
     out: &mut [u8],
 ) -> u64 {
-    packed(job::writing::write_job(places, curves, method, wants, out))
+    packed(job_bytes::write_job(places, curves, method, wants, out))
 }
 
 #[no_mangle]

@@ -1,19 +1,33 @@
 -- Places, curves and wants, with a method or without, pass the examination exactly where they are a job.
 use mathlib.Core.Path.{_≡_, refl, _∙_}
 use mathlib.Core.Logic.{_↔_}
-use mathlib.Core.Bool.{_&&_}
+use mathlib.Core.Bool.{true, _&&_}
 use mathlib.Core.List.{List}
 use Prim.Native.Nat.{ℕ, _^_, _≤_, _<_}
+use native.Mathlib.Omega.{arith}
+use native.Mathlib.Nat.{mod-eq-of-lt, mod-lt}
 use lib.Dec.{leb, ltb}
+use lib.Pow.{pow-pos}
+use lib.Bits.{and-mask}
 use lib.ListN.{length, getD}
-use borrow.Author.Tests.{ltb-true, leb-true, lt-ltb, le-leb}
-use Rattle.bitset.specs.Set.{inside}
+use borrow.Author.Tests.{ltb-true, leb-true, lt-ltb, le-leb, eqb-true, eq-eqb}
+use Rattle.bitset.specs.Set.{_∖_, inside}
 use Rattle.job.specs.Refusal.{done, _>>_, demand}
 use Rattle.job.specs.Handed.{between, allCurves, someTests, placesKnown, curvesKnown, testsKnown, methodKnown, wantsKnown, numbersKnown, jobKnown, jobKnownBy}
 use Rattle.job.specs.Words.{IsJob}
 use Rattle.job.proofs.Laws.{both, and, demand-true, demand-done, both-done, done-both, each-true, true-each}
-use Rattle.job.proofs.SetRoundTrip.{below-inside, inside-below}
 
+-- ---- curves below the number of curves
+
+pub below-inside : (c w : ℕ) → w < 2 ^ c → inside w (allCurves c) ≡ true
+unfolding inside
+below-inside c w h = eq-eqb (w ∖ allCurves c) 0 (omega (arith, and-mask w c, mod-eq-of-lt h))
+
+pub inside-below : (c w : ℕ) → inside w (allCurves c) ≡ true → w < 2 ^ c
+unfolding inside
+inside-below c w e = omega (arith, and-mask w c, eqb-true (w ∖ allCurves c) 0 e, mod-lt w (pow-pos c))
+
+-- ---- what passes the examination
 module _ (places curves : ℕ) (wants : List ℕ) where
   some-done : IsJob places curves wants → someTests (length wants) ≡ done tt
   unfolding someTests

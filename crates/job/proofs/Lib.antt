@@ -4,34 +4,10 @@
 --     Refuses       which refusals can come out
 --     Chosen        what is chosen by `Choice`
 --     Orders        counting in lists of tests
---     Turns         one turn of a loop over bytes
---     Encoding      one turn of a loop that writes bytes, and runs of stores
---     GroupByte     one group byte, and what its reader's answer says
---     Heads         reading a head, step by step
---     Front         a loop that copies the front of a list
---     Records       reading the records and the whole job, step by step
---     Spans         how many bytes a reading takes at most, and where its figures point
---     JobWritten    writing a job, step by step
 --     JobExact      what passes the examination is a job, and a job passes
---     SetRoundTrip  a set that is written reads back, and the other way round
---     JobRoundTrip  the same of a job
---     JobBounds     how long job bytes are, how large their figures, and that bytes behind the 2,311th change nothing
---     ReadExact     bytes that read give a job
 pub mod Laws
 pub mod Examination
 pub mod Refuses
 pub mod Chosen
 pub mod Orders
-pub mod Turns
-pub mod Encoding
-pub mod Front
-pub mod Heads
-pub mod Spans
-pub mod Records
-pub mod JobWritten
-pub mod SetRoundTrip
-pub mod GroupByte
 pub mod JobExact
-pub mod JobRoundTrip
-pub mod JobBounds
-pub mod ReadExact

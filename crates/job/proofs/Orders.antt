@@ -1,7 +1,7 @@
 -- Counting in lists: each of n tests once, and lists on the way there.
 use mathlib.Core.Path.{_≡_, refl, sym, ap, _∙_, subst}
 use mathlib.Core.Bool.{Bool, true, false, _||_, false≢true}
-use mathlib.Core.List.{List, [], _∷_, _++_}
+use mathlib.Core.List.{List, [], _∷_, _++_, reverse, reverse-cons}
 use Prim.Native.Nat.{ℕ, zero, suc, _+_, _^_, _≤_, _<_}
 use native.Mathlib.Omega.{arith}
 use native.Mathlib.Decide.{ℕ-discrete, decLe}
@@ -19,6 +19,11 @@ pub count-append : (t : ℕ) (a b : List ℕ) → count t (a ++ b) ≡ count t a
 unfolding count
 count-append t [] b = omega arith
 count-append t (s ∷ ss) b = omega (arith, count-append t ss b)
+
+pub count-reverse : (t : ℕ) (ss : List ℕ) → count t (reverse ss) ≡ count t ss
+unfolding count
+count-reverse t [] = refl
+count-reverse t (s ∷ ss) = ap (count t) (reverse-cons s ss) ∙ omega (arith, count-append t (reverse ss) (s ∷ []), count-reverse t ss)
 
 pub one-same : (t : ℕ) → digit (eqb t t) ≡ 1
 unfolding digit

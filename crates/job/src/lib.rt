@@ -5,13 +5,6 @@ ghost use lib.ListN.{length};
 ghost use Rattle.job.specs.Refusal.{examinedOutcome};
 ghost use Rattle.job.specs.Handed.{between, numbersKnown, wantsKnown, wantsFit, jobKnown, jobKnownBy, countsKnown};
 
-pub mod reading; // reading.rt: job bytes, read
-pub mod set_bytes; // set_bytes.rt: a set of curves in bytes
-pub mod writing; // writing.rt: job bytes, written
-
-pub use reading::read_job;
-pub use writing::write_job;
-
 // Why a call is refused: the rows of document 01's table in its order, each with the figure that is returned beside its number.
 // The comment gives the table's own word.
 pub enum Refusal {

@@ -1,23 +1,23 @@
 -- Each method's order names each test exactly once.
-use mathlib.Core.Path.{_≡_, refl, sym, ap, _∙_, subst}
+use mathlib.Core.Path.{_≡_, refl, sym, _∙_}
 use mathlib.Core.Bool.{Bool, true, false, not, _&&_, false≢true}
-use mathlib.Core.List.{List, [], _∷_, _++_, map, reverse, reverseAux, append-nil, append-assoc, reverse-cons}
-use mathlib.Core.Logic.{_⊎_, inl, inr}
-use Prim.Native.Nat.{ℕ, zero, suc, _+_, _-_, _≤_, _<_, min}
+use mathlib.Core.List.{List, [], _∷_, map}
+use Prim.Native.Nat.{ℕ, zero, suc, _+_, _≤_, _<_}
 use native.Mathlib.Omega.{arith}
-use native.Mathlib.Decide.{ℕ-discrete, decLe}
-use lib.ListN.{length, getD, take, drop, set, length-append, length-take, length-drop, length-set, length-map}
-use lib.Seq.{set-split, split-at}
-use lib.Dec.{leb, ltb, eqb}
-use borrow.Author.Tests.{ltb-true, ltb-false, lt-ltb, le-ltb, eq-eqb, ne-eqb, not-true}
-use Rattle.bitset.specs.Set.{_∪_, _∩_, size}
+use native.Mathlib.Decide.{ℕ-discrete}
+use lib.ListN.{length, getD, length-append}
+use lib.Dec.{ltb}
+use borrow.Author.Tests.{ltb-true, ltb-false, lt-ltb, le-ltb}
 use Rattle.bitset.proofs.Element.{sum}
-use Rattle.job.specs.Choice.{Found, nobody, found, keep, choose, bestOf}
-use Rattle.job.proofs.Chosen.{Ranked, Chosen, BestOf, best-of}
+use Rattle.job.specs.Choice.{Found, nobody, found}
+use Rattle.job.proofs.Chosen.{Ranked, BestOf, best-of}
 use Rattle.job.specs.Handed.{listed}
-use Rattle.job.specs.Words.{digit, count, IsOrder}
-use Rattle.job.proofs.Orders.{count-append, one-same, unlisted, uncounted, sum-count, Part, part-one, part-none, whole-part, all-ones}
-use Rattle.ordering.specs.Methods.{upTo, appended, grown, bestUnlisted, neighbour, orElse, nextOf, smaller, cuthillMcKee, degree, reverseCuthillMcKee, reach, spanningTree, asListed, Try, try, pickTry, _orMore_, flat, Pair, curvesOf, eligible, closer, bestPair, without, joined, closest, onPair, joinAll, head, tail, flipped, firstRound, secondRound, packages, orderBy}
+use Rattle.job.specs.Words.{count, IsOrder}
+use Rattle.job.proofs.Orders.{count-reverse, unlisted, uncounted, sum-count, Part, part-one, part-none, whole-part}
+use Rattle.packages.specs.Tests.{upTo}
+use Rattle.packages.proofs.Listed.{upTo-order}
+use Rattle.packages.proofs.Rounds.{packages-order}
+use Rattle.ordering.specs.Methods.{appended, grown, bestUnlisted, neighbour, orElse, nextOf, smaller, cuthillMcKee, degree, reverseCuthillMcKee, reach, spanningTree, asListed, orderBy}
 
 -- ---- smaller and larger keys rank
 
@@ -100,24 +100,10 @@ module _ (n : ℕ) (next : List ℕ → Found ℕ) (fresh : (ts : List ℕ) → 
 
 -- ---- 0
 
-upTo-order : (n : ℕ) → Part n (upTo n) × (length (upTo n) ≡ n)
-unfolding upTo
-upTo-order zero = (part-none zero, refl)
-upTo-order (suc n) =
-    let p = upTo-order n in (
-      part-one (suc n) n (upTo n) (record { short = omega (arith, p .0 .short); most = p .0 .most; own = λ t h. p .0 .own t (omega arith) }) (omega (arith, p .1)) (omega arith) (p .0 .own n (omega arith)),
-      omega (arith, p .1, length-append (upTo n) (n ∷ [])),
-    )
-
-pub as-listed : (wants : List ℕ) → IsOrder (length wants) (asListed wants)
-as-listed wants = let p = upTo-order (length wants) in whole-part (length wants) (upTo (length wants)) (p .0) (omega (arith, p .1))
+as-listed : (wants : List ℕ) → IsOrder (length wants) (asListed wants)
+as-listed wants = upTo-order (length wants)
 
 -- ---- 1
-
-pub count-reverse : (t : ℕ) (ss : List ℕ) → count t (reverse ss) ≡ count t ss
-unfolding count
-count-reverse t [] = refl
-count-reverse t (s ∷ ss) = ap (count t) (reverse-cons s ss) ∙ omega (arith, count-append t (reverse ss) (s ∷ []), count-reverse t ss)
 
 module _ (wants degrees : List ℕ) where
   pub fresh-next : (ts ss : List ℕ) → Fresh (length wants) ts (nextOf wants degrees ts ss)
@@ -129,7 +115,7 @@ module _ (wants degrees : List ℕ) where
   unfolding cuthillMcKee
   cuthill-order = grown-order (length wants) (λ ts. nextOf wants degrees ts ts) (λ ts. fresh-next ts ts)
 
-pub reverse-cuthill-mckee : (wants : List ℕ) → IsOrder (length wants) (reverseCuthillMcKee wants)
+reverse-cuthill-mckee : (wants : List ℕ) → IsOrder (length wants) (reverseCuthillMcKee wants)
 unfolding reverseCuthillMcKee
 reverse-cuthill-mckee wants =
     let ds = map (degree wants) (upTo (length wants)) in
@@ -138,6 +124,16 @@ reverse-cuthill-mckee wants =
 
 -- ---- 2
 
-pub spanning-tree : (wants : List ℕ) → IsOrder (length wants) (spanningTree wants)
+spanning-tree : (wants : List ℕ) → IsOrder (length wants) (spanningTree wants)
 unfolding spanningTree
 spanning-tree wants = grown-order (length wants) _ (λ ts. best-remaining (λ s t. ltb (reach wants ts t) (reach wants ts s)) (ranked-most (reach wants ts)) (length wants) ts)
+
+-- ---- the methods by their numbers
+
+-- EACH METHOD'S ORDER names each test exactly once
+pub order-complete : (method places : ℕ) (wants : List ℕ) → IsOrder (length wants) (orderBy method places wants)
+unfolding orderBy
+order-complete zero places wants = as-listed wants
+order-complete (suc zero) places wants = reverse-cuthill-mckee wants
+order-complete (suc (suc zero)) places wants = spanning-tree wants
+order-complete (suc (suc (suc m))) places wants = packages-order places wants

@@ -9,9 +9,11 @@ use Rattle.job.specs.Handed.{jobKnownBy, wantsFit}
 use Rattle.job.proofs.Laws.{done-both, done-room}
 use Rattle.job.proofs.Examination.{refused-both}
 use Rattle.job.proofs.Orders.{order-length}
-use Rattle.ordering.specs.Methods.{upTo, reverseCuthillMcKee, spanningTree, packages, orderBy}
+use Rattle.packages.specs.Tests.{upTo}
+use Rattle.packages.specs.Packages.{packages}
+use Rattle.ordering.specs.Methods.{reverseCuthillMcKee, spanningTree, orderBy}
 use Rattle.ordering.specs.Ordering.{ordering, orderAnswer, orderList}
-use Rattle.ordering.proofs.Rounds.{order-complete}
+use Rattle.ordering.proofs.Complete.{order-complete}
 
 -- ---- the methods by their numbers
 module _ (places : ℕ) (wants : List ℕ) where

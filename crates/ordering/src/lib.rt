@@ -10,7 +10,6 @@ ghost use Rattle.ordering.specs.Methods.{orderBy};
 ghost use Rattle.ordering.specs.Ordering.{orderAnswer, orderList};
 
 mod growing;
-mod packages;
 
 // The first entries of a list that was made elsewhere.
 fn copy_first(tests: usize, from: &[u16; 256], order: &mut [u16])
@@ -30,7 +29,7 @@ fn write_order(places: usize, method: usize, wants: &[u64], order: &mut [u16])
     ensures { λ _. ⌜ now (order .exit) ≡ overwritten (orderBy method places (now (wants .entry))) (now (order .entry)) ⌝ }
 {
     if method == 0 {
-        growing::as_listed(wants.len(), order);
+        packages::listed_order(wants.len(), order);
         return;
     }
     if method == 1 {

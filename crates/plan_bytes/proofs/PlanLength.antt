@@ -6,7 +6,7 @@ use native.Mathlib.Omega.{arith}
 use lib.ListN.{length, length-append, length-map}
 use Rattle.job.specs.Refusal.{done}
 use Rattle.job.proofs.Laws.{done-same, both-done, bind-done}
-use Rattle.job.proofs.SetRoundTrip.{Bytes}
+use Rattle.job_bytes.proofs.SetRoundTrip.{Bytes}
 use Rattle.job.specs.Refusal.{room}
 use Rattle.job.specs.Handed.{countsKnown}
 use Rattle.planning.specs.Plan.{steps}

@@ -12,14 +12,14 @@ use Rattle.bitset.specs.Set.{bit}
 use Rattle.bitset.proofs.Bits.{bit-zero, bit-suc}
 use Rattle.job.specs.Refusal.{Outcome, done, refused, _>>=_, _>>_, demand, room}
 use Rattle.job.specs.Handed.{between, allCurves, countsKnown}
-use Rattle.job.specs.SetBytes.{stands, groupMap, groupBytes, setBytes, Got, got, byteAt, readGroups}
-use Rattle.job.specs.JobBytes.{atEnd}
+use Rattle.job_bytes.specs.SetBytes.{stands, groupMap, groupBytes, setBytes, Got, got, byteAt, readGroups}
+use Rattle.job_bytes.specs.JobBytes.{atEnd}
 use Rattle.job.proofs.Laws.{both, and, done-same, refused≢done, demand-true, demand-done, both-done, done-both, bind-done, done-room}
-use Rattle.job.proofs.SetRoundTrip.{set-back, Bytes, SetRead, set-read}
-use Rattle.job.proofs.JobRoundTrip.{end-none}
+use Rattle.job_bytes.proofs.SetRoundTrip.{set-back, Bytes, SetRead, set-read}
+use Rattle.job_bytes.proofs.JobRoundTrip.{end-none}
 use native.Mathlib.Decide.{decLe}
 use Rattle.bitset.proofs.Bits.{bit-empty}
-use Rattle.job.proofs.SetRoundTrip.{inside-below}
+use Rattle.job.proofs.JobExact.{inside-below}
 use Rattle.job.specs.Words.{count, IsOrder}
 use Rattle.job.proofs.Orders.{one-same, order-length}
 use Rattle.job.specs.Handed.{someTests, curvesKnown, testsKnown}
@@ -28,7 +28,8 @@ use Rattle.planning.specs.Planning.{checking}
 use Rattle.planning.proofs.Fewest.{_≼_, ≼-inside, held-≼}
 use Rattle.planning.proofs.CheckExact.{StepsOk, Passes, passed}
 use Rattle.plan_bytes.specs.PlanBytes.{setField, stepBytes, stepsBytes, planBytes, Placed, readSet, readStep, readSteps, readPlanBytes, planSteps, writePlan}
-use Rattle.plan_bytes.proofs.Writing.{one, stands-le}
+use Rattle.job_bytes.proofs.Encoding.{stands-le}
+use Rattle.plan_bytes.proofs.Writing.{one}
 
 -- ---- a set that is not empty has a group map that is not zero
 

@@ -8,13 +8,13 @@ use lib.ListN.{length, getD, drop}
 use borrow.Author.Tests.{lt-ltb, le-ltb, le-leb, lt-leb}
 use Rattle.bitset.specs.Set.{_∪_, bit}
 use Rattle.bitset.proofs.Bits.{bit-zero}
-use Rattle.job.specs.declared.set_bytes.GroupRead.{GroupRead}
-use Rattle.job.specs.declared.set_bytes.GroupRead.the-variants.{Curves, Owed, Empty, Unknown}
+use Rattle.job_bytes.specs.declared.set_bytes.GroupRead.{GroupRead}
+use Rattle.job_bytes.specs.declared.set_bytes.GroupRead.the-variants.{Curves, Owed, Empty, Unknown}
 use Rattle.job.specs.Refusal.{Outcome, done, refused, _>>=_, _>>_, demand}
 use Rattle.job.specs.Handed.{between}
-use Rattle.job.specs.SetBytes.{Got, got, byteAt, readGroups}
-use Rattle.job.proofs.Turns.{byte-here, byte-owed, group-absent}
-use Rattle.job.proofs.GroupByte.{Answers, answer-owed, answer-empty, answer-unknown, answer-curves}
+use Rattle.job_bytes.specs.SetBytes.{Got, got, byteAt, readGroups}
+use Rattle.job_bytes.proofs.Turns.{byte-here, byte-owed, group-absent}
+use Rattle.job_bytes.proofs.GroupByte.{Answers, answer-owed, answer-empty, answer-unknown, answer-curves}
 use Rattle.plan_bytes.specs.declared.SetRead.{SetRead}
 use Rattle.plan_bytes.specs.declared.StepRead.{StepRead}
 use Rattle.plan_bytes.specs.PlanBytes.{Placed, readSet, readStep}

@@ -11,10 +11,10 @@ use Rattle.bitset.specs.Set.{bit}
 use Rattle.job.specs.Refusal.{done, demand}
 use Rattle.job.specs.Choice.{nobody, found}
 use Rattle.job.specs.Handed.{between, countsKnown}
-use Rattle.job.specs.SetBytes.{Got, got, byteAt}
-use Rattle.job.specs.JobBytes.{atEnd}
+use Rattle.job_bytes.specs.SetBytes.{Got, got, byteAt}
+use Rattle.job_bytes.specs.JobBytes.{atEnd}
 use Rattle.job.proofs.Laws.{done-same, both-done, bind-done}
-use Rattle.job.proofs.SetRoundTrip.{Bytes}
+use Rattle.job_bytes.proofs.SetRoundTrip.{Bytes}
 use Rattle.planning.specs.Plan.{steps}
 use Rattle.plan_bytes.specs.PlanBytes.{Placed, stepBytes, stepsBytes, planBytes, readSet, readStep, readSteps, readPlanBytes, planSteps, placedAt, fetched, partOf, stepPart, inPart, stepAt}
 use Rattle.plan_bytes.proofs.ReadPlan.{plan-count}

@@ -10,8 +10,8 @@ use borrow.Author.Tests.{leb-true}
 use lib.ListN.{length, getD, drop, set, length-set, length-map, length-append, drop-of-length-le}
 use lib.Seq.{drop-cons, set-at}
 use Rattle.job.specs.Refusal.{Outcome, done, refused, _>>=_, _>>_, mapped, leaves, overwritten}
-use Rattle.job.specs.SetBytes.{got}
-use Rattle.job.specs.JobBytes.{atEnd}
+use Rattle.job_bytes.specs.SetBytes.{got}
+use Rattle.job_bytes.specs.JobBytes.{atEnd}
 use Rattle.job.specs.Handed.{between, someTests, curvesKnown, testsKnown, countsKnown}
 use Rattle.job.proofs.Laws.{refused≢done, mapped-done, both, both-done, done-both, demand-true}
 use Rattle.job.proofs.Examination.{refused-both}

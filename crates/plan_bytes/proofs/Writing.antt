@@ -11,9 +11,9 @@ use borrow.Author.Tests.{lt-leb}
 use Rattle.job.specs.declared.Refusal.{Refusal}
 use Rattle.job.specs.declared.Counted.{Counted}
 use Rattle.job.specs.Refusal.{Outcome, done, refused, number, figure, countOutcome, _>>=_, _>>_, mapped, demand, room, leaves, overwritten}
-use Rattle.job.specs.SetBytes.{stands, setBytes}
+use Rattle.job_bytes.specs.SetBytes.{stands, setBytes}
 use Rattle.job.proofs.Laws.{done-both, done-room}
-use Rattle.job.proofs.Encoding.{set-le, sets-append, sets-part, put, put-fits}
+use Rattle.job_bytes.proofs.Encoding.{set-le, sets-append, sets-part, put, put-fits}
 use Rattle.planning.specs.Plan.{Step, steps}
 use Rattle.planning.specs.Planning.{checking}
 use Rattle.planning.proofs.OrderExact.{own-tests}
@@ -45,16 +45,6 @@ stored new old h = let z : 0 + length new ≡ length new = omega arith in rw z a
 pub stands-none : (s : ℕ) → s ≡ 0 → stands s ≡ 0
 unfolding stands
 stands-none s e = rw e refl
-
-pub stands-some : (s : ℕ) → (s ≡ 0 → ⊥) → stands s ≡ 1
-unfolding stands
-stands-some zero h = absurd (h refl)
-stands-some (suc s) h = refl
-
-pub stands-le : (s : ℕ) → stands s ≤ 1
-unfolding stands
-stands-le zero = omega arith
-stands-le (suc s) = omega arith
 
 abbrev pub one : ℕ → ℕ → ℕ → Step
 one t d l = record { test = t; drops = d; loads = l }

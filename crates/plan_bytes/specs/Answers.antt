@@ -4,7 +4,7 @@ use mathlib.Core.List.{List}
 use Prim.Native.Nat.{ℕ}
 use lib.ListN.{drop}
 use Rattle.job.specs.Refusal.{Outcome, done, refused}
-use Rattle.job.specs.SetBytes.{Got, got}
+use Rattle.job_bytes.specs.SetBytes.{Got, got}
 use Rattle.plan_bytes.specs.declared.SetRead.{SetRead}
 use Rattle.plan_bytes.specs.declared.StepRead.{StepRead}
 use Rattle.plan_bytes.specs.PlanBytes.{Placed}

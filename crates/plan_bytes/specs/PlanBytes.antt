@@ -7,8 +7,8 @@ use Rattle.bitset.specs.Set.{bit}
 use Rattle.job.specs.Refusal.{Outcome, done, refused, _>>=_, _>>_, mapped, demand, room, leaves}
 use Rattle.job.specs.Choice.{Found, nobody, found}
 use Rattle.job.specs.Handed.{between, countsKnown}
-use Rattle.job.specs.SetBytes.{stands, setBytes, Got, got, byteAt, readGroups}
-use Rattle.job.specs.JobBytes.{atEnd}
+use Rattle.job_bytes.specs.SetBytes.{stands, setBytes, Got, got, byteAt, readGroups}
+use Rattle.job_bytes.specs.JobBytes.{atEnd}
 use Rattle.planning.specs.Plan.{Step, steps}
 use Rattle.planning.specs.Planning.{checking}
 

@@ -3,7 +3,7 @@ ghost use mathlib.Core.Path.{_≡_};
 ghost use mathlib.Core.List.{map};
 ghost use Prim.Native.Nat.{ℕ, _+_, _-_, _*_, _≤_, _<_};
 ghost use lib.ListN.{length, getD, drop};
-ghost use Rattle.job.specs.SetBytes.{stands, readGroups};
+ghost use Rattle.job_bytes.specs.SetBytes.{stands, readGroups};
 ghost use Rattle.job.specs.Refusal.{done, mapped, room, examinedOutcome, countOutcome, leaves, overwritten};
 ghost use Rattle.plan_bytes.specs.PlanBytes.{setField, stepBytes, planBytes, writePlanAnswer, writePlanBuffer, readSet, readStep, readPlanBytes, planSteps, readPlanAnswer, readPlanOrder, readPlanDrops, readPlanLoads, fetched, partOf, stepPart, stepAt};
 ghost use Rattle.plan_bytes.specs.Answers.{setOutcome, stepOutcome};
@@ -11,10 +11,10 @@ use job::Counted;
 use job::Examined;
 use job::Refusal;
 use job::examine_counts;
-use job::set_bytes::GroupRead;
-use job::set_bytes::put_set;
-use job::set_bytes::read_group;
-use job::set_bytes::set_len;
+use job_bytes::set_bytes::GroupRead;
+use job_bytes::set_bytes::put_set;
+use job_bytes::set_bytes::read_group;
+use job_bytes::set_bytes::set_len;
 use planning::check_plan;
 
 // What stands where a set is due.

@@ -1,11 +1,10 @@
 -- One turn of a loop over steps: what the rules of planning and checking come to at step i.
 use mathlib.Core.Path.{_≡_, refl, sym, ap, _∙_}
 use mathlib.Core.Bool.{true, false, not, _&&_}
-use mathlib.Core.List.{List, [], _∷_, _++_}
+use mathlib.Core.List.{List, [], _∷_}
 use Prim.Native.Nat.{ℕ, zero, suc, _+_, _-_, _^_, _≤_, _<_}
 use native.Mathlib.Omega.{arith}
 use native.Mathlib.Numerals.{add-one}
-use native.Mathlib.Decide.{decLe}
 use lib.Dec.{leb, ltb}
 use lib.ListN.{length, getD, take, drop, set, drop-of-length-le}
 use lib.Seq.{drop-cons, take-suc, length-take-le, sets, sets-eq}
@@ -20,7 +19,7 @@ use Rattle.job.specs.Choice.{Found, found}
 use Rattle.planning.specs.declared.NextUse.{NextUse}
 use Rattle.planning.specs.declared.NextUse.the-variants.{At, Never}
 use Rattle.planning.specs.Order.{orderFrom}
-use Rattle.planning.specs.Plan.{inOrder, loadCount, held, stepPasses, checkSteps, later, useBy, nextUse, further, andThen, victims, dropsFor, heldAfter, dropSets, loadSets}
+use Rattle.planning.specs.Plan.{inOrder, loadCount, held, stepPasses, checkSteps, later, useBy, nextUse, andThen, victims, dropsFor, heldAfter, dropSets, loadSets}
 
 -- ---- the wants of step i
 pub length-inOrder : (wants order : List ℕ) → length (inOrder wants order) ≡ length order
@@ -170,17 +169,6 @@ pub use-never : (c s : ℕ) (ws : List ℕ) → length ws ≤ s → stepOf s (ne
 unfolding stepOf nextUse
 use-never c s ws h = rw (drop-of-length-le ws h) refl
 
-pub further-step : (s : ℕ) (a b : NextUse) → further (stepOf s a) (stepOf s b) ≡ further a b
-unfolding further stepOf
-further-step s Never Never = refl
-further-step s Never (At n) = refl
-further-step s (At m) Never = refl
-further-step s (At m) (At n) = go (decLe m n)
-  where
-    go : Dec (m ≤ n) → ltb (s + n) (s + m) ≡ ltb n m
-    go (yes h) = le-ltb (s + n) (s + m) (omega arith) ∙ sym (le-ltb n m h)
-    go (no h) = lt-ltb (s + n) (s + m) (omega arith) ∙ sym (lt-ltb n m (omega arith))
-
 -- ---- the load count, from set i on
 pub count-here : (ls : List ℕ) (i : ℕ) → i < length ls → loadCount (drop i ls) ≡ size (getD ls i 0) + loadCount (drop (i + 1) ls)
 unfolding loadCount
@@ -189,9 +177,3 @@ count-here ls i h = rw (add-one i, drop-cons ls i 0 h) refl
 pub count-end : (ls : List ℕ) (i : ℕ) → length ls ≤ i → loadCount (drop i ls) ≡ 0
 unfolding loadCount
 count-end ls i h = rw (drop-of-length-le ls h) refl
-
--- ---- the load count, one set more
-pub count-next : (ls : List ℕ) (l : ℕ) → loadCount (ls ++ (l ∷ [])) ≡ loadCount ls + size l
-unfolding loadCount
-count-next [] l = omega arith
-count-next (k ∷ ls) l = omega (arith, count-next ls l)

@@ -8,7 +8,7 @@ use Rattle.job.specs.declared.Counted.{Counted}
 use Rattle.job.specs.declared.Refusal.{Refusal}
 use Rattle.job.specs.Refusal.{Outcome, done, refused, number, figure, countOutcome, _>>=_, _>>_, mapped, overwritten}
 use Rattle.job.specs.Handed.{countsKnown}
-use Rattle.job.specs.JobBytes.{Job, readBytes}
+use Rattle.job_bytes.specs.JobBytes.{Job, readBytes}
 use Rattle.job.proofs.Laws.{both-done, done-room, mapped-done, mapped-refused, leaves-done}
 use Rattle.planning.specs.Plan.{loadCount}
 use Rattle.planning.specs.Planning.{planning, checking, planAnswer}

@@ -13,11 +13,11 @@ use Rattle.bitset.proofs.Laws.{⊆-by-bits, size-mono}
 use Rattle.job.specs.Refusal.{Outcome, done, refused, _>>=_}
 use Rattle.job.specs.Words.{digit, count}
 use Rattle.job.specs.Handed.{allCurves, wantsFit}
-use Rattle.job.specs.JobBytes.{Job, readBytes}
+use Rattle.job_bytes.specs.JobBytes.{Job, readBytes}
 use Rattle.job.proofs.Laws.{bind-done, true-each, done-same, refused≢done}
 use Rattle.job.proofs.JobExact.{job-exact}
-use Rattle.job.proofs.ReadExact.{read-exact}
-use Rattle.job.proofs.SetRoundTrip.{Bytes}
+use Rattle.job_bytes.proofs.ReadExact.{read-exact}
+use Rattle.job_bytes.proofs.SetRoundTrip.{Bytes}
 use Rattle.planning.specs.Plan.{inOrder, loadCount, held}
 use Rattle.planning.specs.Planning.{ourPlan, planning, checking}
 use Rattle.planning.proofs.CheckExact.{StepsOk, passed, check-count}

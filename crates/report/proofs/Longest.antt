@@ -11,14 +11,14 @@ use Rattle.job.specs.declared.Head.{Head}
 use Rattle.job.specs.Refusal.{Outcome, done, refused, room}
 use Rattle.job.specs.Choice.{Found}
 use Rattle.job.specs.Handed.{wantsFit, allCurves}
-use Rattle.job.specs.JobBytes.{Job, readBytes}
+use Rattle.job_bytes.specs.JobBytes.{Job, readBytes}
 use Rattle.job.proofs.Laws.{done-both, done-room}
 use Rattle.job.proofs.Refuses.{refuses, refuses-each}
-use Rattle.job.proofs.JobBounds.{figure-short}
+use Rattle.job_bytes.proofs.JobBounds.{figure-short}
 use Rattle.job.proofs.Orders.{order-length}
-use Rattle.job.proofs.ReadExact.{ReadJob, read-exact}
-use Rattle.job.proofs.SetRoundTrip.{Bytes}
-use Rattle.ordering.proofs.Rounds.{order-complete}
+use Rattle.job_bytes.proofs.ReadExact.{ReadJob, read-exact}
+use Rattle.job_bytes.proofs.SetRoundTrip.{Bytes}
+use Rattle.ordering.proofs.Complete.{order-complete}
 use Rattle.planning.specs.Plan.{inOrder, loadCount, loadSets, furthest, heldAfter}
 use Rattle.planning.specs.Planning.{ourPlan}
 use Rattle.planning.proofs.OrderExact.{own-tests}

@@ -4,7 +4,7 @@ use mathlib.Core.List.{List}
 use Prim.Native.Nat.{ℕ}
 use Rattle.job.specs.declared.Head.{Head}
 use Rattle.job.specs.Refusal.{Outcome, done, refused, _>>=_}
-use Rattle.job.specs.JobBytes.{Job, readBytes}
+use Rattle.job_bytes.specs.JobBytes.{Job, readBytes}
 use Rattle.curveplan.specs.Call.{Planned, orderAndPlan, planJob}
 use Rattle.report.specs.Report.{planText, headText, printed, sheet, writeSheet, sheetAnswer, sheetBuffer}
 use Rattle.report.specs.Text.{shown, fitted, Filled}

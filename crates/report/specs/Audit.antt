@@ -3,7 +3,7 @@ use mathlib.Core.List.{List, map, _++_}
 use Prim.Native.Nat.{ℕ, _-_}
 use lib.ListN.{length}
 use Rattle.job.specs.Refusal.{Outcome, done, refused, _>>=_, _>>_, mapped, room, leaves, number, figure}
-use Rattle.job.specs.JobBytes.{Job, readBytes}
+use Rattle.job_bytes.specs.JobBytes.{Job, readBytes}
 use Rattle.planning.specs.Plan.{loadCount}
 use Rattle.planning.specs.Planning.{checking, planning}
 use Rattle.plan_bytes.specs.PlanBytes.{Placed, planSteps}

@@ -72,7 +72,7 @@ fn audit(job: &[u8], plan: &[u8]) -> Audited
     ensures { λ r. ⌜ auditedOutcome r ≡ audit (now (job .entry)) (now (plan .entry)) ⌝ }
 {
     let mut wants = [0u64; 256];
-    match job::read_job(job, &mut wants) {
+    match job_bytes::read_job(job, &mut wants) {
         JobRead::Refused(r) => Audited::Refused(r),
         JobRead::Read(head) => {
             let n = head.tests;

@@ -240,7 +240,7 @@ pub fn write_report(job: &[u8], out: &mut [u8]) -> Counted
     ensures bytes { λ _. ⌜ now (out .exit) ≡ sheetBuffer (now (job .entry)) (now (out .entry)) ⌝ }
 {
     let mut wants = [0u64; 256];
-    match job::read_job(job, &mut wants) {
+    match job_bytes::read_job(job, &mut wants) {
         JobRead::Refused(r) => write_refusal(r, out),
         JobRead::Read(head) => {
             let n = head.tests;

@@ -3,7 +3,7 @@ use native.Mathlib.Omega.{arith}
 use Prim.Native.Nat.{_≤_}
 use denote.Ref.{now}
 use Rattle.job.specs.Refusal.{number, figure}
-use Rattle.job.proofs.SetRoundTrip.{Bytes}
+use Rattle.job_bytes.proofs.SetRoundTrip.{Bytes}
 use Rattle.curveplan.proofs.Reading.{bytes-of}
 use Rattle.curveplan.proofs.Answers.{holds-plan, answers-count, answers-refusal, refusal-bounds}
 use borrow.Author.Needs.{needs}

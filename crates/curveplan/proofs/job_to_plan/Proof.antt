@@ -5,7 +5,7 @@ use native.Mathlib.Omega.{arith}
 use lib.ListN.{take}
 use denote.Ref.{now}
 use Rattle.job.proofs.Laws.{read-refused, read-done}
-use Rattle.job.proofs.SetRoundTrip.{Bytes}
+use Rattle.job_bytes.proofs.SetRoundTrip.{Bytes}
 use Rattle.curveplan.proofs.Composed.{unread}
 use Rattle.curveplan.proofs.Reading.{Read256, bytes-of, answer-refused, answer-done}
 use Rattle.curveplan.proofs.Stages.{read-planned, gives-refusal, gives-same}

@@ -7,7 +7,7 @@ use lib.Seq.{length-take-le}
 use denote.Ref.{now}
 use borrow.Author.Needs.{needs}
 use Rattle.job.specs.Refusal.{overwritten}
-use Rattle.ordering.proofs.Append.{overwritten-none, length-overwritten, taken-more}
+use Rattle.packages.proofs.Written.{overwritten-none, length-overwritten, taken-more}
 use Rattle.ordering.proofs.copy_first.Statement.{statement}
 use Rattle.ordering.proofs.copy_first.Tie as tie
 

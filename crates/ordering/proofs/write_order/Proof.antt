@@ -3,8 +3,10 @@ use mathlib.Core.Path.{_≡_, sym, ap, _∙_}
 use mathlib.Core.List.{List}
 use Prim.Native.Nat.{ℕ}
 use native.Mathlib.Omega.{arith}
+use lib.ListN.{length, take}
 use denote.Ref.{now}
 use Rattle.job.specs.Refusal.{overwritten}
+use Rattle.packages.proofs.Entered.{listed-all, packages-first}
 use Rattle.ordering.proofs.Ordered.{by-0, by-1, by-2, by-3}
 use borrow.Author.Needs.{needs}
 use Rattle.ordering.proofs.write_order.Statement.{statement}
@@ -13,8 +15,8 @@ use Rattle.ordering.proofs.write_order.Tie as tie
 over : (old l m : List ℕ) → m ≡ l → overwritten l old ≡ overwritten m old
 over old l m e = ap (λ r. overwritten r old) (sym e)
 
-as-listed-requires : tie.Need-as-listed-requires
-as-listed-requires c κs = search needs
+listed-order-requires : tie.Need-listed-order-requires
+listed-order-requires c κs = search needs
 
 same-length : tie.Need-same-length
 same-length c = search needs
@@ -22,7 +24,7 @@ same-length c = search needs
 returns : tie.Need-returns
 returns c =
     let a = c .before .before .before .before .before .before .before .args in
-    c .before .before .as-listed .ensures ∙ over (now (a .order)) _ _ (by-0 (a .places) (now (a .wants)) (a .method) (omega arith))
+    c .before .before .listed-order .ensures ∙ listed-all (length (now (a .wants))) (now (a .order)) (omega arith) (omega arith) ∙ over (now (a .order)) _ _ (by-0 (a .places) (now (a .wants)) (a .method) (omega arith))
 
 reverse-cuthill-mckee-requires : tie.Need-reverse-cuthill-mckee-requires
 reverse-cuthill-mckee-requires c κs = search needs
@@ -61,13 +63,13 @@ returns-4 c =
     let ws = now (a .wants) in
     let made = c .before .before .before .before .before .package-order in
     c .before .before .copy-first .ensures
-    ∙ over (now (a .order)) _ _ (by-3 (a .places) ws (a .method) (λ e. omega arith) (λ e. omega arith) (λ e. omega arith) ∙ sym (made .ensures))
+    ∙ over (now (a .order)) _ _ (by-3 (a .places) ws (a .method) (λ e. omega arith) (λ e. omega arith) (λ e. omega arith) ∙ sym (ap (take (length ws)) (made .ensures) ∙ packages-first (a .places) ws (omega arith)))
 
 pub write-order-spec : {M : Type 1} → statement M
 write-order-spec =
     tie.close
     (tie.spec
-    as-listed-requires
+    listed-order-requires
     same-length
     returns
     reverse-cuthill-mckee-requires

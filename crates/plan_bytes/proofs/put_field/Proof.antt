@@ -4,7 +4,7 @@ use mathlib.Core.List.{List}
 use Prim.Native.Nat.{ℕ}
 use lib.ListN.{length}
 use denote.Ref.{now}
-use Rattle.job.proofs.Encoding.{put}
+use Rattle.job_bytes.proofs.Encoding.{put}
 use Rattle.plan_bytes.specs.PlanBytes.{setField}
 use Rattle.plan_bytes.proofs.Writing.{field-none, field-some, put-none}
 use borrow.Author.Needs.{needs}

@@ -7,7 +7,7 @@ use lib.ListN.{length, getD, drop}
 use lib.Seq.{length-sets}
 use denote.Ref.{now}
 use borrow.Author.Needs.{needs}
-use Rattle.job.proofs.Encoding.{sets-append}
+use Rattle.job_bytes.proofs.Encoding.{sets-append}
 use Rattle.plan_bytes.specs.PlanBytes.{stepBytes, planBytes}
 use Rattle.plan_bytes.proofs.Writing.{one, stored, ending, lent-fits, part-written, steps-next, steps-length, steps-none}
 use Rattle.plan_bytes.proofs.put_plan.Statement.{statement}

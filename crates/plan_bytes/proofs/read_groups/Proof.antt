@@ -7,9 +7,9 @@ use lib.ListN.{length, drop}
 use Rattle.bitset.specs.Set.{_∪_}
 use denote.Ref.{now}
 use borrow.Author.Needs.{needs}
-use Rattle.job.specs.SetBytes.{readGroups}
-use Rattle.job.proofs.GroupByte.{Answers}
-use Rattle.job.proofs.Turns.{groups-end}
+use Rattle.job_bytes.specs.SetBytes.{readGroups}
+use Rattle.job_bytes.proofs.GroupByte.{Answers}
+use Rattle.job_bytes.proofs.Turns.{groups-end}
 use Rattle.plan_bytes.specs.Answers.{setOutcome}
 use Rattle.plan_bytes.proofs.Reading.{group-skipped, group-taken, group-faulty}
 use Rattle.plan_bytes.proofs.read_groups.Statement.{statement}

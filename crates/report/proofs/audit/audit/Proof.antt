@@ -5,8 +5,8 @@ use native.Mathlib.Omega.{arith}
 use lib.ListN.{length, take}
 use denote.Ref.{now}
 use Rattle.job.specs.Refusal.{done}
-use Rattle.job.specs.JobBytes.{readBytes}
-use Rattle.job.proofs.SetRoundTrip.{Bytes}
+use Rattle.job_bytes.specs.JobBytes.{readBytes}
+use Rattle.job_bytes.proofs.SetRoundTrip.{Bytes}
 use Rattle.job.proofs.Laws.{read-refused, read-done}
 use Rattle.curveplan.proofs.Reading.{bytes-of, answer-refused, answer-done}
 use Rattle.report.proofs.Auditing.{job-refused, job-done}

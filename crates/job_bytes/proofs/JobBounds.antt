@@ -1,0 +1,214 @@
+-- The bounds of job bytes: a head takes at most 6 bytes and each of at most 256 records at most 9. So a job that reads has at most 2,310 bytes, no figure of a
+-- refusal is larger than that, and bytes behind the 2,311th never change the answer.
+use mathlib.Core.Path.{_≡_, refl, sym, ap, _∙_, subst}
+use mathlib.Core.Logic.{_⊎_, inl, inr}
+use mathlib.Core.Bool.{Bool, true, false}
+use mathlib.Core.List.{List, [], _∷_, _++_}
+use Prim.Native.Nat.{ℕ, zero, suc, _+_, _*_, _≤_}
+use native.Mathlib.Omega.{arith}
+use native.Mathlib.Decide.{decLe}
+use lib.Dec.{ltb, leb}
+use lib.ListN.{length, take, drop, length-take, length-drop, take-append-drop}
+use lib.Seq.{take-all}
+use Rattle.bitset.specs.Set.{_∪_, bit}
+use Rattle.job.specs.declared.Head.{Head}
+use Rattle.job.specs.Refusal.{Outcome, done, refused, _>>=_, _>>_, demand, room}
+use Rattle.job.specs.Handed.{someTests}
+use Rattle.job_bytes.specs.SetBytes.{Got, got, byteAt, readGroup, readGroups}
+use Rattle.job_bytes.specs.JobBytes.{Job, readNumber, readField, readHead, readRecord, readRecords, atEnd, readBytes, readJob, readJobAnswer, readJobWants, writeJob}
+use Rattle.job.proofs.Laws.{refused≢done, bind-done, mapped-done, mapped-refused, done-mapped}
+use Rattle.job_bytes.proofs.Heads.{head-at}
+use Rattle.job_bytes.proofs.Spans.{Ends, Spans, span-done, span-refused, head-span, records-span}
+use Rattle.job_bytes.proofs.JobRoundTrip.{job-back}
+
+-- ---- how long, and how large a figure
+
+-- what a reading of the whole job comes to: done within the bound, or a figure within it
+pub data Bounded (bs : List ℕ) : Outcome Job → Type 0 where
+  read : (j : Job) → length bs ≤ 2310 → j .head .tests ≤ 256 → Bounded bs (done j)
+  figure : (k f : ℕ) → f ≤ 2310 → f ≤ length bs → Bounded bs (refused k f)
+
+-- behind the records
+at-end : (bs : List ℕ) (e : ℕ) (rest : List ℕ) (j : Job) → e ≤ 2310 → e ≤ length bs → rest ≡ drop e bs → j .head .tests ≤ 256 → Bounded bs (_>>_ (atEnd 6 e rest) (done j))
+unfolding atEnd _>>_
+at-end bs e [] j m l r t = read j (omega (arith, ap length r, length-drop e bs)) t
+at-end bs e (b ∷ rest) j m l r t = figure 6 e m l
+
+pub read-bounded : (bs : List ℕ) → Bounded bs (readBytes bs)
+unfolding readBytes someTests demand _>>=_ _>>_
+read-bounded bs = behind (readHead bs) refl (head-span bs)
+  where
+    all : (h : Head) (n : ℕ) (o : Outcome (Got (List ℕ))) → h .tests ≤ 256 → n ≤ 6 → Spans (9 * h .tests) n bs o
+        → Bounded bs (_>>=_ o (λ r. _>>_ (atEnd 6 (r .next) (r .rest)) (done (record { head = h; wants = r .value }))))
+    all h n (done g) t m s = let e = span-done s in at-end bs (g .next) (g .rest) _ (omega (arith, e .most)) (e .within) (e .behind) t
+    all h n (refused k f) t m s = let e = span-refused s in figure k f (omega (arith, e .0)) (e .1)
+
+    tested : (h : Head) (n : ℕ) (rest : List ℕ) (b : Bool) → h .tests ≤ 256 → Ends 6 0 bs n rest
+        → Bounded bs (_>>_ (demand b 5 0) (_>>=_ (readRecords (h .curves) (h .tests) [] n rest) (λ r. _>>_ (atEnd 6 (r .next) (r .rest)) (done (record { head = h; wants = r .value })))))
+    tested h n rest false t s = figure 5 0 (omega arith) (omega arith)
+    tested h n rest true t s =
+        subst (λ (l : List ℕ). Bounded bs (_>>=_ (readRecords (h .curves) (h .tests) [] n l) (λ r. _>>_ (atEnd 6 (r .next) (r .rest)) (done (record { head = h; wants = r .value }))))) (sym (s .behind))
+        (all h n (readRecords (h .curves) (h .tests) [] n (drop n bs)) t (omega (arith, s .most)) (records-span bs (h .curves) (h .tests) [] n (s .within)))
+
+    behind : (o : Outcome (Got Head)) → readHead bs ≡ o → Spans 6 0 bs o
+        → Bounded bs (_>>=_ o (λ h. _>>_ (someTests (h .value .tests)) (_>>=_ (readRecords (h .value .curves) (h .value .tests) [] (h .next) (h .rest)) (λ r. _>>_ (atEnd 6 (r .next) (r .rest)) (done (record { head = h .value; wants = r .value }))))))
+    behind (refused k f) e s = let x = span-refused s in figure k f (omega (arith, x .0)) (x .1)
+    behind (done g) e s =
+        tested (g .value) (g .next) (g .rest) (ltb 0 (g .value .tests)) (head-at bs (g .value) (sym (done-mapped (λ (x : Got Head). x .value) (readHead bs) g e)) .tests) (span-done s)
+
+-- A JOB THAT READS HAS AT MOST 2,310 BYTES
+pub job-short : (bs : List ℕ) (j : Job) → readBytes bs ≡ done j → length bs ≤ 2310
+job-short bs j e = of (subst (Bounded bs) e (read-bounded bs))
+  where
+    of : {j : Job} → Bounded bs (done j) → length bs ≤ 2310
+    of (read j l t) = l
+
+-- A FIGURE IS AT MOST 2,310, and points into the input or to its end
+pub figure-short : (bs : List ℕ) (k f : ℕ) → readBytes bs ≡ refused k f → (f ≤ 2310) × (f ≤ length bs)
+figure-short bs k f e = of (subst (Bounded bs) e (read-bounded bs))
+  where
+    of : {k f : ℕ} → Bounded bs (refused k f) → (f ≤ 2310) × (f ≤ length bs)
+    of (figure k f m l) = (m, l)
+
+-- .. also where the lent list is asked: 9 has the number of tests
+pub job-figure : (bs : List ℕ) (lent k f : ℕ) → readJob bs lent ≡ refused k f → (f ≤ 2310) × ((f ≤ length bs) ⊎ ((k ≡ 9) × (f ≤ 256)))
+unfolding readJob room demand _>>=_ _>>_
+job-figure bs lent k f e = go (read-bounded bs) e
+  where
+    short : (b : Bool) (j : Job) → j .head .tests ≤ 256 → _>>_ (demand b 9 (j .head .tests)) (done j) ≡ refused k f → (f ≤ 2310) × ((f ≤ length bs) ⊎ ((k ≡ 9) × (f ≤ 256)))
+    short true j t e = absurd (refused≢done (sym e))
+    short false j t e =
+        let n : k ≡ 9 = cc in
+        let m : f ≡ j .head .tests = cc in
+        (omega arith, inr (n, omega arith))
+
+    go : {o : Outcome Job} → Bounded bs o → _>>=_ o (λ j. _>>_ (room lent (j .head .tests)) (done j)) ≡ refused k f → (f ≤ 2310) × ((f ≤ length bs) ⊎ ((k ≡ 9) × (f ≤ 256)))
+    go (read j l t) e = short (leb (j .head .tests) lent) j t e
+    go (figure n i m l) e =
+        let q : f ≡ i = cc in
+        (omega arith, inl (omega arith))
+
+-- ---- bytes behind
+
+-- two readings, of xs and of xs with ys behind: the same refusal, or the same value with at least m bytes left before ys
+data Same {A : Type 0} (ys : List ℕ) (m : ℕ) : Outcome (Got A) → Outcome (Got A) → Type 0 where
+  value : (a : A) (n : ℕ) (xs : List ℕ) → m ≤ length xs → Same ys m (done (got a n xs)) (done (got a n (xs ++ ys)))
+  fault : (k f : ℕ) → Same ys m (refused k f) (refused k f)
+
+module _ (ys : List ℕ) where
+  -- one reading after another
+  then : {A B : Type 0} (m p : ℕ) {o q : Outcome (Got A)} (f : Got A → Outcome (Got B)) → Same ys m o q
+      → ((a : A) (n : ℕ) (xs : List ℕ) → m ≤ length xs → Same ys p (f (got a n xs)) (f (got a n (xs ++ ys)))) → Same ys p (_>>=_ o f) (_>>=_ q f)
+  unfolding _>>=_
+  then m p f (value a n xs l) h = h a n xs l
+  then m p f (fault k i) h = fault k i
+
+  test : {A : Type 0} (p : ℕ) {o q : Outcome (Got A)} (t : Bool) (k f : ℕ) → Same ys p o q → Same ys p (_>>_ (demand t k f) o) (_>>_ (demand t k f) q)
+  unfolding _>>_ demand
+  test p true k f s = s
+  test p false k f s = fault k f
+
+  byte-same : (o i m : ℕ) (xs : List ℕ) → 1 + m ≤ length xs → Same ys m (byteAt o i xs) (byteAt o i (xs ++ ys))
+  unfolding byteAt
+  byte-same o i m [] l = absurd (omega arith)
+  byte-same o i m (x ∷ xs) l = value x (suc i) xs (omega arith)
+
+  number-same : (w i m : ℕ) (xs : List ℕ) → w + m ≤ length xs → Same ys m (readNumber w i xs) (readNumber w i (xs ++ ys))
+  unfolding readNumber
+  number-same zero i m xs l = value 0 i xs (omega arith)
+  number-same (suc w) i m xs l =
+      then (w + m) m _ (byte-same 1 i (w + m) xs (omega arith)) (λ b n xs l. then m m _ (number-same w n m xs l) (λ r n xs l. value _ n xs l))
+
+  field-same : (w low high absent d i m : ℕ) (xs : List ℕ) → w + m ≤ length xs → Same ys m (readField w low high absent d i xs) (readField w low high absent d i (xs ++ ys))
+  unfolding readField
+  field-same w low high absent zero i m xs l = value absent i xs (omega arith)
+  field-same w low high absent (suc d) i m xs l = then m m _ (number-same w i m xs l) (λ v n xs l. test m _ 2 i (value v n xs l))
+
+  head-same : (m : ℕ) (xs : List ℕ) → 6 + m ≤ length xs → Same ys m (readHead xs) (readHead (xs ++ ys))
+  unfolding readHead
+  head-same m xs l =
+      then (5 + m) m _ (byte-same 1 0 (5 + m) xs (omega arith))
+      (λ map n xs l.
+      test m _ 2 0
+      (then (4 + m) m _ (field-same 1 1 64 8 _ n (4 + m) xs (omega arith))
+      (λ places n xs l.
+      then (3 + m) m _ (field-same 1 1 64 64 _ n (3 + m) xs (omega arith))
+      (λ curves n xs l.
+      then (1 + m) m _ (field-same 2 1 256 0 _ n (1 + m) xs (omega arith)) (λ tests n xs l. then m m _ (field-same 1 1 3 0 _ n m xs (omega arith)) (λ method n xs l. value _ n xs l))))))
+
+  module _ (owed empty unknown curves : ℕ) where
+    group-same : (d j i m : ℕ) (xs : List ℕ) → 1 + m ≤ length xs → Same ys m (readGroup owed empty unknown curves d j i xs) (readGroup owed empty unknown curves d j i (xs ++ ys))
+    unfolding readGroup
+    group-same zero j i m xs l = value 0 i xs (omega arith)
+    group-same (suc d) j i m xs l = then m m _ (byte-same owed i m xs l) (λ b n xs l. test m _ empty i (test m _ unknown i (value _ n xs l)))
+
+    groups-same : (k j map s i m : ℕ) (xs : List ℕ) → k + m ≤ length xs
+        → Same ys m (readGroups owed empty unknown curves k j map s i xs) (readGroups owed empty unknown curves k j map s i (xs ++ ys))
+    unfolding readGroups
+    groups-same zero j map s i m xs l = value s i xs (omega arith)
+    groups-same (suc k) j map s i m xs l = then (k + m) m _ (group-same (bit j map) j i (k + m) xs (omega arith)) (λ g n xs l. groups-same k (suc j) map (s ∪ g) n m xs l)
+
+  record-same : (curves i m : ℕ) (xs : List ℕ) → 9 + m ≤ length xs → Same ys m (readRecord curves i xs) (readRecord curves i (xs ++ ys))
+  unfolding readRecord
+  record-same curves i m xs l = then (8 + m) m _ (byte-same 1 i (8 + m) xs (omega arith)) (λ map n xs l. groups-same 1 3 4 curves 8 0 map 0 n m xs (omega arith))
+
+  records-same : (curves k : ℕ) (wants : List ℕ) (i m : ℕ) (xs : List ℕ) → 9 * k + m ≤ length xs → Same ys m (readRecords curves k wants i xs) (readRecords curves k wants i (xs ++ ys))
+  unfolding readRecords
+  records-same curves zero wants i m xs l = value wants i xs (omega arith)
+  records-same curves (suc k) wants i m xs l =
+      then (9 * k + m) m _ (record-same curves i (9 * k + m) xs (omega arith)) (λ r n xs l. records-same curves k (wants ++ (r ∷ [])) n m xs l)
+
+  -- with a byte left behind the records in both, both are refused there
+  end-same : (h : Head) {o q : Outcome (Got (List ℕ))} → Same ys 1 o q
+      → _≡_ {A = Outcome Job} (_>>=_ q (λ r. _>>_ (atEnd 6 (r .next) (r .rest)) (done (record { head = h; wants = r .value }))))
+      (_>>=_ o (λ r. _>>_ (atEnd 6 (r .next) (r .rest)) (done (record { head = h; wants = r .value }))))
+  unfolding _>>=_ _>>_ atEnd
+  end-same h (value a n [] l) = absurd (omega arith)
+  end-same h (value a n (x ∷ xs) l) = refl
+  end-same h (fault k f) = refl
+
+  -- BYTES BEHIND THE 2,311TH NEVER CHANGE THE ANSWER
+  pub behind-same : (xs : List ℕ) → 2311 ≤ length xs → readBytes (xs ++ ys) ≡ readBytes xs
+  unfolding readBytes someTests demand _>>=_ _>>_
+  behind-same xs l = go refl refl (head-same 2305 xs (omega arith))
+    where
+      tested : (h : Head) (n : ℕ) (rest : List ℕ) (b : Bool) → h .tests ≤ 256 → 2305 ≤ length rest
+          → _≡_ {A = Outcome Job} (_>>_ (demand b 5 0) (_>>=_ (readRecords (h .curves) (h .tests) [] n (rest ++ ys)) (λ r. _>>_ (atEnd 6 (r .next) (r .rest)) (done (record { head = h; wants = r .value })))))
+          (_>>_ (demand b 5 0) (_>>=_ (readRecords (h .curves) (h .tests) [] n rest) (λ r. _>>_ (atEnd 6 (r .next) (r .rest)) (done (record { head = h; wants = r .value })))))
+      tested h n rest false t m = refl
+      tested h n rest true t m = end-same h (records-same (h .curves) (h .tests) [] n 1 rest (omega arith))
+
+      go : {o q : Outcome (Got Head)} → readHead xs ≡ o → readHead (xs ++ ys) ≡ q → Same ys 2305 o q → readBytes (xs ++ ys) ≡ readBytes xs
+      go e f (fault k i) = rw (e, f) refl
+      go e f (value h n rest m) =
+          rw (e, f) (tested h n rest (ltb 0 (h .tests)) (head-at xs h (sym (done-mapped (λ (x : Got Head). x .value) (readHead xs) (got h n rest) e)) .tests) m)
+
+pub prefix-reads : (bs : List ℕ) → readBytes (take 2311 bs) ≡ readBytes bs
+prefix-reads bs = go (decLe (length bs) 2311)
+  where
+    go : Dec (length bs ≤ 2311) → readBytes (take 2311 bs) ≡ readBytes bs
+    go (yes l) = ap readBytes (take-all 2311 bs l)
+    go (no l) = sym (behind-same (drop 2311 bs) (take 2311 bs) (omega (arith, length-take 2311 bs))) ∙ ap readBytes (take-append-drop 2311 bs)
+
+-- ---- the same of what `read_job` answers and leaves, and of what `write_job` writes
+pub prefix-answer : (bs old : List ℕ) → readJobAnswer (take 2311 bs) old ≡ readJobAnswer bs old
+unfolding readJobAnswer readJob
+prefix-answer bs old = rw (prefix-reads bs) refl
+
+pub prefix-wants : (bs old : List ℕ) → readJobWants (take 2311 bs) old ≡ readJobWants bs old
+unfolding readJobWants readJob
+prefix-wants bs old = rw (prefix-reads bs) refl
+
+pub answer-figure : (bs old : List ℕ) (k f : ℕ) → readJobAnswer bs old ≡ refused k f → (f ≤ 2310) × ((f ≤ length bs) ⊎ ((k ≡ 9) × (f ≤ 256)))
+unfolding readJobAnswer
+answer-figure bs old k f e = job-figure bs (length old) k f (mapped-refused (λ (j : Job). j .head) (readJob bs (length old)) k f e)
+
+pub answer-short : (bs old : List ℕ) (h : Head) → readJobAnswer bs old ≡ done h → length bs ≤ 2310
+unfolding readJobAnswer readJob
+answer-short bs old h e =
+    let x = mapped-done (λ (j : Job). j .head) (readJob bs (length old)) h e in
+    let y = bind-done (readBytes bs) _ (x .0) (x .1) in
+    job-short bs (y .0) (y .1)
+
+pub written-short : (places curves method : ℕ) (wants : List ℕ) (lent : ℕ) (bytes : List ℕ) → writeJob places curves method wants lent ≡ done bytes → length bytes ≤ 2310
+written-short places curves method wants lent bytes e = job-short bytes _ (job-back places curves method wants lent bytes e)

@@ -1,0 +1,25 @@
+-- What the rules on the bytes of sets and of jobs mean.
+--     Turns         one turn of a loop over bytes
+--     Encoding      one turn of a loop that writes bytes, and runs of stores
+--     GroupByte     one group byte, and what its reader's answer says
+--     Heads         reading a head, step by step
+--     Front         a loop that copies the front of a list
+--     Records       reading the records and the whole job, step by step
+--     Spans         how many bytes a reading takes at most, and where its figures point
+--     JobWritten    writing a job, step by step
+--     SetRoundTrip  a set that is written reads back, and the other way round
+--     JobRoundTrip  the same of a job
+--     JobBounds     how long job bytes are, how large their figures, and that bytes behind the 2,311th change nothing
+--     ReadExact     bytes that read give a job
+pub mod Turns
+pub mod Encoding
+pub mod Front
+pub mod Heads
+pub mod Spans
+pub mod Records
+pub mod JobWritten
+pub mod SetRoundTrip
+pub mod GroupByte
+pub mod JobRoundTrip
+pub mod JobBounds
+pub mod ReadExact

@@ -1,0 +1,285 @@
+-- `job_bytes::reading::read_records` meets its contract. The invariants: reading the groups of a record from its first comes to the same as reading those
+-- that are left, behind the set that was found; and reading the records likewise, behind the sets in the list.
+use Prim.Native.Nat.{ℕ, _≤_, _<_, _-_, _+_}
+use mathlib.Core.Path.{_≡_, refl, _∙_, ap, subst}
+use mathlib.Core.List.{List, []}
+use mathlib.Core.Logic.{⊎-elim, inl, inr}
+use native.Mathlib.Omega.{arith}
+use native.Mathlib.Nat.{sub-zero}
+use lib.ListN.{length, getD, take, drop, length-set}
+use denote.Ref.{now}
+use borrow.Author.Needs.{needs}
+use Rattle.bitset.specs.Set.{bit}
+use Rattle.job.specs.declared.Refusal.the-variants.{Truncated, EmptyGroup, UnknownCurve}
+use Rattle.job.specs.Refusal.{Outcome, refused, number, figure}
+use Rattle.job_bytes.specs.SetBytes.{Got, got, readGroups}
+use Rattle.job_bytes.specs.JobBytes.{readRecords}
+use Rattle.job_bytes.proofs.Turns.{group-absent, groups-end, records-end}
+use Rattle.job_bytes.proofs.Encoding.{rest-is, rest-long}
+use Rattle.job_bytes.proofs.GroupByte.{Answers, owed-end, answer-owed, answer-empty, answer-unknown, answer-curves}
+use Rattle.job_bytes.proofs.Records.{record-none, record-fault, record-read, list-more, LeftWith, left-refused, left-passed, promise-refused, promise-done}
+use Rattle.job_bytes.proofs.reading.read_records.Statement.{statement}
+use Rattle.job_bytes.proofs.reading.read_records.Tie as tie
+
+abbrev Inv-groups : tie.InvT-groups
+Inv-groups job start tests curves list answer₀ at t rest map set₀ used₀ j₀ answer set used j =
+    record {
+      turns : j ≤ 8;
+      fits : used ≤ length rest;
+      same : answer ≡ answer₀;
+      goes : readGroups 1 3 4 curves 8 0 map 0 (at + 1) (drop 1 rest) ≡ readGroups 1 3 4 curves (8 - j) j map set (at + used) (drop used rest);
+    }
+
+abbrev μ-groups : tie.MeasureT-groups
+μ-groups job start tests curves list answer₀ at t rest map set₀ used₀ j₀ answer set used j = 8 - j
+
+abbrev Inv-tests : tie.InvT-tests
+Inv-tests job start tests curves list₀ answer₀ at₀ t₀ list answer at t =
+    record {
+      turns : t ≤ tests;
+      within : at ≤ length job;
+      long : length list ≡ length list₀;
+      fine : answer ≡ answer₀;
+      goes : readRecords curves tests [] start (drop start job) ≡ readRecords curves (tests - t) (take t list) at (drop at job);
+    }
+
+abbrev μ-tests : tie.MeasureT-tests
+μ-tests job start tests curves list₀ answer₀ at₀ t₀ list answer at t = tests - t
+
+tests-holds : tie.Need-tests-holds Inv-groups μ-groups Inv-tests μ-tests
+tests-holds c = record { turns = search needs; within = search needs; long = refl; fine = refl; goes = rw sub-zero }
+
+sub-rest : tie.Need-sub-rest Inv-groups μ-groups Inv-tests μ-tests
+sub-rest c = search needs
+
+part-rest-start : tie.Need-part-rest-start Inv-groups μ-groups Inv-tests μ-tests
+part-rest-start c = search needs
+
+part-rest-end : tie.Need-part-rest-end Inv-groups μ-groups Inv-tests μ-tests
+part-rest-end c = search needs
+
+shared-slice-read-map : tie.Need-shared-slice-read-map Inv-groups μ-groups Inv-tests μ-tests
+shared-slice-read-map c = search needs
+
+groups-holds : tie.Need-groups-holds Inv-groups μ-groups Inv-tests μ-tests
+groups-holds c =
+    let job = now (c .before .before .before .before .before .before .before .args .job) in
+    let at = c .before .before .before .before .tests .at in
+    record { turns = search needs; fits = omega (arith, rest-long job at, c .before .if1 .left); same = refl; goes = refl }
+
+cast-if2 : tie.Need-cast-if2 Inv-groups μ-groups Inv-tests μ-tests
+cast-if2 c = search needs
+
+shr-if2 : tie.Need-shr-if2 Inv-groups μ-groups Inv-tests μ-tests
+shr-if2 c = search needs
+
+read-group-requires : tie.Need-read-group-requires Inv-groups μ-groups Inv-tests μ-tests
+read-group-requires c κs = search needs
+
+enum-known-group : tie.Need-enum-known-group Inv-groups μ-groups Inv-tests μ-tests
+enum-known-group c = search needs
+
+add-used : tie.Need-add-used Inv-groups μ-groups Inv-tests μ-tests
+add-used c = search needs
+
+enum-told : tie.Need-enum-told Inv-groups μ-groups Inv-tests μ-tests
+enum-told c = search needs
+
+enum-told-2 : tie.Need-enum-told-2 Inv-groups μ-groups Inv-tests μ-tests
+enum-told-2 c = search needs
+
+add-offset : tie.Need-add-offset Inv-groups μ-groups Inv-tests μ-tests
+add-offset c = search needs
+
+enum-told-3 : tie.Need-enum-told-3 Inv-groups μ-groups Inv-tests μ-tests
+enum-told-3 c = search needs
+
+add-offset-2 : tie.Need-add-offset-2 Inv-groups μ-groups Inv-tests μ-tests
+add-offset-2 c = search needs
+
+add-j : tie.Need-add-j Inv-groups μ-groups Inv-tests μ-tests
+add-j c = search needs
+
+groups-less : tie.Need-groups-less Inv-groups μ-groups Inv-tests μ-tests
+groups-less c = search needs
+
+groups-again : tie.Need-groups-again Inv-groups μ-groups Inv-tests μ-tests
+groups-again c =
+    let k = c .before .before in
+    let a = k .before .before .before .before .before .before .before .before .args in
+    let pre = k .before .before .before .before .before .before .before .before .pre in
+    let job = now (a .job) in
+    let at = k .before .before .before .before .before .tests .at in
+    let rest = take (length job - at) (drop at job) in
+    let g = k .groups in
+    let h : g .j < 8 = c .before .groups-test .taken in
+    ⊎-elim
+    (λ w.
+    let x = w .3 .given .0 .0 in
+    let f = subst (Answers rest (g .used) (g .j) (a .curves)) (w .3 .given .1) (w .1 .ensures) in
+    let r = answer-curves 1 3 4 (a .curves) (getD rest 0 0) (g .set) at (g .used) (g .j) rest h (pre .2) (w .0 .taken) x f in
+    record { turns = omega arith; fits = omega (arith, w .6, r .0); same = g .inv .same; goes = rw (w .5, w .6) (g .inv .goes ∙ r .1) })
+    (λ w.
+    let z : bit (g .j) (getD rest 0 0) ≡ 0 = omega (arith, w .0 .left) in
+    record {
+      turns = omega arith;
+      fits = omega (arith, w .2, g .inv .fits);
+      same = g .inv .same;
+      goes = rw (w .1, w .2) (g .inv .goes ∙ group-absent 1 3 4 (a .curves) (getD rest 0 0) (g .set) at (g .used) (g .j) rest h z);
+    })
+    (c .if2 .came)
+
+mul-list : tie.Need-mul-list Inv-groups μ-groups Inv-tests μ-tests
+mul-list c = search needs
+
+slice-write-list : tie.Need-slice-write-list Inv-groups μ-groups Inv-tests μ-tests
+slice-write-list c = search needs
+
+add-at : tie.Need-add-at Inv-groups μ-groups Inv-tests μ-tests
+add-at c = search needs
+
+add-t : tie.Need-add-t Inv-groups μ-groups Inv-tests μ-tests
+add-t c = search needs
+
+tests-less : tie.Need-tests-less Inv-groups μ-groups Inv-tests μ-tests
+tests-less c = search needs
+
+tests-again : tie.Need-tests-again Inv-groups μ-groups Inv-tests μ-tests
+tests-again c =
+    let k = c .before .before in
+    let a = k .before .before .before .before .before .before .before .args in
+    let q = k .before .before .before .before .tests in
+    let job = now (a .job) in
+    let rest = take (length job - q .at) (drop (q .at) job) in
+    let u = c .before .groups .used in
+    let set = c .before .groups .set in
+    let full : c .before .groups .j ≡ 8 = omega arith in
+    let some : 0 < length rest = omega (arith, k .before .if1 .left) in
+    let long = rest-long job (q .at) in
+    let read = rw full at (c .before .groups .inv .goes) ∙ groups-end 1 3 4 (a .curves) (getD rest 0 0) set (q .at + u) (drop u rest) in
+    record {
+      turns = search needs;
+      within = omega arith;
+      long = simp length-set (q .inv .long);
+      fine = c .before .groups .inv .same ∙ q .inv .fine;
+      goes =
+          rw (list-more (q .list) (q .t) set (omega arith))
+          (q .inv .goes ∙ record-read job (a .curves) (a .tests) (q .t) (q .at) (take (q .t) (q .list)) (omega arith) rest (rest-is job (q .at)) some set u read);
+    }
+
+-- the way out in the middle of a test's groups: the record's fault is the reading's
+module _ (k : tie.At-tests Inv-groups μ-groups Inv-tests μ-tests) (more : k .tests .t < k .before .before .before .args .tests) where
+  abbrev whole : Outcome (Got (List ℕ))
+  whole = readRecords (k .before .before .before .args .curves) (k .before .before .before .args .tests) [] (k .before .before .before .args .start) (drop (k .before .before .before .args .start) (now (k .before .before .before .args .job)))
+
+  abbrev rest : List ℕ
+  rest = take (length (now (k .before .before .before .args .job)) - k .tests .at) (drop (k .tests .at) (now (k .before .before .before .args .job)))
+
+  fault : (n f : ℕ) → 0 < length rest → readGroups 1 3 4 (k .before .before .before .args .curves) 8 0 (getD rest 0 0) 0 (k .tests .at + 1) (drop 1 rest) ≡ refused n f → whole ≡ refused n f
+  fault n f some e =
+      let a = k .before .before .before .args in
+      let q = k .tests in
+      q .inv .goes ∙ record-fault (now (a .job)) (a .curves) (a .tests) (q .t) (q .at) (take (q .t) (q .list)) more rest (rest-is (now (a .job)) (q .at)) some n f e
+
+-- what the ways out of the loops say of the reading
+left : (k : tie.Left-tests Inv-groups μ-groups Inv-tests μ-tests)
+    → LeftWith (k .tests-test .answer)
+    (readRecords (k .before .before .before .before .args .curves) (k .before .before .before .before .args .tests) [] (k .before .before .before .before .args .start) (drop (k .before .before .before .before .args .start) (now (k .before .before .before .before .args .job))))
+    (got (take (k .before .before .before .before .args .tests) (k .before .tests .list)) (k .before .tests .at) (drop (k .before .tests .at) (now (k .before .before .before .before .args .job))))
+unfolding number figure
+left k =
+    let a = k .before .before .before .before .args in
+    let pre = k .before .before .before .before .pre in
+    let q = k .before .tests in
+    let job = now (a .job) in
+    let part = take (length job - q .at) (drop (q .at) job) in
+    let long = rest-long job (q .at) in
+    ⊎-elim
+    (λ w.
+    let e : q .t ≡ a .tests = omega (arith, w .0 .left) in
+    inl (w .1 ∙ q .inv .fine, rw e at (q .inv .goes ∙ records-end (a .curves) (a .tests) (q .t) (take (q .t) (q .list)) (q .at) (drop (q .at) job) (w .0 .left))))
+    (⊎-elim
+    (λ w.
+    let e : q .at ≡ length job = omega (arith, w .2 .taken) in
+    inr (Truncated (length job), w .3, q .inv .goes ∙ record-none job (a .curves) (a .tests) (q .t) (q .at) (take (q .t) (q .list)) (w .0 .taken) (omega arith) ∙ ap (refused 1) e))
+    (⊎-elim
+    (λ w.
+    let p = w .4 in
+    let f = subst (Answers part (p .used) (p .j) (a .curves)) (w .9 .given .1) (w .7 .ensures) in
+    let e = p .inv .goes ∙ answer-owed 1 3 4 (a .curves) (getD part 0 0) (p .set) (q .at) (p .used) (p .j) part (w .5 .taken) (pre .2) (w .6 .taken) f in
+    let n : q .at + p .used ≡ length job = omega (arith, owed-end part (p .used) (p .j) (a .curves) f, p .inv .fits) in
+    inr (Truncated (length job), w .10, fault (k .before) (w .0 .taken) 1 (q .at + p .used) (omega (arith, w .2 .left)) e ∙ ap (refused 1) n))
+    (⊎-elim
+    (λ w.
+    let p = w .4 in
+    let f = subst (Answers part (p .used) (p .j) (a .curves)) (w .9 .given .1) (w .7 .ensures) in
+    let e = p .inv .goes ∙ answer-empty 1 3 4 (a .curves) (getD part 0 0) (p .set) (q .at) (p .used) (p .j) part (w .5 .taken) (pre .2) (w .6 .taken) f in
+    inr (EmptyGroup (q .at + p .used), w .10, fault (k .before) (w .0 .taken) 3 (q .at + p .used) (omega (arith, w .2 .left)) e))
+    (λ w.
+    let p = w .4 in
+    let f = subst (Answers part (p .used) (p .j) (a .curves)) (w .9 .given .1) (w .7 .ensures) in
+    let e = p .inv .goes ∙ answer-unknown 1 3 4 (a .curves) (getD part 0 0) (p .set) (q .at) (p .used) (p .j) part (w .5 .taken) (pre .2) (w .6 .taken) f in
+    inr (UnknownCurve (q .at + p .used), w .10, fault (k .before) (w .0 .taken) 4 (q .at + p .used) (omega (arith, w .2 .left)) e)))))
+    (k .tests-test .came)
+
+enum-known-answer : tie.Need-enum-known-answer Inv-groups μ-groups Inv-tests μ-tests
+enum-known-answer c = search needs
+
+enum-told-4 : tie.Need-enum-told-4 Inv-groups μ-groups Inv-tests μ-tests
+enum-told-4 c = search needs
+
+same-length : tie.Need-same-length Inv-groups μ-groups Inv-tests μ-tests
+same-length c = c .before .before .before .before .tests .inv .long
+
+returns : tie.Need-returns Inv-groups μ-groups Inv-tests μ-tests
+returns c =
+    let k = c .before .before .before in
+    promise-refused (c .before .answer .given .0 .0) _ _ (left-refused _ _ _ (left k) (c .before .answer .given .0 .0) (c .before .answer .given .1))
+
+same-length-2 : tie.Need-same-length-2 Inv-groups μ-groups Inv-tests μ-tests
+same-length-2 c = c .before .before .before .tests .inv .long
+
+returns-2 : tie.Need-returns-2 Inv-groups μ-groups Inv-tests μ-tests
+returns-2 c =
+    let k = c .before .before in
+    promise-done _ _ (left-passed _ _ _ (left k) (c .enum-told4 .given .1))
+
+pub read-records-spec : {M : Type 1} → statement M
+read-records-spec =
+    tie.close
+    (tie.spec
+    Inv-groups
+    μ-groups
+    Inv-tests
+    μ-tests
+    tests-holds
+    sub-rest
+    part-rest-start
+    part-rest-end
+    shared-slice-read-map
+    groups-holds
+    cast-if2
+    shr-if2
+    read-group-requires
+    enum-known-group
+    add-used
+    enum-told
+    enum-told-2
+    add-offset
+    enum-told-3
+    add-offset-2
+    add-j
+    groups-less
+    groups-again
+    mul-list
+    slice-write-list
+    add-at
+    add-t
+    tests-less
+    tests-again
+    enum-known-answer
+    enum-told-4
+    same-length
+    returns
+    same-length-2
+    returns-2)

@@ -1,0 +1,7 @@
+// The bytes of sets of curves and of jobs: read and written.
+pub mod reading; // reading.rt: job bytes, read
+pub mod set_bytes; // set_bytes.rt: a set of curves in bytes
+pub mod writing; // writing.rt: job bytes, written
+
+pub use reading::read_job;
+pub use writing::write_job;

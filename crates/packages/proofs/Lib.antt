@@ -1,0 +1,19 @@
+-- Method 3's order names each test exactly once; and what the proofs of the code lean on.
+--     Written  what a list holds of which the first entries were written
+--     Listed   the tests in list order
+--     Rounds   the rounds end, and each test comes once
+--     Entered  tests that are written to a list where they fit
+--     Lists    lists that are changed in place
+--     Rows     the closest pair, row by row
+--     Renew    the best second package of each row, kept over a join
+--     Runs     heads, tails and flipping
+--     State    the packages as the code holds them, and a turn of the rounds
+pub mod Written
+pub mod Listed
+pub mod Rounds
+pub mod Entered
+pub mod Lists
+pub mod Rows
+pub mod Renew
+pub mod Runs
+pub mod State

@@ -1,0 +1,152 @@
+-- `packages::best_partner` meets its contract. Invariant: the second is the best of those before j, 0 for none, and most is one more than what it has in common with the first.
+use mathlib.Core.Path.{_≡_, sym, ap, _∙_}
+use mathlib.Core.Bool.{Bool, true, false}
+use mathlib.Core.Logic.{⊎-elim}
+use Prim.Native.Nat.{ℕ, _≤_, _<_, _-_, _+_}
+use native.Mathlib.Omega.{arith}
+use lib.Dec.{leb}
+use lib.ListN.{length, getD}
+use borrow.Author.Needs.{needs}
+use borrow.Author.Tests.{le-leb, lt-leb}
+use denote.Ref.{now}
+use Rattle.bitset.specs.Set.{_∪_, size}
+use Rattle.packages.specs.Packages.{shared}
+use Rattle.packages.proofs.Rows as rows
+use Rattle.packages.proofs.best_partner.Statement.{statement}
+use Rattle.packages.proofs.best_partner.Tie as tie
+
+abbrev Inv-loop : tie.InvT-loop
+Inv-loop bound curves first second₀ most₀ j₀ second most j = record { turns : first < j; within : j ≤ length curves; row : rows.rowTo (λ u. leb (size u) bound) curves first j ≡ rows.chosen first second; count : most ≡ rows.score curves first second }
+
+abbrev μ-loop : tie.MeasureT-loop
+μ-loop bound curves first second₀ most₀ j₀ second most j = length curves - j
+
+add-j : tie.Need-add-j Inv-loop μ-loop
+add-j c = search needs
+
+loop-holds : tie.Need-loop-holds Inv-loop μ-loop
+loop-holds c =
+    let a = c .before .args in
+    record {
+      turns = omega arith;
+      within = omega arith;
+      row = rows.row-start (λ u. leb (size u) (a .bound)) (now (a .curves)) (a .first);
+      count = sym (rows.score-none (now (a .curves)) (a .first));
+    }
+
+mul-shared : tie.Need-mul-shared Inv-loop μ-loop
+mul-shared c = search needs
+
+shared-slice-read-shared : tie.Need-shared-slice-read-shared Inv-loop μ-loop
+shared-slice-read-shared c = search needs
+
+mul-shared-2 : tie.Need-mul-shared-2 Inv-loop μ-loop
+mul-shared-2 c = search needs
+
+shared-slice-read-shared-2 : tie.Need-shared-slice-read-shared-2 Inv-loop μ-loop
+shared-slice-read-shared-2 c = search needs
+
+shared-requires : tie.Need-shared-requires Inv-loop μ-loop
+shared-requires c κs = search needs
+
+add-common : tie.Need-add-common Inv-loop μ-loop
+add-common c =
+    let k = c .before .before .before .before .before .before in
+    let few = rows.few-shared (getD (now (k .args .curves)) (k .args .first) 0) _ (c .shared .result) (c .before .shared-slice-known3 .given (k .args .first) .fits) (c .shared .ensures) in
+    omega arith
+
+mul-union : tie.Need-mul-union Inv-loop μ-loop
+mul-union c = search needs
+
+shared-slice-read-union : tie.Need-shared-slice-read-union Inv-loop μ-loop
+shared-slice-read-union c = search needs
+
+mul-union-2 : tie.Need-mul-union-2 Inv-loop μ-loop
+mul-union-2 c = search needs
+
+shared-slice-read-union-2 : tie.Need-shared-slice-read-union-2 Inv-loop μ-loop
+shared-slice-read-union-2 c = search needs
+
+union-requires : tie.Need-union-requires Inv-loop μ-loop
+union-requires c κs = search needs
+
+size-requires : tie.Need-size-requires Inv-loop μ-loop
+size-requires c κs = search needs
+
+add-j-2 : tie.Need-add-j-2 Inv-loop μ-loop
+add-j-2 c = search needs
+
+loop-less : tie.Need-loop-less Inv-loop μ-loop
+loop-less c = search needs
+
+loop-again : tie.Need-loop-again Inv-loop μ-loop
+loop-again c =
+    let k = c .before .before .before .before .before in
+    let a = k .before .before .args in
+    let cs = now (a .curves) in
+    let fits : ℕ → Bool = λ u. leb (size u) (a .bound) in
+    let i = a .first in
+    let j = k .loop .j in
+    let s = k .loop .second in
+    let v = k .loop .inv in
+    let e = c .before .shared .ensures in
+    ⊎-elim
+    (λ w.
+    let f : leb (size (getD cs i 0 ∪ getD cs j 0)) (a .bound) ≡ true = le-leb (size (getD cs i 0 ∪ getD cs j 0)) (a .bound) (omega (arith, w .5 .taken, w .4 .ensures, ap size (w .3 .ensures))) in
+    record {
+      turns = omega arith;
+      within = omega arith;
+      row = rw (w .6) (rows.row-take fits cs i j s (k .loop .most) (v .row) (v .turns) (v .count) (omega (arith, e, w .0 .taken)) f);
+      count = rw (w .6, w .7) (ap (λ (n : ℕ). 1 + n) e ∙ sym (rows.score-some cs i j (omega arith)));
+    })
+    (λ o.
+    ⊎-elim
+    (λ w.
+    let f : leb (size (getD cs i 0 ∪ getD cs j 0)) (a .bound) ≡ false = lt-leb (size (getD cs i 0 ∪ getD cs j 0)) (a .bound) (omega (arith, w .5 .left, w .4 .ensures, ap size (w .3 .ensures))) in
+    record {
+      turns = omega arith;
+      within = omega arith;
+      row = rw (w .6) (rows.row-pass fits cs i j s (k .loop .most) (v .row) f);
+      count = rw (w .6, w .7) (v .count);
+    })
+    (λ w.
+    record {
+      turns = omega arith;
+      within = omega arith;
+      row = rw (w .1) (rows.row-keep fits cs i j s (k .loop .most) (v .row) (v .count) (omega (arith, e, w .0 .left)));
+      count = rw (w .1, w .2) (v .count);
+    })
+    o)
+    (c .if1 .came)
+
+returns : tie.Need-returns Inv-loop μ-loop
+returns c =
+    let k = c .before in
+    let a = k .before .before .args in
+    let e : length (now (a .curves)) ≡ k .loop .j = omega arith in
+    rw e (k .loop .inv .row)
+
+pub best-partner-spec : {M : Type 1} → statement M
+best-partner-spec =
+    tie.close
+    (tie.spec
+    Inv-loop
+    μ-loop
+    add-j
+    loop-holds
+    mul-shared
+    shared-slice-read-shared
+    mul-shared-2
+    shared-slice-read-shared-2
+    shared-requires
+    add-common
+    mul-union
+    shared-slice-read-union
+    mul-union-2
+    shared-slice-read-union-2
+    union-requires
+    size-requires
+    add-j-2
+    loop-less
+    loop-again
+    returns)

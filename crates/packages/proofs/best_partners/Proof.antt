@@ -1,0 +1,73 @@
+-- `packages::best_partners` meets its contract. Invariant: the packages before k have their partner.
+use mathlib.Core.Path.{_≡_, refl, sym, ap, _∙_}
+use Prim.Native.Nat.{ℕ, _≤_, _<_, _-_}
+use native.Mathlib.Omega.{arith}
+use lib.Seq.{getD-set-same, getD-set-other}
+use lib.Dec.{leb}
+use lib.ListN.{length, getD, length-set}
+use borrow.Author.Count.{below-more}
+use borrow.Author.Needs.{needs}
+use Rattle.bitset.specs.Set.{size}
+use Rattle.packages.proofs.Rows as rows
+use Rattle.packages.proofs.best_partners.Statement.{statement}
+use Rattle.packages.proofs.best_partners.Tie as tie
+
+abbrev Inv-loop : tie.InvT-loop
+Inv-loop bound curves partners₀ k₀ partners k = record { turns : k ≤ length curves; long : length partners ≡ length partners₀; done : (i : ℕ) → i < k → rows.rowTo (λ u. leb (size u) bound) curves i (length curves) ≡ rows.chosen i (getD partners i 0) }
+
+abbrev μ-loop : tie.MeasureT-loop
+μ-loop bound curves partners₀ k₀ partners k = length curves - k
+
+loop-holds : tie.Need-loop-holds Inv-loop μ-loop
+loop-holds c = record { turns = omega arith; long = refl; done = λ i h. absurd (omega arith) }
+
+best-partner-requires : tie.Need-best-partner-requires Inv-loop μ-loop
+best-partner-requires c κs = search needs
+
+mul-partners : tie.Need-mul-partners Inv-loop μ-loop
+mul-partners c = search needs
+
+slice-write-partners : tie.Need-slice-write-partners Inv-loop μ-loop
+slice-write-partners c = search needs
+
+add-k : tie.Need-add-k Inv-loop μ-loop
+add-k c = search needs
+
+loop-less : tie.Need-loop-less Inv-loop μ-loop
+loop-less c = search needs
+
+loop-again : tie.Need-loop-again Inv-loop μ-loop
+loop-again c =
+    let k = c .before .before in
+    let a = k .before .before .before .args in
+    let i = k .loop .k in
+    let long : i < length (k .loop .partners) = omega (arith, k .loop .inv .long, k .before .before .before .pre) in
+    record {
+      turns = omega arith;
+      long = simp length-set (k .loop .inv .long);
+      done = below-more _ i
+          (λ x h. k .loop .inv .done x h ∙ ap (rows.chosen x) (sym (getD-set-other (k .loop .partners) i x _ 0 (λ e. omega arith))))
+          (c .best-partner .ensures ∙ ap (rows.chosen i) (sym (getD-set-same (k .loop .partners) i _ 0 long)));
+    }
+
+same-length : tie.Need-same-length Inv-loop μ-loop
+same-length c = c .before .loop .inv .long
+
+returns : tie.Need-returns Inv-loop μ-loop
+returns c = λ k h. c .before .loop .inv .done k (omega arith)
+
+pub best-partners-spec : {M : Type 1} → statement M
+best-partners-spec =
+    tie.close
+    (tie.spec
+    Inv-loop
+    μ-loop
+    loop-holds
+    best-partner-requires
+    mul-partners
+    slice-write-partners
+    add-k
+    loop-less
+    loop-again
+    same-length
+    returns)

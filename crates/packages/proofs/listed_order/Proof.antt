@@ -1,0 +1,29 @@
+-- `packages::listed_order` meets its contract.
+use mathlib.Core.Path.{sym, _∙_}
+use native.Mathlib.Omega.{arith}
+use denote.Ref.{now}
+use borrow.Author.Needs.{needs}
+use Rattle.packages.proofs.Entered.{listed-many, listed-short, listed-all}
+use Rattle.packages.proofs.listed_order.Statement.{statement}
+use Rattle.packages.proofs.listed_order.Tie as tie
+
+returns : tie.Need-returns
+returns c = let a = c .before .before .args in sym (listed-many (a .tests) (now (a .order)) (omega arith))
+
+returns-2 : tie.Need-returns-2
+returns-2 c = let a = c .before .before .before .args in sym (listed-short (a .tests) (now (a .order)) (omega arith) (omega arith))
+
+as-listed-requires : tie.Need-as-listed-requires
+as-listed-requires c κs = search needs
+
+same-length : tie.Need-same-length
+same-length c = search needs
+
+returns-3 : tie.Need-returns-3
+returns-3 c =
+    let a = c .before .before .before .before .before .before .before .args in
+    c .before .before .as-listed .ensures ∙ sym (listed-all (a .tests) (now (a .order)) (omega arith) (omega arith))
+
+pub listed-order-spec : {M : Type 1} → statement M
+listed-order-spec =
+    tie.close (tie.spec returns returns-2 as-listed-requires same-length returns-3)

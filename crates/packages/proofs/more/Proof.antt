@@ -1,0 +1,14 @@
+-- `packages::more` meets its contract.
+use mathlib.Core.Path.{refl}
+use borrow.Author.Tests.{lt-ltb, le-ltb}
+use Rattle.packages.proofs.more.Statement.{statement}
+use Rattle.packages.proofs.more.Tie as tie
+
+returns : tie.Need-returns
+returns c = rw (lt-ltb _ _ (c .if1 .taken)) refl
+
+returns-2 : tie.Need-returns-2
+returns-2 c = rw (le-ltb _ _ (c .if1 .left)) refl
+
+pub more-spec : {M : Type 1} → statement M
+more-spec = tie.close (tie.spec returns returns-2)
