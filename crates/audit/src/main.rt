@@ -17,7 +17,7 @@ fn open_argument(i: usize) -> i32 {
     fd
 }
 
-// The text has at most 128 bytes.
+// No audit has a longer text than 128 bytes.
 fn print_audit(job: &[u8], plan: &[u8]) {
     let mut text = [0u8; 128];
     match report::audit::write_audit(job, plan, &mut text) {
@@ -28,7 +28,7 @@ fn print_audit(job: &[u8], plan: &[u8]) {
     }
 }
 
-// A job that reads has at most 2,310 bytes, and a plan that passes at most 5,120: one byte more is read of each, so that a surplus is seen.
+// A job that reads has at most 2,310 bytes and its plan at most 5,120: what follows the next byte of either never changes the answer.
 fn main() {
     let job_file = open_argument(1);
     if job_file < 0 {

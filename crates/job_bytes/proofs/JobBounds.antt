@@ -19,6 +19,7 @@ use Rattle.job_bytes.specs.JobBytes.{Job, readNumber, readField, readHea
 use Rattle.job.proofs.Laws.{refused≢done, bind-done, mapped-done, mapped-refused, done-mapped}
 use Rattle.job_bytes.proofs.Heads.{head-at}
 use Rattle.job_bytes.proofs.Spans.{Ends, Spans, span-done, span-refused, head-span, records-span}
+use Rattle.job_bytes.proofs.Behind.{Same, value, fault, same-then, same-test, byte-same, groups-same}
 use Rattle.job_bytes.proofs.JobRoundTrip.{job-back}
 
 -- ---- how long, and how large a figure
@@ -90,73 +91,39 @@ job-figure bs lent k f e = go (read-bounded bs) e
 
 -- ---- bytes behind
 
--- two readings, of xs and of xs with ys behind: the same refusal, or the same value with at least m bytes left before ys
-data Same {A : Type 0} (ys : List ℕ) (m : ℕ) : Outcome (Got A) → Outcome (Got A) → Type 0 where
-  value : (a : A) (n : ℕ) (xs : List ℕ) → m ≤ length xs → Same ys m (done (got a n xs)) (done (got a n (xs ++ ys)))
-  fault : (k f : ℕ) → Same ys m (refused k f) (refused k f)
-
 module _ (ys : List ℕ) where
-  -- one reading after another
-  then : {A B : Type 0} (m p : ℕ) {o q : Outcome (Got A)} (f : Got A → Outcome (Got B)) → Same ys m o q
-      → ((a : A) (n : ℕ) (xs : List ℕ) → m ≤ length xs → Same ys p (f (got a n xs)) (f (got a n (xs ++ ys)))) → Same ys p (_>>=_ o f) (_>>=_ q f)
-  unfolding _>>=_
-  then m p f (value a n xs l) h = h a n xs l
-  then m p f (fault k i) h = fault k i
-
-  test : {A : Type 0} (p : ℕ) {o q : Outcome (Got A)} (t : Bool) (k f : ℕ) → Same ys p o q → Same ys p (_>>_ (demand t k f) o) (_>>_ (demand t k f) q)
-  unfolding _>>_ demand
-  test p true k f s = s
-  test p false k f s = fault k f
-
-  byte-same : (o i m : ℕ) (xs : List ℕ) → 1 + m ≤ length xs → Same ys m (byteAt o i xs) (byteAt o i (xs ++ ys))
-  unfolding byteAt
-  byte-same o i m [] l = absurd (omega arith)
-  byte-same o i m (x ∷ xs) l = value x (suc i) xs (omega arith)
-
   number-same : (w i m : ℕ) (xs : List ℕ) → w + m ≤ length xs → Same ys m (readNumber w i xs) (readNumber w i (xs ++ ys))
   unfolding readNumber
   number-same zero i m xs l = value 0 i xs (omega arith)
   number-same (suc w) i m xs l =
-      then (w + m) m _ (byte-same 1 i (w + m) xs (omega arith)) (λ b n xs l. then m m _ (number-same w n m xs l) (λ r n xs l. value _ n xs l))
+      same-then ys (w + m) m _ (byte-same ys 1 i (w + m) xs (omega arith)) (λ b n xs l. same-then ys m m _ (number-same w n m xs l) (λ r n xs l. value _ n xs l))
 
   field-same : (w low high absent d i m : ℕ) (xs : List ℕ) → w + m ≤ length xs → Same ys m (readField w low high absent d i xs) (readField w low high absent d i (xs ++ ys))
   unfolding readField
   field-same w low high absent zero i m xs l = value absent i xs (omega arith)
-  field-same w low high absent (suc d) i m xs l = then m m _ (number-same w i m xs l) (λ v n xs l. test m _ 2 i (value v n xs l))
+  field-same w low high absent (suc d) i m xs l = same-then ys m m _ (number-same w i m xs l) (λ v n xs l. same-test ys m _ 2 i (value v n xs l))
 
   head-same : (m : ℕ) (xs : List ℕ) → 6 + m ≤ length xs → Same ys m (readHead xs) (readHead (xs ++ ys))
   unfolding readHead
   head-same m xs l =
-      then (5 + m) m _ (byte-same 1 0 (5 + m) xs (omega arith))
+      same-then ys (5 + m) m _ (byte-same ys 1 0 (5 + m) xs (omega arith))
       (λ map n xs l.
-      test m _ 2 0
-      (then (4 + m) m _ (field-same 1 1 64 8 _ n (4 + m) xs (omega arith))
+      same-test ys m _ 2 0
+      (same-then ys (4 + m) m _ (field-same 1 1 64 8 _ n (4 + m) xs (omega arith))
       (λ places n xs l.
-      then (3 + m) m _ (field-same 1 1 64 64 _ n (3 + m) xs (omega arith))
+      same-then ys (3 + m) m _ (field-same 1 1 64 64 _ n (3 + m) xs (omega arith))
       (λ curves n xs l.
-      then (1 + m) m _ (field-same 2 1 256 0 _ n (1 + m) xs (omega arith)) (λ tests n xs l. then m m _ (field-same 1 1 3 0 _ n m xs (omega arith)) (λ method n xs l. value _ n xs l))))))
-
-  module _ (owed empty unknown curves : ℕ) where
-    group-same : (d j i m : ℕ) (xs : List ℕ) → 1 + m ≤ length xs → Same ys m (readGroup owed empty unknown curves d j i xs) (readGroup owed empty unknown curves d j i (xs ++ ys))
-    unfolding readGroup
-    group-same zero j i m xs l = value 0 i xs (omega arith)
-    group-same (suc d) j i m xs l = then m m _ (byte-same owed i m xs l) (λ b n xs l. test m _ empty i (test m _ unknown i (value _ n xs l)))
-
-    groups-same : (k j map s i m : ℕ) (xs : List ℕ) → k + m ≤ length xs
-        → Same ys m (readGroups owed empty unknown curves k j map s i xs) (readGroups owed empty unknown curves k j map s i (xs ++ ys))
-    unfolding readGroups
-    groups-same zero j map s i m xs l = value s i xs (omega arith)
-    groups-same (suc k) j map s i m xs l = then (k + m) m _ (group-same (bit j map) j i (k + m) xs (omega arith)) (λ g n xs l. groups-same k (suc j) map (s ∪ g) n m xs l)
+      same-then ys (1 + m) m _ (field-same 2 1 256 0 _ n (1 + m) xs (omega arith)) (λ tests n xs l. same-then ys m m _ (field-same 1 1 3 0 _ n m xs (omega arith)) (λ method n xs l. value _ n xs l))))))
 
   record-same : (curves i m : ℕ) (xs : List ℕ) → 9 + m ≤ length xs → Same ys m (readRecord curves i xs) (readRecord curves i (xs ++ ys))
   unfolding readRecord
-  record-same curves i m xs l = then (8 + m) m _ (byte-same 1 i (8 + m) xs (omega arith)) (λ map n xs l. groups-same 1 3 4 curves 8 0 map 0 n m xs (omega arith))
+  record-same curves i m xs l = same-then ys (8 + m) m _ (byte-same ys 1 i (8 + m) xs (omega arith)) (λ map n xs l. groups-same ys 1 3 4 curves 8 0 map 0 n m xs (omega arith))
 
   records-same : (curves k : ℕ) (wants : List ℕ) (i m : ℕ) (xs : List ℕ) → 9 * k + m ≤ length xs → Same ys m (readRecords curves k wants i xs) (readRecords curves k wants i (xs ++ ys))
   unfolding readRecords
   records-same curves zero wants i m xs l = value wants i xs (omega arith)
   records-same curves (suc k) wants i m xs l =
-      then (9 * k + m) m _ (record-same curves i (9 * k + m) xs (omega arith)) (λ r n xs l. records-same curves k (wants ++ (r ∷ [])) n m xs l)
+      same-then ys (9 * k + m) m _ (record-same curves i (9 * k + m) xs (omega arith)) (λ r n xs l. records-same curves k (wants ++ (r ∷ [])) n m xs l)
 
   -- with a byte left behind the records in both, both are refused there
   end-same : (h : Head) {o q : Outcome (Got (List ℕ))} → Same ys 1 o q

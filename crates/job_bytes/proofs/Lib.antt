@@ -6,6 +6,7 @@
 --     Front         a loop that copies the front of a list
 --     Records       reading the records and the whole job, step by step
 --     Spans         how many bytes a reading takes at most, and where its figures point
+--     Behind        bytes behind those that a reading takes do not change it
 --     JobWritten    writing a job, step by step
 --     SetRoundTrip  a set that is written reads back, and the other way round
 --     JobRoundTrip  the same of a job
@@ -16,6 +17,7 @@ pub mod Encoding
 pub mod Front
 pub mod Heads
 pub mod Spans
+pub mod Behind
 pub mod Records
 pub mod JobWritten
 pub mod SetRoundTrip

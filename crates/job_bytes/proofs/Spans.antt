@@ -37,32 +37,32 @@ wider w v i l m (ends g s) = ends g (record { after = omega (arith, s .after); m
 wider w v i l m (points k f p q) = points k f (omega arith) q
 
 -- as much as that, or less
-longer : {A : Type 0} {w v i : ℕ} {bs : List ℕ} {o : Outcome (Got A)} → w ≤ v → Spans w i bs o → Spans v i bs o
-longer l (ends g s) = ends g (record { after = s .after; most = omega (arith, s .most); within = s .within; behind = s .behind })
-longer l (points k f p q) = points k f (omega arith) q
+pub span-longer : {A : Type 0} {w v i : ℕ} {bs : List ℕ} {o : Outcome (Got A)} → w ≤ v → Spans w i bs o → Spans v i bs o
+span-longer l (ends g s) = ends g (record { after = s .after; most = omega (arith, s .most); within = s .within; behind = s .behind })
+span-longer l (points k f p q) = points k f (omega arith) q
 
-bind : {A B : Type 0} (w v : ℕ) {i : ℕ} {bs : List ℕ} {o : Outcome (Got A)} (f : Got A → Outcome (Got B)) → Spans w i bs o
+pub span-bind : {A B : Type 0} (w v : ℕ) {i : ℕ} {bs : List ℕ} {o : Outcome (Got A)} (f : Got A → Outcome (Got B)) → Spans w i bs o
     → ((a : A) (n : ℕ) → i ≤ n → n ≤ length bs → Spans v n bs (f (got a n (drop n bs)))) → Spans (w + v) i bs (_>>=_ o f)
 unfolding _>>=_
-bind w v {i} {bs} f (ends g s) h =
+span-bind w v {i} {bs} f (ends g s) h =
     let e : g ≡ got (g .value) (g .next) (drop (g .next) bs) = λ k. record { value = g .value; next = g .next; rest = s .behind k } in
     wider w v i (s .after) (s .most) (subst (λ x. Spans v (g .next) bs (f x)) (sym e) (h (g .value) (g .next) (s .after) (s .within)))
-bind w v f (points k i p q) h = points k i (omega arith) q
+span-bind w v f (points k i p q) h = points k i (omega arith) q
 
 -- a test on the way
-check : {A : Type 0} {w i : ℕ} {bs : List ℕ} {o : Outcome (Got A)} (t : Bool) (k f : ℕ) → f ≤ i → i ≤ length bs → Spans w i bs o → Spans w i bs (_>>_ (demand t k f) o)
+pub span-test : {A : Type 0} {w i : ℕ} {bs : List ℕ} {o : Outcome (Got A)} (t : Bool) (k f : ℕ) → f ≤ i → i ≤ length bs → Spans w i bs o → Spans w i bs (_>>_ (demand t k f) o)
 unfolding _>>_ demand
-check true k f l m s = s
-check false k f l m s = points k f (omega arith) (omega arith)
+span-test true k f l m s = s
+span-test false k f l m s = points k f (omega arith) (omega arith)
 
 -- nothing more is taken
-stop : {A : Type 0} (i : ℕ) (bs : List ℕ) (a : A) → i ≤ length bs → Spans 0 i bs (done (got a i (drop i bs)))
-stop i bs a l = ends (got a i (drop i bs)) (record { after = omega arith; most = omega arith; within = l; behind = refl })
+pub span-stop : {A : Type 0} (i : ℕ) (bs : List ℕ) (a : A) → i ≤ length bs → Spans 0 i bs (done (got a i (drop i bs)))
+span-stop i bs a l = ends (got a i (drop i bs)) (record { after = omega arith; most = omega arith; within = l; behind = refl })
 
 -- ---- the readers
 
 module _ (bs : List ℕ) where
-  byte-span : (o i : ℕ) → i ≤ length bs → Spans 1 i bs (byteAt o i (drop i bs))
+  pub byte-span : (o i : ℕ) → i ≤ length bs → Spans 1 i bs (byteAt o i (drop i bs))
   byte-span o i l = go (decLe (length bs) i)
     where
       go : Dec (length bs ≤ i) → Spans 1 i bs (byteAt o i (drop i bs))
@@ -71,49 +71,49 @@ module _ (bs : List ℕ) where
 
   number-span : (w i : ℕ) → i ≤ length bs → Spans w i bs (readNumber w i (drop i bs))
   unfolding readNumber
-  number-span zero i l = stop {A = ℕ} i bs 0 l
+  number-span zero i l = span-stop {A = ℕ} i bs 0 l
   number-span (suc w) i l =
-      longer (omega arith)
-      (bind 1 (w + 0) _ (byte-span 1 i l) (λ b n a m. bind w 0 _ (number-span w n m) (λ r k a h. stop k bs _ h)))
+      span-longer (omega arith)
+      (span-bind 1 (w + 0) _ (byte-span 1 i l) (λ b n a m. span-bind w 0 _ (number-span w n m) (λ r k a h. span-stop k bs _ h)))
 
   field-span : (w low high absent d i : ℕ) → i ≤ length bs → Spans w i bs (readField w low high absent d i (drop i bs))
   unfolding readField
-  field-span w low high absent zero i l = longer (omega arith) (stop i bs absent l)
+  field-span w low high absent zero i l = span-longer (omega arith) (span-stop i bs absent l)
   field-span w low high absent (suc d) i l =
-      longer (omega arith) (bind w 0 _ (number-span w i l) (λ v n a m. check _ 2 i a m (stop n bs v m)))
+      span-longer (omega arith) (span-bind w 0 _ (number-span w i l) (λ v n a m. span-test _ 2 i a m (span-stop n bs v m)))
 
   -- a head takes at most 6 bytes
   pub head-span : Spans 6 0 bs (readHead bs)
   unfolding readHead
   head-span =
-      bind 1 5 _ (byte-span 1 0 (omega arith))
+      span-bind 1 5 _ (byte-span 1 0 (omega arith))
       (λ map n a m.
-      check _ 2 0 (omega arith) m
-      (bind 1 4 _ (field-span 1 1 64 8 _ n m)
+      span-test _ 2 0 (omega arith) m
+      (span-bind 1 4 _ (field-span 1 1 64 8 _ n m)
       (λ places n a m.
-      bind 1 3 _ (field-span 1 1 64 64 _ n m)
-      (λ curves n a m. bind 2 1 _ (field-span 2 1 256 0 _ n m) (λ tests n a m. bind 1 0 _ (field-span 1 1 3 0 _ n m) (λ method n a m. stop n bs _ m))))))
+      span-bind 1 3 _ (field-span 1 1 64 64 _ n m)
+      (λ curves n a m. span-bind 2 1 _ (field-span 2 1 256 0 _ n m) (λ tests n a m. span-bind 1 0 _ (field-span 1 1 3 0 _ n m) (λ method n a m. span-stop n bs _ m))))))
 
   module _ (owed empty unknown curves : ℕ) where
     group-span : (d j i : ℕ) → i ≤ length bs → Spans 1 i bs (readGroup owed empty unknown curves d j i (drop i bs))
     unfolding readGroup
-    group-span zero j i l = longer (omega arith) (stop {A = ℕ} i bs 0 l)
+    group-span zero j i l = span-longer (omega arith) (span-stop {A = ℕ} i bs 0 l)
     group-span (suc d) j i l =
-        bind 1 0 _ (byte-span owed i l) (λ b n a m. check _ empty i a m (check _ unknown i a m (stop n bs _ m)))
+        span-bind 1 0 _ (byte-span owed i l) (λ b n a m. span-test _ empty i a m (span-test _ unknown i a m (span-stop n bs _ m)))
 
     pub groups-span : (k j map s i : ℕ) → i ≤ length bs → Spans k i bs (readGroups owed empty unknown curves k j map s i (drop i bs))
     unfolding readGroups
-    groups-span zero j map s i l = stop i bs s l
+    groups-span zero j map s i l = span-stop i bs s l
     groups-span (suc k) j map s i l =
-        longer (omega arith) (bind 1 k _ (group-span (bit j map) j i l) (λ g n a m. groups-span k (suc j) map (s ∪ g) n m))
+        span-longer (omega arith) (span-bind 1 k _ (group-span (bit j map) j i l) (λ g n a m. groups-span k (suc j) map (s ∪ g) n m))
 
   -- a record takes at most 9
   record-span : (curves i : ℕ) → i ≤ length bs → Spans 9 i bs (readRecord curves i (drop i bs))
   unfolding readRecord
-  record-span curves i l = bind 1 8 _ (byte-span 1 i l) (λ map n a m. groups-span 1 3 4 curves 8 0 map 0 n m)
+  record-span curves i l = span-bind 1 8 _ (byte-span 1 i l) (λ map n a m. groups-span 1 3 4 curves 8 0 map 0 n m)
 
   pub records-span : (curves k : ℕ) (wants : List ℕ) (i : ℕ) → i ≤ length bs → Spans (9 * k) i bs (readRecords curves k wants i (drop i bs))
   unfolding readRecords
-  records-span curves zero wants i l = stop i bs wants l
+  records-span curves zero wants i l = span-stop i bs wants l
   records-span curves (suc k) wants i l =
-      longer (omega arith) (bind 9 (9 * k) _ (record-span curves i l) (λ r n a m. records-span curves k (wants ++ (r ∷ [])) n m))
+      span-longer (omega arith) (span-bind 9 (9 * k) _ (record-span curves i l) (λ r n a m. records-span curves k (wants ++ (r ∷ [])) n m))

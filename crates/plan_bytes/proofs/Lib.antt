@@ -6,6 +6,7 @@
 --     Writing        writing a plan
 --     PlanRoundTrip  writing and reading undo each other
 --     PlanLength     how long plan bytes are
+--     PlanBounds     how large their figures are, and that bytes behind the longest plan change nothing
 --     StepParts      the parts that are fetched are the steps as they are written
 pub mod Reading
 pub mod Steps
@@ -14,4 +15,5 @@ pub mod Fetching
 pub mod Writing
 pub mod PlanRoundTrip
 pub mod PlanLength
+pub mod PlanBounds
 pub mod StepParts

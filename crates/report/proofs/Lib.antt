@@ -9,6 +9,7 @@
 --     Auditing an audit, stage by stage
 --     Reporting the sheet, stage by stage
 --     Fewest   what an audit says: the loads of a plan, and the fewest
+--     AuditLongest what can matter to an audit, and the longest
 pub mod Decimal
 pub mod Digits
 pub mod Curves
@@ -19,3 +20,4 @@ pub mod Fewest
 pub mod Longest
 pub mod Auditing
 pub mod Reporting
+pub mod AuditLongest
