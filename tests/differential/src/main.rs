@@ -843,7 +843,10 @@ fn main() {
         }
         println!("  {:<16}{:>9}", "all", compared[s].iter().sum::<u64>());
     }
-    println!("\noutcomes of the reference (ok, or refusal number; 10 with its figure)");
+    println!(
+        "\noutcomes of the reference (ok, or refusal number; 10 with its figure; 9 of a text with"
+    );
+    println!("what it would have told; for sets the kind of set, or the number asked)");
     let mut missing = Vec::new();
     for (called, outcomes) in OUTCOMES.iter().enumerate() {
         if histogram[called].is_empty() && (function.is_some() || only.is_some()) {
