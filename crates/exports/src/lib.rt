@@ -135,3 +135,127 @@ pub extern "C" fn t_sheet(job: &[u8], out: &mut [u8]) -> u64 {
 pub extern "C" fn t_audit(job: &[u8], plan: &[u8], out: &mut [u8]) -> u64 {
     packed(report::audit::write_audit(job, plan, out))
 }
+
+// ---- the examinations, the sets in bytes, and the sets
+
+use job::Examined;
+use job::set_bytes::GroupRead;
+
+// 0 where the examination is passed.
+fn examined(e: Examined) -> u64 {
+    match e {
+        Examined::Passed => 0,
+        Examined::Refused(r) => packed(Counted::Refused(r)),
+    }
+}
+
+fn digit(b: bool) -> u64 {
+    if b { 1 } else { 0 }
+}
+
+#[no_mangle]
+pub extern "C" fn t_examine(places: usize, curves: usize, wants: &[u64]) -> u64 {
+    examined(job::examine(places, curves, wants))
+}
+
+#[no_mangle]
+pub extern "C" fn t_examine_by(places: usize, curves: usize, method: usize, wants: &[u64]) -> u64 {
+    examined(job::examine_by(places, curves, method, wants))
+}
+
+#[no_mangle]
+pub extern "C" fn t_examine_counts(curves: usize, tests: usize) -> u64 {
+    examined(job::examine_counts(curves, tests))
+}
+
+#[no_mangle]
+pub extern "C" fn t_examine_sizes(places: usize, wants: &[u64]) -> u64 {
+    examined(job::examine_sizes(places, wants))
+}
+
+// The answer's case: 0 curves, which go to `set`; 1 owed, 2 empty, 3 unknown.
+#[no_mangle]
+pub extern "C" fn t_read_group(
+    rest: &[u8],
+    at: usize,
+    group: usize,
+    curves: usize,
+    set: &mut [u64],
+) -> u64 {
+    match job::set_bytes::read_group(rest, at, group, curves) {
+        GroupRead::Owed => 1,
+        GroupRead::Empty => 2,
+        GroupRead::Unknown => 3,
+        GroupRead::Curves(s) => {
+            if 0 < set.len() {
+                set[0] = s;
+            }
+            0
+        }
+    }
+}
+
+#[no_mangle]
+pub extern "C" fn t_group_map(s: u64) -> u64 {
+    job::set_bytes::group_map(s) as u64
+}
+
+#[no_mangle]
+pub extern "C" fn t_set_len(s: u64) -> u64 {
+    job::set_bytes::set_len(s) as u64
+}
+
+#[no_mangle]
+pub extern "C" fn t_put_set(s: u64, out: &mut [u8]) -> u64 {
+    job::set_bytes::put_set(s, out) as u64
+}
+
+#[no_mangle]
+pub extern "C" fn t_size(s: u64) -> u64 {
+    bitset::size(s) as u64
+}
+
+#[no_mangle]
+pub extern "C" fn t_lowest(s: u64) -> u64 {
+    bitset::lowest(s) as u64
+}
+
+#[no_mangle]
+pub extern "C" fn t_union(a: u64, b: u64) -> u64 {
+    bitset::union(a, b)
+}
+
+#[no_mangle]
+pub extern "C" fn t_common(a: u64, b: u64) -> u64 {
+    bitset::common(a, b)
+}
+
+#[no_mangle]
+pub extern "C" fn t_without(a: u64, b: u64) -> u64 {
+    bitset::without(a, b)
+}
+
+#[no_mangle]
+pub extern "C" fn t_single(k: usize) -> u64 {
+    bitset::single(k)
+}
+
+#[no_mangle]
+pub extern "C" fn t_has(s: u64, k: usize) -> u64 {
+    digit(bitset::has(s, k))
+}
+
+#[no_mangle]
+pub extern "C" fn t_without_lowest(s: u64) -> u64 {
+    bitset::without_lowest(s)
+}
+
+#[no_mangle]
+pub extern "C" fn t_inside(a: u64, b: u64) -> u64 {
+    digit(bitset::inside(a, b))
+}
+
+#[no_mangle]
+pub extern "C" fn t_below(n: usize) -> u64 {
+    bitset::below(n)
+}

@@ -44,7 +44,25 @@ fn plan_passes_and_loads_least() {
             Some(made.count),
             "{places} places, {curves} curves, wants {wants:?}, order {order:?}"
         );
+        assert_eq!(fewest_loads(places, &wants, &order), made.count);
     }
+}
+
+#[test]
+fn the_stays_tell_the_loads_of_our_plan() {
+    let mut random = Random::new(12);
+    let mut planned = 0;
+    for round in 0..3_000 {
+        let size = if round < 20 { Size::Full } else { Size::Small };
+        let job = generate::job(&mut random, size);
+        let tests = job.wants.len();
+        let order = permutation(&mut random, tests);
+        if let Ok(made) = plan(job.places, job.curves, &job.wants, &order, tests, tests) {
+            planned += 1;
+            assert_eq!(fewest_loads(job.places, &job.wants, &order), made.count);
+        }
+    }
+    assert!(planned > 2_000);
 }
 
 #[test]

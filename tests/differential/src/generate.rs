@@ -70,11 +70,92 @@ pub enum Case {
     },
     Sheet {
         job: Vec<u8>,
+        out_len: usize,
+    },
+    Audit {
+        job: Vec<u8>,
+        plan: Vec<u8>,
+        out_len: usize,
+    },
+    Examine {
+        places: usize,
+        curves: usize,
+        wants: Vec<u64>,
+    },
+    ExamineBy {
+        places: usize,
+        curves: usize,
+        method: usize,
+        wants: Vec<u64>,
+    },
+    ExamineCounts {
+        curves: usize,
+        tests: usize,
+    },
+    ExamineSizes {
+        places: usize,
+        wants: Vec<u64>,
+    },
+    ReadGroup {
+        rest: Vec<u8>,
+        at: usize,
+        group: usize,
+        curves: usize,
+    },
+    GroupMap {
+        set: u64,
+    },
+    SetLen {
+        set: u64,
+    },
+    PutSet {
+        set: u64,
+        out_len: usize,
+    },
+    /// A function on one set, two sets, a set and a number, or a number.
+    Sets {
+        function: SetFunction,
+        a: u64,
+        b: u64,
+        k: usize,
     },
 }
 
-/// The functions' names, in the order of the variants above.
-pub const FUNCTIONS: [&str; 10] = [
+#[derive(Clone, Copy, Debug, PartialEq, Eq)]
+pub enum SetFunction {
+    Size,
+    Lowest,
+    Union,
+    Common,
+    Without,
+    Single,
+    Has,
+    WithoutLowest,
+    Inside,
+    Below,
+}
+
+const SET_FUNCTIONS: [SetFunction; 10] = [
+    SetFunction::Size,
+    SetFunction::Lowest,
+    SetFunction::Union,
+    SetFunction::Common,
+    SetFunction::Without,
+    SetFunction::Single,
+    SetFunction::Has,
+    SetFunction::WithoutLowest,
+    SetFunction::Inside,
+    SetFunction::Below,
+];
+
+/// The number of the first of them among all functions.
+const FIRST_SET: usize = 19;
+
+/// The functions' names, in the order of the variants above. `sheet` is `report::write_report`,
+/// `audit` is `report::audit::write_audit`. `curveplan::number_of` and `curveplan::figure_of` have
+/// no cases of their own: every refusal of the others is answered, or printed, through them, and
+/// each of the twelve refusals occurs.
+pub const FUNCTIONS: [&str; 29] = [
     "read_job",
     "write_job",
     "order_tests",
@@ -85,10 +166,34 @@ pub const FUNCTIONS: [&str; 10] = [
     "step_bytes",
     "curveplan_plan",
     "sheet",
+    "audit",
+    "examine",
+    "examine_by",
+    "examine_counts",
+    "examine_sizes",
+    "read_group",
+    "group_map",
+    "set_len",
+    "put_set",
+    "size",
+    "lowest",
+    "union",
+    "common",
+    "without",
+    "single",
+    "has",
+    "without_lowest",
+    "inside",
+    "below",
 ];
 
-/// How often each function gets a case, of 100.
-const SHARES: [usize; 10] = [14, 8, 12, 12, 11, 9, 12, 6, 12, 4];
+/// How often each function gets a case, of 1,000.
+const SHARES: [usize; 29] = [
+    112, 64, 96, 96, 88, 72, 96, 48, 96, 44, 50, // bytes, orders, plans and texts
+    14, 14, 10, 14, // examinations
+    20, 6, 6, 14, // sets in bytes
+    4, 4, 4, 4, 4, 4, 4, 4, 4, 4, // sets
+];
 
 impl Case {
     pub fn function(&self) -> usize {
@@ -103,6 +208,16 @@ impl Case {
             Case::StepBytes { .. } => 7,
             Case::Call { .. } => 8,
             Case::Sheet { .. } => 9,
+            Case::Audit { .. } => 10,
+            Case::Examine { .. } => 11,
+            Case::ExamineBy { .. } => 12,
+            Case::ExamineCounts { .. } => 13,
+            Case::ExamineSizes { .. } => 14,
+            Case::ReadGroup { .. } => 15,
+            Case::GroupMap { .. } => 16,
+            Case::SetLen { .. } => 17,
+            Case::PutSet { .. } => 18,
+            Case::Sets { function, .. } => FIRST_SET + *function as usize,
         }
     }
 
@@ -189,18 +304,61 @@ impl Case {
                 number("position", *position);
             }
             Case::Call { plan_len, .. } => number("plan_len", *plan_len),
-            Case::Sheet { .. } => {}
+            Case::Sheet { out_len, .. } | Case::Audit { out_len, .. } => {
+                number("out_len", *out_len)
+            }
+            Case::Examine { places, curves, .. } => {
+                number("places", *places);
+                number("curves", *curves);
+            }
+            Case::ExamineBy {
+                places,
+                curves,
+                method,
+                ..
+            } => {
+                number("places", *places);
+                number("curves", *curves);
+                number("method", *method);
+            }
+            Case::ExamineCounts { curves, tests } => {
+                number("curves", *curves);
+                number("tests", *tests);
+            }
+            Case::ExamineSizes { places, .. } => number("places", *places),
+            Case::ReadGroup {
+                at, group, curves, ..
+            } => {
+                number("at", *at);
+                number("group", *group);
+                number("curves", *curves);
+            }
+            Case::GroupMap { .. } | Case::SetLen { .. } => {}
+            Case::PutSet { out_len, .. } => number("out_len", *out_len),
+            Case::Sets { k, .. } => number("k", *k),
         }
         let mut list = |name: &str, entries: Vec<String>| {
             let _ = writeln!(text, "  {name} ({}) = {}", entries.len(), entries.join(" "));
         };
         match self {
-            Case::ReadJob { job, .. } | Case::Call { job, .. } | Case::Sheet { job } => {
+            Case::ReadJob { job, .. } | Case::Call { job, .. } | Case::Sheet { job, .. } => {
                 list("job", hex_bytes(job))
             }
-            Case::WriteJob { wants, .. } | Case::OrderTests { wants, .. } => {
-                list("wants", hex_sets(wants))
+            Case::Audit { job, plan, .. } => {
+                list("job", hex_bytes(job));
+                list("plan", hex_bytes(plan));
             }
+            Case::WriteJob { wants, .. }
+            | Case::OrderTests { wants, .. }
+            | Case::Examine { wants, .. }
+            | Case::ExamineBy { wants, .. }
+            | Case::ExamineSizes { wants, .. } => list("wants", hex_sets(wants)),
+            Case::ExamineCounts { .. } => {}
+            Case::ReadGroup { rest, .. } => list("rest", hex_bytes(rest)),
+            Case::GroupMap { set } | Case::SetLen { set } | Case::PutSet { set, .. } => {
+                list("set", hex_sets(&[*set]))
+            }
+            Case::Sets { a, b, .. } => list("a, b", hex_sets(&[*a, *b])),
             Case::Plan { wants, order, .. } => {
                 list("wants", hex_sets(wants));
                 list("order", hex_order(order));
@@ -246,6 +404,9 @@ pub fn hex_order(list: &[u16]) -> Vec<String> {
 
 // ---------------------------------------------------------------------------------------------
 // Jobs
+
+/// Room for every sheet: 256 lines of at most 420 bytes, and two short ones.
+pub const SHEET: usize = 110_000;
 
 /// How large a case is.
 #[derive(Clone, Copy, Debug, PartialEq, Eq)]
@@ -373,6 +534,33 @@ pub fn job(random: &mut Random, size: Size) -> Job {
         places,
         curves,
         method,
+        wants,
+    }
+}
+
+/// A job for method 3: two families of wide tests with curves of their own and one curve that some
+/// tests of both want. So each family becomes a package of several full ones, and the one curve
+/// tells at the end which ends of the two are joined.
+fn flipping_job(random: &mut Random) -> Job {
+    let places = random.between(3, 6);
+    let own = places + random.between(1, 3);
+    let link = 2 * own;
+    let mut wants = Vec::new();
+    for family in 0..2 {
+        for _ in 0..random.between(2, 6) {
+            let number = random.between(2, places - 1);
+            let mut set = random_set(random, own, number) << (own * family);
+            if random.chance(1, 3) {
+                set |= 1 << link;
+            }
+            wants.push(set);
+        }
+    }
+    random.shuffle(&mut wants);
+    Job {
+        places,
+        curves: link + 1,
+        method: 3,
         wants,
     }
 }
@@ -910,22 +1098,195 @@ fn any_plan_bytes(random: &mut Random, size: Size) -> (usize, usize, Vec<u8>) {
     (curves, tests, bytes)
 }
 
+/// Job bytes and plan bytes for an audit: a plan of the job, ours or another, with faults in the
+/// steps, in the bytes of either or of both, or with the bytes of another job.
+fn audited(random: &mut Random, size: Size) -> (Vec<u8>, Vec<u8>) {
+    let job = job(random, size);
+    let tests = job.wants.len();
+    let (mut order, mut drops, mut loads) = some_plan(random, &job);
+    if random.chance(1, 3) {
+        spoil_plan(random, &mut drops, &mut loads, job.curves);
+        // In bytes every step has its sets.
+        drops.resize(tests, 0);
+        loads.resize(tests, 0);
+    }
+    if random.chance(1, 8) {
+        let at = random.below(tests);
+        order[at] = random.pick(&order);
+    }
+    let mut bytes = job_bytes(&job);
+    let mut plan = reference::plan_bytes(&order, &drops, &loads);
+    match random.below(14) {
+        0..=7 => {}
+        8 => damage(random, &mut plan),
+        9 => {
+            damage(random, &mut plan);
+            damage(random, &mut plan);
+        }
+        10 => damage(random, &mut bytes),
+        11 => {
+            damage(random, &mut bytes);
+            damage(random, &mut plan);
+        }
+        _ => bytes = any_job_bytes(random, size),
+    }
+    (bytes, plan)
+}
+
+// ---------------------------------------------------------------------------------------------
+// Sets and numbers
+
+const EDGE_SETS: [u64; 14] = [
+    0,
+    0,
+    1,
+    2,
+    3,
+    0xff,
+    0xff00,
+    1 << 62,
+    1 << 63,
+    u64::MAX >> 1,
+    u64::MAX - 1,
+    u64::MAX,
+    u64::MAX,
+    0x8000_0000_0000_0001,
+];
+
+const EDGE_NUMBERS: [usize; 24] = [
+    0,
+    1,
+    7,
+    8,
+    31,
+    32,
+    62,
+    63,
+    63,
+    64,
+    64,
+    65,
+    65,
+    66,
+    127,
+    128,
+    255,
+    256,
+    1 << 32,
+    (1 << 32) + 1,
+    1 << 61,
+    1 << 63,
+    usize::MAX - 1,
+    usize::MAX,
+];
+
+/// Any 64-bit number: an edge, dense, sparse, or with some groups of eight empty.
+fn any_set(random: &mut Random) -> u64 {
+    match random.below(4) {
+        0 => random.pick(&EDGE_SETS),
+        1 => random.word(),
+        2 => random.word() & random.word() & random.word(),
+        _ => {
+            let mut set = 0;
+            for group in 0..8 {
+                if random.chance(1, 2) {
+                    set |= (random.byte() as u64) << (8 * group);
+                }
+            }
+            set
+        }
+    }
+}
+
+/// A set beside another: the same, all it lacks, a part of it, more than it, or any.
+fn beside(random: &mut Random, set: u64) -> u64 {
+    match random.below(8) {
+        0 => set,
+        1 => !set,
+        2 => some_of(random, set),
+        3 => set | random.word(),
+        _ => any_set(random),
+    }
+}
+
+fn any_number(random: &mut Random) -> usize {
+    if random.chance(1, 2) {
+        random.pick(&EDGE_NUMBERS)
+    } else {
+        random.below(64)
+    }
+}
+
+/// A group byte and where it stands.
+fn group_case(random: &mut Random) -> Case {
+    let length = random.below(7);
+    let rest: Vec<u8> = (0..length)
+        .map(|_| {
+            if random.chance(1, 2) {
+                random.byte()
+            } else {
+                random.pick(&[0, 0, 1, 2, 0x10, 0x7f, 0x80, 0xff])
+            }
+        })
+        .collect();
+    let at = match random.below(8) {
+        0 => length,
+        1 => random.pick(&[length + 1, 255, 1 << 32, usize::MAX]),
+        _ => random.below(length.max(1)),
+    };
+    let group = if random.chance(1, 6) {
+        random.pick(&[8, 9, 15, 16, 31, 32, 255, 1 << 32, 1 << 61, usize::MAX])
+    } else {
+        random.below(8)
+    };
+    let curves = match random.below(4) {
+        0 => random.pick(&EDGE_NUMBERS),
+        1 => 64,
+        2 => random.between(1, 64),
+        // In the middle of the group.
+        _ => 8 * group.min(8) + random.between(0, 8),
+    };
+    Case::ReadGroup {
+        rest,
+        at,
+        group,
+        curves,
+    }
+}
+
+/// A job with faults in its numbers and wants; more often than not with one at least.
+fn spoilt_job(random: &mut Random, size: Size) -> Job {
+    let mut job = job(random, size);
+    for _ in 0..3 {
+        let Job {
+            places,
+            curves,
+            method,
+            wants,
+        } = &mut job;
+        if !wants.is_empty() {
+            spoil_numbers(random, places, curves, method, wants);
+        }
+    }
+    job
+}
+
 // ---------------------------------------------------------------------------------------------
 // Cases
 
-/// The first cases of a run go through every function on the bounds.
-pub const EDGE_CASES: u64 = 400;
+/// The first cases of a run go through every function on the bounds, 40 times each.
+pub const EDGE_CASES: u64 = 40 * FUNCTIONS.len() as u64;
 
 /// The case with this number; of this one function, if it is given.
 pub fn case(seed: u64, number: u64, only: Option<usize>) -> Case {
     let mut random = Random::of_case(seed, number);
     let random = &mut random;
     if number < EDGE_CASES {
-        let function = only.unwrap_or((number % 10) as usize);
+        let function = only.unwrap_or(number as usize % FUNCTIONS.len());
         let size = random.pick(&[Size::Edge, Size::Edge, Size::Edge, Size::Full]);
         return case_of(function, size, random);
     }
-    let mut roll = random.below(100);
+    let mut roll = random.below(1_000);
     let mut function = 0;
     while roll >= SHARES[function] {
         roll -= SHARES[function];
@@ -970,12 +1331,17 @@ pub fn case_of(function: usize, size: Size, random: &mut Random) -> Case {
             }
         }
         2 => {
+            let job = if random.chance(1, 10) {
+                flipping_job(random)
+            } else {
+                job(random, size)
+            };
             let Job {
                 mut places,
                 mut curves,
                 mut method,
                 mut wants,
-            } = job(random, size);
+            } = job;
             spoil_numbers(random, &mut places, &mut curves, &mut method, &mut wants);
             let order_len = if random.chance(1, 3) {
                 lent(random, wants.len())
@@ -1143,8 +1509,117 @@ pub fn case_of(function: usize, size: Size, random: &mut Random) -> Case {
             };
             Case::Call { job, plan_len }
         }
-        _ => Case::Sheet {
-            job: any_job_bytes(random, size),
+        9 => {
+            let job = any_job_bytes(random, size);
+            // Ordering it twice may be slow: see the C call.
+            let slow = job.len() > 600 && job[0] & 8 == 8;
+            let out_len = if slow || random.chance(1, 4) {
+                random.pick(&[SHEET, SHEET, 1_000, 0])
+            } else {
+                lent(random, reference::sheet(&job).len())
+            };
+            Case::Sheet { job, out_len }
+        }
+        10 => {
+            let (job, plan) = audited(random, size);
+            let needed = reference::audit_text(&reference::audit(&job, &plan)).len();
+            Case::Audit {
+                job,
+                plan,
+                out_len: lent(random, needed),
+            }
+        }
+        11 => {
+            let Job {
+                places,
+                curves,
+                wants,
+                ..
+            } = spoilt_job(random, size);
+            Case::Examine {
+                places,
+                curves,
+                wants,
+            }
+        }
+        12 => {
+            let Job {
+                places,
+                curves,
+                method,
+                wants,
+            } = spoilt_job(random, size);
+            Case::ExamineBy {
+                places,
+                curves,
+                method,
+                wants,
+            }
+        }
+        13 => {
+            let curves = if random.chance(1, 3) {
+                any_number(random)
+            } else {
+                random.between(1, 64)
+            };
+            let tests = match random.below(4) {
+                0 => any_number(random),
+                1 => random.pick(&[0, 1, 255, 256, 257, 258, 512]),
+                _ => random.between(1, 256),
+            };
+            Case::ExamineCounts { curves, tests }
+        }
+        14 => {
+            let Job {
+                places, mut wants, ..
+            } = job(random, size);
+            // Any list is examined, however long, and any sets.
+            match random.below(12) {
+                0 => wants.clear(),
+                1 => wants.resize(random.between(257, 300), any_set(random)),
+                2 | 3 => {
+                    for _ in 0..random.between(1, 2) {
+                        let test = random.below(wants.len());
+                        wants[test] = any_set(random);
+                    }
+                }
+                _ => {}
+            }
+            let places = if random.chance(1, 3) {
+                any_number(random)
+            } else {
+                places
+            };
+            Case::ExamineSizes { places, wants }
+        }
+        15 => group_case(random),
+        16 => Case::GroupMap {
+            set: any_set(random),
         },
+        17 => Case::SetLen {
+            set: any_set(random),
+        },
+        18 => {
+            let set = any_set(random);
+            let needed = crate::parts::set_bytes(set).len();
+            Case::PutSet {
+                set,
+                out_len: lent(random, needed),
+            }
+        }
+        _ => {
+            let mut a = any_set(random);
+            let mut b = beside(random, a);
+            if random.chance(1, 8) {
+                a = random.pick(&[0, u64::MAX]);
+                b = random.pick(&[0, u64::MAX]);
+            }
+            Case::Sets {
+                function: SET_FUNCTIONS[function - FIRST_SET],
+                a,
+                b,
+                k: any_number(random),
+            }
+        }
     }
 }

@@ -1,8 +1,9 @@
-//! An independent implementation of the curve planner's paper (`reference`), a fast one as the
-//! benchmark's baseline (`tuned`), random inputs (`generate`) and the library under test
-//! (`product`, only with the feature of that name).
+//! An independent implementation of the curve planner's paper (`reference`) and of the small public
+//! functions below it (`parts`), a fast one as the benchmark's baseline (`tuned`), random inputs
+//! (`generate`) and the library under test (`product`, only with the feature of that name).
 
 pub mod generate;
+pub mod parts;
 pub mod random;
 pub mod reference;
 pub mod tuned;

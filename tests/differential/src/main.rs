@@ -6,9 +6,10 @@
 //!
 //! Without the feature `product` the tuned implementation of the C call is compared, and the
 //! other functions are only counted. Ends with 1 at the first difference, with 2 if some outcome
-//! that a function can have was never reached.
+//! that a function can have, or one of method 3's flips, was never reached.
 
-use differential::generate::{self, Case, FUNCTIONS};
+use differential::generate::{self, Case, SetFunction, FUNCTIONS};
+use differential::parts::{self, GroupRead};
 use differential::random::{mix, Random};
 use differential::reference::{self, Refusal};
 use differential::tuned;
@@ -45,6 +46,18 @@ trait Subject {
         -> Option<u64> { None }
     fn call(&self, _job: &[u8], _plan: &mut [u8]) -> Option<u64> { None }
     fn sheet(&self, _job: &[u8], _out: &mut [u8]) -> Option<u64> { None }
+    fn audit(&self, _job: &[u8], _plan: &[u8], _out: &mut [u8]) -> Option<u64> { None }
+    fn examine(&self, _places: usize, _curves: usize, _wants: &[u64]) -> Option<u64> { None }
+    fn examine_by(&self, _places: usize, _curves: usize, _method: usize, _wants: &[u64])
+        -> Option<u64> { None }
+    fn examine_counts(&self, _curves: usize, _tests: usize) -> Option<u64> { None }
+    fn examine_sizes(&self, _places: usize, _wants: &[u64]) -> Option<u64> { None }
+    fn read_group(&self, _rest: &[u8], _at: usize, _group: usize, _curves: usize,
+        _set: &mut [u64]) -> Option<u64> { None }
+    fn group_map(&self, _set: u64) -> Option<u64> { None }
+    fn set_len(&self, _set: u64) -> Option<u64> { None }
+    fn put_set(&self, _set: u64, _out: &mut [u8]) -> Option<u64> { None }
+    fn sets(&self, _function: SetFunction, _a: u64, _b: u64, _k: usize) -> Option<u64> { None }
 }
 
 struct Tuned;
@@ -104,6 +117,38 @@ impl Subject for Product {
     fn sheet(&self, job: &[u8], out: &mut [u8]) -> Option<u64> {
         Some(product::sheet(job, out))
     }
+    fn audit(&self, job: &[u8], plan: &[u8], out: &mut [u8]) -> Option<u64> {
+        Some(product::audit(job, plan, out))
+    }
+    fn examine(&self, places: usize, curves: usize, wants: &[u64]) -> Option<u64> {
+        Some(product::examine(places, curves, wants))
+    }
+    fn examine_by(&self, places: usize, curves: usize, method: usize, wants: &[u64])
+        -> Option<u64> {
+        Some(product::examine_by(places, curves, method, wants))
+    }
+    fn examine_counts(&self, curves: usize, tests: usize) -> Option<u64> {
+        Some(product::examine_counts(curves, tests))
+    }
+    fn examine_sizes(&self, places: usize, wants: &[u64]) -> Option<u64> {
+        Some(product::examine_sizes(places, wants))
+    }
+    fn read_group(&self, rest: &[u8], at: usize, group: usize, curves: usize,
+        set: &mut [u64]) -> Option<u64> {
+        Some(product::read_group(rest, at, group, curves, set))
+    }
+    fn group_map(&self, set: u64) -> Option<u64> {
+        Some(product::group_map(set))
+    }
+    fn set_len(&self, set: u64) -> Option<u64> {
+        Some(product::set_len(set))
+    }
+    fn put_set(&self, set: u64, out: &mut [u8]) -> Option<u64> {
+        Some(product::put_set(set, out))
+    }
+    fn sets(&self, function: SetFunction, a: u64, b: u64, k: usize) -> Option<u64> {
+        Some(product::sets(function, a, b, k))
+    }
 }
 
 // ---------------------------------------------------------------------------------------------
@@ -111,9 +156,6 @@ impl Subject for Product {
 
 /// Entries kept on both sides of a lent list; they must not change either.
 const MARGIN: usize = 8;
-
-/// Room for every sheet: 256 lines of at most 420 bytes, and two short ones.
-const SHEET: usize = 110_000;
 
 trait Entry: Copy + PartialEq + std::fmt::LowerHex {
     fn pattern(value: u64) -> Self;
@@ -221,8 +263,77 @@ fn named(no: &Refusal) -> String {
     }
 }
 
+/// The outcome's name of a text in a buffer of this length: what the text tells, or 9 and what
+/// the text would have told.
+fn text_outcome(text: &str, out_len: usize) -> String {
+    let refused = text.strip_prefix("refused ");
+    match (out_len < text.len(), refused) {
+        (true, None) => "9:plan".to_string(),
+        (true, Some(_)) => "9:refusal".to_string(),
+        (false, None) => "ok".to_string(),
+        (false, Some(rest)) => rest.split(' ').next().unwrap().to_string(),
+    }
+}
+
+fn kind_of_set(bits: u64) -> &'static str {
+    match bits {
+        0 => "empty",
+        u64::MAX => "full",
+        _ => "some",
+    }
+}
+
+fn kind_of_number(k: usize) -> &'static str {
+    match k {
+        0 => "at0",
+        1..=62 => "at1-62",
+        63 => "at63",
+        64 => "at64",
+        65 => "at65",
+        usize::MAX => "at-most",
+        _ => "at66+",
+    }
+}
+
+/// The answer of a function on sets, and the outcome's name.
+fn set_answer(function: SetFunction, a: u64, b: u64, k: usize) -> (u64, String) {
+    let yes = |answer: bool| if answer { "yes" } else { "no" };
+    let (answer, name) = match function {
+        SetFunction::Size => (parts::size(a), kind_of_set(a)),
+        SetFunction::Lowest => {
+            let answer = parts::lowest(a);
+            (answer, kind_of_number(answer as usize))
+        }
+        SetFunction::Union | SetFunction::Common | SetFunction::Without => {
+            let answer = match function {
+                SetFunction::Union => parts::union(a, b),
+                SetFunction::Common => parts::common(a, b),
+                _ => parts::without(a, b),
+            };
+            (answer, kind_of_set(answer))
+        }
+        SetFunction::Single => (parts::single(k), kind_of_number(k)),
+        SetFunction::Has => {
+            let answer = parts::has(a, k);
+            return (
+                answer as u64,
+                format!("{}:{}", kind_of_number(k), yes(answer)),
+            );
+        }
+        SetFunction::WithoutLowest => (parts::without_lowest(a), kind_of_set(a)),
+        SetFunction::Inside => {
+            let answer = parts::inside(a, b);
+            (answer as u64, yes(answer))
+        }
+        SetFunction::Below => (parts::below(k), kind_of_number(k)),
+    };
+    (answer, name.to_string())
+}
+
 struct Verdict {
     outcome: String,
+    /// What else the reference met, and how often.
+    notes: Vec<(&'static str, u64)>,
     /// For each subject: not offered, alike, or the difference.
     results: Vec<Option<Result<(), String>>>,
 }
@@ -245,6 +356,7 @@ fn compare(expected: u64, found: u64, lists: &[Option<String>]) -> Result<(), St
 
 fn run(case: &Case, random: &mut Random, subjects: &[Box<dyn Subject>]) -> Verdict {
     let mut results = Vec::new();
+    let mut notes = Vec::new();
     let outcome = match case {
         Case::ReadJob { job, wants_len } => {
             let answer = reference::read_job(job, *wants_len);
@@ -298,9 +410,10 @@ fn run(case: &Case, random: &mut Random, subjects: &[Box<dyn Subject>]) -> Verdi
             wants,
             order_len,
         } => {
-            let answer = reference::order_tests(*places, *curves, *method, wants, *order_len);
-            let number = number_of(&answer, |order| order.len() as u64);
-            let result = answer.clone().unwrap_or_default();
+            let answer = reference::order_and_flips(*places, *curves, *method, wants, *order_len);
+            let number = number_of(&answer, |(order, _)| order.len() as u64);
+            let (result, flips) = answer.clone().unwrap_or_default();
+            notes.extend(FLIPS.into_iter().zip(flips));
             for subject in subjects {
                 let mut order = Lent::new("order", random, *order_len, &result);
                 let found = subject.order_tests(*places, *curves, *method, wants, order.part());
@@ -435,29 +548,169 @@ fn run(case: &Case, random: &mut Random, subjects: &[Box<dyn Subject>]) -> Verdi
             }
             outcome(&answer)
         }
-        Case::Sheet { job } => {
+        Case::Sheet { job, out_len } => {
             let text = reference::sheet(job);
+            let answer = reference::written(&text, *out_len);
+            let number = number_of(&answer, |bytes| bytes.len() as u64);
+            let bytes = answer.unwrap_or_default();
             for subject in subjects {
-                let mut out = Lent::new("out", random, SHEET, text.as_bytes());
+                let mut out = Lent::new("out", random, *out_len, &bytes);
                 let found = subject.sheet(job, out.part());
-                results.push(
-                    found.map(|found| compare(text.len() as u64, found, &[out.difference()])),
-                );
+                results.push(found.map(|found| compare(number, found, &[out.difference()])));
             }
-            match text.strip_prefix("refused ") {
-                None => "ok".to_string(),
-                Some(rest) => rest.split(' ').next().unwrap().to_string(),
+            text_outcome(&text, *out_len)
+        }
+        Case::Audit { job, plan, out_len } => {
+            let audit = reference::audit(job, plan);
+            let text = reference::audit_text(&audit);
+            let answer = reference::written(&text, *out_len);
+            let number = number_of(&answer, |bytes| bytes.len() as u64);
+            let bytes = answer.unwrap_or_default();
+            for subject in subjects {
+                let mut out = Lent::new("out", random, *out_len, &bytes);
+                let found = subject.audit(job, plan, out.part());
+                results.push(found.map(|found| compare(number, found, &[out.difference()])));
+            }
+            let name = text_outcome(&text, *out_len);
+            match audit {
+                Ok(audit) => {
+                    notes.push((TRIED, audit.tried as u64));
+                    if name == "ok" && audit.loads > audit.fewest {
+                        "ok:more".to_string()
+                    } else {
+                        name
+                    }
+                }
+                Err(_) => name,
             }
         }
+        Case::Examine {
+            places,
+            curves,
+            wants,
+        } => {
+            let answer = reference::examine(*places, *curves, wants);
+            let number = number_of(&answer, |_| 0);
+            for subject in subjects {
+                let found = subject.examine(*places, *curves, wants);
+                results.push(found.map(|found| compare(number, found, &[])));
+            }
+            outcome(&answer)
+        }
+        Case::ExamineBy {
+            places,
+            curves,
+            method,
+            wants,
+        } => {
+            let answer = reference::examine_by(*places, *curves, *method, wants);
+            let number = number_of(&answer, |_| 0);
+            for subject in subjects {
+                let found = subject.examine_by(*places, *curves, *method, wants);
+                results.push(found.map(|found| compare(number, found, &[])));
+            }
+            outcome(&answer)
+        }
+        Case::ExamineCounts { curves, tests } => {
+            let answer = reference::examine_counts(*curves, *tests);
+            let number = number_of(&answer, |_| 0);
+            for subject in subjects {
+                let found = subject.examine_counts(*curves, *tests);
+                results.push(found.map(|found| compare(number, found, &[])));
+            }
+            outcome(&answer)
+        }
+        Case::ExamineSizes { places, wants } => {
+            let answer = reference::examine_sizes(*places, wants);
+            let number = number_of(&answer, |_| 0);
+            for subject in subjects {
+                let found = subject.examine_sizes(*places, wants);
+                results.push(found.map(|found| compare(number, found, &[])));
+            }
+            outcome(&answer)
+        }
+        Case::ReadGroup {
+            rest,
+            at,
+            group,
+            curves,
+        } => {
+            let (number, result, name) = match parts::read_group(rest, *at, *group, *curves) {
+                GroupRead::Curves(set) if *curves > 64 => (0, vec![set], "curves:65+"),
+                GroupRead::Curves(set) => (0, vec![set], "curves"),
+                GroupRead::Owed => (1, vec![], "owed"),
+                GroupRead::Empty => (2, vec![], "empty"),
+                GroupRead::Unknown if *group > 7 => (3, vec![], "unknown:8+"),
+                GroupRead::Unknown => (3, vec![], "unknown"),
+            };
+            for subject in subjects {
+                let mut set = Lent::new("set", random, 1, &result);
+                let found = subject.read_group(rest, *at, *group, *curves, set.part());
+                results.push(found.map(|found| compare(number, found, &[set.difference()])));
+            }
+            name.to_string()
+        }
+        Case::GroupMap { set } => {
+            let number = parts::group_map(*set) as u64;
+            for subject in subjects {
+                let found = subject.group_map(*set);
+                results.push(found.map(|found| compare(number, found, &[])));
+            }
+            kind_of_set(*set).to_string()
+        }
+        Case::SetLen { set } => {
+            let number = parts::set_bytes(*set).len() as u64;
+            for subject in subjects {
+                let found = subject.set_len(*set);
+                results.push(found.map(|found| compare(number, found, &[])));
+            }
+            kind_of_set(*set).to_string()
+        }
+        Case::PutSet { set, out_len } => {
+            // The length is answered whether or not the bytes fit.
+            let number = parts::set_bytes(*set).len() as u64;
+            let bytes = parts::put_set(*set, *out_len);
+            for subject in subjects {
+                let mut out = Lent::new("out", random, *out_len, &bytes);
+                let found = subject.put_set(*set, out.part());
+                results.push(found.map(|found| compare(number, found, &[out.difference()])));
+            }
+            if bytes.is_empty() { "short" } else { "ok" }.to_string()
+        }
+        Case::Sets { function, a, b, k } => {
+            let (number, name) = set_answer(*function, *a, *b, *k);
+            for subject in subjects {
+                let found = subject.sets(*function, *a, *b, *k);
+                results.push(found.map(|found| compare(number, found, &[])));
+            }
+            name
+        }
     };
-    Verdict { outcome, results }
+    Verdict {
+        outcome,
+        notes,
+        results,
+    }
 }
 
 // ---------------------------------------------------------------------------------------------
 // The run
 
+const SEED: u64 = 20_260_101;
+const CASES: u64 = 150_000;
+
+/// From this number of cases on, a run ends with 2 if something was never reached.
+const MANY: u64 = 100_000;
+
+/// Which comparison won in the second round of method 3.
+const FLIPS: [&str; 4] = ["tail-head", "tail-tail", "head-head", "head-tail"];
+
+/// The fewest loads of an audit were confirmed by trying every plan.
+const TRIED: &str = "audits with every plan tried";
+
 /// What each function can come out with.
-const OUTCOMES: [&[&str]; 10] = [
+#[rustfmt::skip]
+const OUTCOMES: [&[&str]; FUNCTIONS.len()] = [
     &["ok", "1", "2", "3", "4", "5", "6", "9"],
     &["ok", "5", "9", "10:0", "10:1", "10:2", "10:3", "10:4+"],
     &["ok", "5", "7", "9", "10:0", "10:1", "10:2", "10:3", "10:4+"],
@@ -467,8 +720,31 @@ const OUTCOMES: [&[&str]; 10] = [
     &["ok", "5", "9", "10:1", "10:2", "11"],
     &["part", "empty"],
     &["ok", "1", "2", "3", "4", "5", "6", "7", "9"],
-    &["ok", "1", "2", "3", "4", "5", "6", "7"],
+    &["ok", "1", "2", "3", "4", "5", "6", "7", "9:plan", "9:refusal"],
+    &["ok", "ok:more", "1", "2", "3", "4", "5", "6", "8", "9:plan", "9:refusal", "11", "12"],
+    &["ok", "5", "10:0", "10:1", "10:2", "10:4+"],
+    &["ok", "5", "10:0", "10:1", "10:2", "10:3", "10:4+"],
+    &["ok", "5", "10:1", "10:2"],
+    &["ok", "7"],
+    &["curves", "curves:65+", "owed", "empty", "unknown", "unknown:8+"],
+    &SETS,
+    &SETS,
+    &["ok", "short"],
+    &SETS,
+    &["at0", "at1-62", "at63", "at64"],
+    &SETS,
+    &SETS,
+    &SETS,
+    &NUMBERS,
+    &["at0:yes", "at0:no", "at1-62:yes", "at1-62:no", "at63:yes", "at63:no", "at64:no", "at65:no",
+        "at66+:no", "at-most:no"],
+    &SETS,
+    &["yes", "no"],
+    &NUMBERS,
 ];
+
+const SETS: [&str; 3] = ["empty", "some", "full"];
+const NUMBERS: [&str; 7] = ["at0", "at1-62", "at63", "at64", "at65", "at66+", "at-most"];
 
 fn setting(place: usize, name: &str, default: u64) -> u64 {
     let text = match env::args().nth(place) {
@@ -492,8 +768,8 @@ fn setting(place: usize, name: &str, default: u64) -> u64 {
 }
 
 fn main() {
-    let seed = setting(1, "SEED", 20_260_101);
-    let cases = setting(2, "CASES", 200_000);
+    let seed = setting(1, "SEED", SEED);
+    let cases = setting(2, "CASES", CASES);
     let only = env::var("ONLY")
         .ok()
         .map(|_| setting(usize::MAX, "ONLY", 0));
@@ -517,6 +793,7 @@ fn main() {
 
     let start = Instant::now();
     let mut histogram: Vec<BTreeMap<String, u64>> = vec![BTreeMap::new(); FUNCTIONS.len()];
+    let mut met: BTreeMap<&str, u64> = BTreeMap::new();
     let mut compared = vec![vec![0u64; FUNCTIONS.len()]; subjects.len()];
     let numbers = match only {
         Some(number) => number..number + 1,
@@ -533,6 +810,9 @@ fn main() {
         *histogram[called]
             .entry(verdict.outcome.clone())
             .or_default() += 1;
+        for (name, count) in &verdict.notes {
+            *met.entry(name).or_default() += count;
+        }
         for (s, result) in verdict.results.iter().enumerate() {
             match result {
                 None => {}
@@ -563,7 +843,10 @@ fn main() {
         }
         println!("  {:<16}{:>9}", "all", compared[s].iter().sum::<u64>());
     }
-    println!("\noutcomes of the reference (ok, or refusal number; 10 with its figure)");
+    println!(
+        "\noutcomes of the reference (ok, or refusal number; 10 with its figure; 9 of a text with"
+    );
+    println!("what it would have told; for sets the kind of set, or the number asked)");
     let mut missing = Vec::new();
     for (called, outcomes) in OUTCOMES.iter().enumerate() {
         if histogram[called].is_empty() && (function.is_some() || only.is_some()) {
@@ -585,7 +868,24 @@ fn main() {
             }
         }
     }
-    if only.is_none() && cases >= 20_000 && !missing.is_empty() {
+    if met.contains_key(FLIPS[0]) {
+        let mut line = "method 3, comparisons won:".to_string();
+        for flip in FLIPS {
+            let count = met[flip];
+            line += &format!(" {flip}={count}");
+            if count == 0 {
+                missing.push(flip.to_string());
+            }
+        }
+        println!("{line}");
+    }
+    if let Some(count) = met.get(TRIED) {
+        println!("{TRIED}: {count}");
+        if *count == 0 {
+            missing.push(TRIED.to_string());
+        }
+    }
+    if only.is_none() && cases >= MANY && !missing.is_empty() {
         println!("never reached: {}", missing.join(", "));
         exit(2);
     }

@@ -3,8 +3,10 @@
 //! A slice passes as pointer, then length. Each function answers one number: the count or the
 //! number of tests, or on a refusal `number << 48 | figure`. `curveplan_plan` is the exception:
 //! it is the C host's own call and answers `number * 65536 + figure`. `t_step_bytes` answers
-//! `start * 65536 + count`. `t_sheet` answers the count of the sheet's bytes (a refusal is a sheet
-//! too) and is always lent room enough.
+//! `start * 65536 + count`. `t_sheet` and `t_audit` answer the count of the text's bytes (a refusal
+//! is a text too). The examinations answer 0 or the refusal, `t_read_group` its answer's case.
+
+use crate::generate::SetFunction;
 
 extern "C" {
     fn t_read_job(
@@ -92,6 +94,46 @@ extern "C" {
     ) -> u64;
     fn curveplan_plan(job: *const u8, job_len: usize, plan: *mut u8, plan_len: usize) -> u64;
     fn t_sheet(job: *const u8, job_len: usize, out: *mut u8, out_len: usize) -> u64;
+    fn t_audit(
+        job: *const u8,
+        job_len: usize,
+        plan: *const u8,
+        plan_len: usize,
+        out: *mut u8,
+        out_len: usize,
+    ) -> u64;
+    fn t_examine(places: usize, curves: usize, wants: *const u64, wants_len: usize) -> u64;
+    fn t_examine_by(
+        places: usize,
+        curves: usize,
+        method: usize,
+        wants: *const u64,
+        wants_len: usize,
+    ) -> u64;
+    fn t_examine_counts(curves: usize, tests: usize) -> u64;
+    fn t_examine_sizes(places: usize, wants: *const u64, wants_len: usize) -> u64;
+    fn t_read_group(
+        rest: *const u8,
+        rest_len: usize,
+        at: usize,
+        group: usize,
+        curves: usize,
+        set: *mut u64,
+        set_len: usize,
+    ) -> u64;
+    fn t_group_map(s: u64) -> u64;
+    fn t_set_len(s: u64) -> u64;
+    fn t_put_set(s: u64, out: *mut u8, out_len: usize) -> u64;
+    fn t_size(s: u64) -> u64;
+    fn t_lowest(s: u64) -> u64;
+    fn t_union(a: u64, b: u64) -> u64;
+    fn t_common(a: u64, b: u64) -> u64;
+    fn t_without(a: u64, b: u64) -> u64;
+    fn t_single(k: usize) -> u64;
+    fn t_has(s: u64, k: usize) -> u64;
+    fn t_without_lowest(s: u64) -> u64;
+    fn t_inside(a: u64, b: u64) -> u64;
+    fn t_below(n: usize) -> u64;
 }
 
 // Safety of all calls below: every pointer comes from a live slice and goes with that slice's own
@@ -259,4 +301,76 @@ pub fn call(job: &[u8], plan: &mut [u8]) -> u64 {
 
 pub fn sheet(job: &[u8], out: &mut [u8]) -> u64 {
     unsafe { t_sheet(job.as_ptr(), job.len(), out.as_mut_ptr(), out.len()) }
+}
+
+pub fn audit(job: &[u8], plan: &[u8], out: &mut [u8]) -> u64 {
+    unsafe {
+        t_audit(
+            job.as_ptr(),
+            job.len(),
+            plan.as_ptr(),
+            plan.len(),
+            out.as_mut_ptr(),
+            out.len(),
+        )
+    }
+}
+
+pub fn examine(places: usize, curves: usize, wants: &[u64]) -> u64 {
+    unsafe { t_examine(places, curves, wants.as_ptr(), wants.len()) }
+}
+
+pub fn examine_by(places: usize, curves: usize, method: usize, wants: &[u64]) -> u64 {
+    unsafe { t_examine_by(places, curves, method, wants.as_ptr(), wants.len()) }
+}
+
+pub fn examine_counts(curves: usize, tests: usize) -> u64 {
+    unsafe { t_examine_counts(curves, tests) }
+}
+
+pub fn examine_sizes(places: usize, wants: &[u64]) -> u64 {
+    unsafe { t_examine_sizes(places, wants.as_ptr(), wants.len()) }
+}
+
+pub fn read_group(rest: &[u8], at: usize, group: usize, curves: usize, set: &mut [u64]) -> u64 {
+    unsafe {
+        t_read_group(
+            rest.as_ptr(),
+            rest.len(),
+            at,
+            group,
+            curves,
+            set.as_mut_ptr(),
+            set.len(),
+        )
+    }
+}
+
+pub fn group_map(s: u64) -> u64 {
+    unsafe { t_group_map(s) }
+}
+
+pub fn set_len(s: u64) -> u64 {
+    unsafe { t_set_len(s) }
+}
+
+pub fn put_set(s: u64, out: &mut [u8]) -> u64 {
+    unsafe { t_put_set(s, out.as_mut_ptr(), out.len()) }
+}
+
+pub fn sets(function: SetFunction, a: u64, b: u64, k: usize) -> u64 {
+    unsafe {
+        match function {
+            SetFunction::Size => t_size(a),
+            SetFunction::Lowest => t_lowest(a),
+            SetFunction::Union => t_union(a, b),
+            SetFunction::Common => t_common(a, b),
+            SetFunction::Without => t_without(a, b),
+            SetFunction::Single => t_single(k),
+            SetFunction::Has => t_has(a, k),
+            SetFunction::WithoutLowest => t_without_lowest(a),
+            SetFunction::Inside => t_inside(a, b),
+            SetFunction::Below => t_below(k),
+        }
+    }
 }

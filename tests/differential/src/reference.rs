@@ -277,6 +277,26 @@ fn none_too_wide(places: usize, wants: &[Curves]) -> Answer<()> {
     Ok(())
 }
 
+/// 5 and 10 of places, curves and wants.
+pub fn examine(places: usize, curves: usize, wants: &[u64]) -> Answer<()> {
+    handed(Some(places), curves, None, wants)
+}
+
+/// 5 and 10 of places, curves, method and wants.
+pub fn examine_by(places: usize, curves: usize, method: usize, wants: &[u64]) -> Answer<()> {
+    handed(Some(places), curves, Some(method), wants)
+}
+
+/// 5 and 10 of curves and a number of tests.
+pub fn examine_counts(curves: usize, tests: usize) -> Answer<()> {
+    handed_counts(curves, tests)
+}
+
+/// 7 alone, of any list.
+pub fn examine_sizes(places: usize, wants: &[u64]) -> Answer<()> {
+    none_too_wide(places, &sets_of(wants))
+}
+
 /// Refusal 8.
 fn each_test_once(tests: usize, order: &[u16]) -> Answer<()> {
     let mut faults = Vec::new();
@@ -308,19 +328,36 @@ pub fn order_tests(
     wants: &[u64],
     order_len: usize,
 ) -> Answer<Vec<u16>> {
+    let (order, _) = order_and_flips(places, curves, method, wants, order_len)?;
+    Ok(order)
+}
+
+/// How often each comparison of method 3's second round won: tail-head, tail-tail, head-head,
+/// head-tail.
+pub type Flips = [u64; 4];
+
+/// The order, and the flips on the way to it.
+pub fn order_and_flips(
+    places: usize,
+    curves: usize,
+    method: usize,
+    wants: &[u64],
+    order_len: usize,
+) -> Answer<(Vec<u16>, Flips)> {
     handed(Some(places), curves, Some(method), wants)?;
     let sets = sets_of(wants);
     none_too_wide(places, &sets)?;
     if order_len < wants.len() {
         return refuse(9, wants.len());
     }
+    let mut flips = Flips::default();
     let order = match method {
         0 => (0..wants.len()).collect(),
         1 => reverse_cuthill_mckee(&sets),
         2 => spanning_tree(&sets),
-        _ => packages(places, &sets),
+        _ => packages(places, &sets, &mut flips),
     };
-    Ok(order.iter().map(|&test| test as u16).collect())
+    Ok((order.iter().map(|&test| test as u16).collect(), flips))
 }
 
 /// The weight of every two tests; a test has none with itself.
@@ -446,7 +483,7 @@ fn reversed(package: &[usize]) -> Vec<usize> {
     package.iter().rev().copied().collect()
 }
 
-fn packages(places: usize, wants: &[Curves]) -> Vec<usize> {
+fn packages(places: usize, wants: &[Curves], flips: &mut Flips) -> Vec<usize> {
     let mut packages: Vec<Vec<usize>> = (0..wants.len()).map(|test| vec![test]).collect();
     let mut curves: Vec<Curves> = wants.to_vec();
 
@@ -475,7 +512,9 @@ fn packages(places: usize, wants: &[Curves]) -> Vec<usize> {
             (common(&front_head, &behind_tail), true, true),
         ];
         let most = joints.iter().map(|joint| joint.0).max().unwrap();
-        let won = joints.iter().find(|joint| joint.0 == most).unwrap();
+        let earliest = joints.iter().position(|joint| joint.0 == most).unwrap();
+        let won = joints[earliest];
+        flips[earliest] += 1;
         if won.1 {
             front.reverse();
         }
@@ -829,9 +868,21 @@ fn curve_list(bits: u64) -> String {
     }
 }
 
+fn refused_text(no: &Refusal) -> String {
+    format!("refused {} at {}\n", no.number, no.figure)
+}
+
+/// A text in a buffer of this length.
+pub fn written(text: &str, out_len: usize) -> Answer<Vec<u8>> {
+    if out_len < text.len() {
+        return refuse(9, text.len());
+    }
+    Ok(text.as_bytes().to_vec())
+}
+
 pub fn sheet(job: &[u8]) -> String {
     match planned_job(job) {
-        Err(no) => format!("refused {} at {}\n", no.number, no.figure),
+        Err(no) => refused_text(&no),
         Ok((job, order, plan)) => {
             let mut text = format!(
                 "{} tests, {} places, method {}\n",
@@ -848,6 +899,82 @@ pub fn sheet(job: &[u8]) -> String {
             }
             text + &format!("loads {}\n", plan.count)
         }
+    }
+}
+
+// ---------------------------------------------------------------------------------------------
+// The audit of a plan
+
+/// The load count of a plan, and the fewest loads of any plan in the same order.
+#[derive(Clone, Debug, PartialEq, Eq)]
+pub struct Audit {
+    pub loads: u64,
+    pub fewest: u64,
+    /// Whether every plan was tried for the fewest.
+    pub tried: bool,
+}
+
+/// The job is read, then the plan's bytes, then the plan is checked.
+pub fn audit(job: &[u8], plan: &[u8]) -> Answer<Audit> {
+    let job = read_job(job, LIST)?;
+    let steps = read_plan(job.curves, job.tests, plan, LIST, LIST, LIST)?;
+    let order: Vec<u16> = steps.iter().map(|step| step.test).collect();
+    let drops: Vec<u64> = steps.iter().map(|step| step.drops).collect();
+    let loads: Vec<u64> = steps.iter().map(|step| step.loads).collect();
+    let count = check_plan(job.places, job.curves, &job.wants, &order, &drops, &loads)?;
+    let fewest = fewest_loads(job.places, &job.wants, &order);
+    let tried = job.curves <= 5 && job.tests <= 8;
+    if tried {
+        let least = least_loads(job.places, job.curves, &job.wants, &order);
+        assert_eq!(Some(fewest), least, "{job:?}, order {order:?}");
+    }
+    Ok(Audit {
+        loads: count,
+        fewest,
+        tried,
+    })
+}
+
+/// The fewest loads in this order, told without any plan: each use of a curve takes a load unless
+/// the curve stays in the drive since its last use. To stay it takes one of the places that the
+/// tests between leave free. The stay that ends first is granted first: a later one that it shuts
+/// out would take, from the step on where they compete, every place that it takes. No test is wider
+/// than the places.
+pub fn fewest_loads(places: usize, wants: &[u64], order: &[u16]) -> u64 {
+    let steps: Vec<Curves> = order
+        .iter()
+        .map(|&test| set_of(wants[test as usize]))
+        .collect();
+    let mut free: Vec<usize> = steps.iter().map(|wanted| places - wanted.len()).collect();
+    let mut loads = 0;
+    let mut stays = Vec::new();
+    for curve in 0..64 {
+        let uses: Vec<usize> = (0..steps.len())
+            .filter(|&step| steps[step].contains(&curve))
+            .collect();
+        loads += uses.len() as u64;
+        stays.extend(uses.windows(2).map(|pair| (pair[1], pair[0])));
+    }
+    stays.sort();
+    for (end, start) in stays {
+        let between = &mut free[start + 1..end];
+        if between.iter().all(|&places| places > 0) {
+            between.iter_mut().for_each(|places| *places -= 1);
+            loads -= 1;
+        }
+    }
+    loads
+}
+
+pub fn audit_text(answer: &Answer<Audit>) -> String {
+    match answer {
+        Err(no) => refused_text(no),
+        Ok(audit) => format!(
+            "loads {}\nfewest {}\nshorter by {}\n",
+            audit.loads,
+            audit.fewest,
+            audit.loads - audit.fewest
+        ),
     }
 }
 
