@@ -1,7 +1,9 @@
 // The functions of the library for tests in other languages: numbers and slices in, one number out. Each calls the function of its name and promises nothing of
 // its own; what the library promises is in the contracts of the functions called.
 use job::Counted;
+use job::Examined;
 use job::JobRead;
+use job_bytes::set_bytes::GroupRead;
 
 // A count, or number × 2^48 + figure.
 fn packed(c: Counted) -> u64 {
@@ -138,9 +140,6 @@ pub extern "C" fn t_audit(job: &[u8], plan: &[u8], out: &mut [u8]) -> u64 {
 
 // ---- the examinations, the sets in bytes, and the sets
 
-use job::Examined;
-use job::set_bytes::GroupRead;
-
 // 0 where the examination is passed.
 fn examined(e: Examined) -> u64 {
     match e {
@@ -182,7 +181,7 @@ pub extern "C" fn t_read_group(
     curves: usize,
     set: &mut [u64],
 ) -> u64 {
-    match job::set_bytes::read_group(rest, at, group, curves) {
+    match job_bytes::set_bytes::read_group(rest, at, group, curves) {
         GroupRead::Owed => 1,
         GroupRead::Empty => 2,
         GroupRead::Unknown => 3,
@@ -197,17 +196,17 @@ pub extern "C" fn t_read_group(
 
 #[no_mangle]
 pub extern "C" fn t_group_map(s: u64) -> u64 {
-    job::set_bytes::group_map(s) as u64
+    job_bytes::set_bytes::group_map(s) as u64
 }
 
 #[no_mangle]
 pub extern "C" fn t_set_len(s: u64) -> u64 {
-    job::set_bytes::set_len(s) as u64
+    job_bytes::set_bytes::set_len(s) as u64
 }
 
 #[no_mangle]
 pub extern "C" fn t_put_set(s: u64, out: &mut [u8]) -> u64 {
-    job::set_bytes::put_set(s, out) as u64
+    job_bytes::set_bytes::put_set(s, out) as u64
 }
 
 #[no_mangle]
