@@ -25,7 +25,7 @@ unfolding stands
 stands-le zero = omega arith
 stands-le (suc x) = omega arith
 
-group-some : (x : ℕ) (l : List ℕ) → (x ≡ 0 → ⊥) → groupOf x l ≡ x ∷ l
+pub group-some : (x : ℕ) (l : List ℕ) → (x ≡ 0 → ⊥) → groupOf x l ≡ x ∷ l
 unfolding groupOf
 group-some zero l h = absurd (h refl)
 group-some (suc x) l h = refl

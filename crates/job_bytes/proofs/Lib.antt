@@ -1,6 +1,7 @@
 -- What the rules on the bytes of sets and of jobs mean.
 --     Turns         one turn of a loop over bytes
 --     Encoding      one turn of a loop that writes bytes, and runs of stores
+--     GroupWalk     the bytes of a set, from one group that has a curve to the next
 --     GroupByte     one group byte, and what its reader's answer says
 --     Heads         reading a head, step by step
 --     Front         a loop that copies the front of a list
@@ -14,6 +15,7 @@
 --     ReadExact     bytes that read give a job
 pub mod Turns
 pub mod Encoding
+pub mod GroupWalk
 pub mod Front
 pub mod Heads
 pub mod Spans

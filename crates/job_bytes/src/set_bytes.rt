@@ -87,15 +87,12 @@ pub fn put_set(s: u64, out: &mut [u8]) -> usize
     out[0] = group_map(s);
     let mut to: usize = 1;
     let mut rest = s;
-    let mut j: u32 = 0;
-    while j < 8 {
-        let byte = (rest % 256) as u8;
-        if byte != 0 {
-            out[to] = byte;
-            to += 1;
-        }
+    while rest != 0 {
+        // on to the group of the lowest curve that is left
+        rest >>= 8 * (bitset::lowest(rest) / 8);
+        out[to] = (rest % 256) as u8;
+        to += 1;
         rest /= 256;
-        j += 1;
     }
     n
 }
