@@ -6,6 +6,7 @@
 --     Best        the furthest next use is a good choice
 --     LeastUse    the next use is the least later step that wants the curve
 --     OurPlan     the victim is a maximum, and exactly the excess is dropped
+--     Staying     the victims by those that stay
 --     Demand3     DEMAND 3, the proof
 --     OtherPlans  plans that are not ours and pass the check, with plans that do not
 --     Turns       one turn of a loop over steps
@@ -21,6 +22,7 @@ pub mod Fewest
 pub mod Best
 pub mod LeastUse
 pub mod OurPlan
+pub mod Staying
 pub mod Demand3
 pub mod OtherPlans
 pub mod Turns

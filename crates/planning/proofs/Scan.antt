@@ -1,10 +1,12 @@
 -- A walk over the elements of a set from the lowest on, and the best of them that it finds.
-use mathlib.Core.Path.{_≡_, refl, sym, _∙_}
+use mathlib.Core.Path.{_≡_, refl, sym, ap, _∙_}
 use mathlib.Core.Bool.{Bool, true, false, _&&_}
+use mathlib.Core.List.{List}
 use Prim.Native.Nat.{ℕ, zero, suc, _+_, _-_, _^_, _≤_, _<_}
 use native.Mathlib.Omega.{arith}
 use native.Mathlib.Decide.{ℕ-discrete, decLe}
 use lib.Dec.{eqb}
+use lib.ListN.{getD}
 use lib.Pow.{pow-pos}
 use lib.Count.{trailingZeros}
 use borrow.Author.Tests.{eq-eqb, ne-eqb, eqb-true}
@@ -13,6 +15,10 @@ use Rattle.bitset.proofs.Bits.{bit-∖, bit-single, bit-other, bit-empty}
 use Rattle.bitset.proofs.Element.{remove, lowest-in, lowest-least}
 use Rattle.job.specs.Choice.{Found, nobody, found, keep, choose, bestOf}
 use Rattle.job.proofs.Chosen.{best-skip}
+use Rattle.planning.specs.declared.NextUse.the-variants.{At, Never}
+use Rattle.planning.specs.declared.Candidate.{Candidate}
+use Rattle.planning.specs.Plan.{nextUse}
+use Rattle.planning.specs.Uses.{Noted}
 
 -- ---- a set without its lowest element
 pub rest-less : (W s : ℕ) → 0 < s → s < 2 ^ W → s ∖ 2 ^ trailingZeros W s < s
@@ -108,3 +114,20 @@ module _ (better : ℕ → ℕ → Bool) (cs : ℕ) where
     pub scan-next : (b : ℕ) → scanned m ≡ found b → scanned (suc low) ≡ keep (better low b) low (found b)
     unfolding bestOf choose
     scan-next b e = rw (upto ∙ e, eq-eqb (bit low cs) 1 (from-in W cs m rest f some range)) refl
+
+-- a curve with its next use, as `with_next_use` gives it
+pub used : (cs never : ℕ) (uses ws : List ℕ) (v t : ℕ) (n : Candidate) → Noted cs never uses ws → v ≡ t → bit t cs ≡ 1
+    → (n .curve ≡ v) × ((bit v never ≡ 1 → n .next ≡ Never) × (bit v never ≡ 0 → n .next ≡ At (getD uses v 0)))
+    → (n .curve ≡ t) × (n .next ≡ nextUse (n .curve) ws)
+used cs never uses ws v t n told e i r = (r .0 ∙ e, go (bit v never) refl ∙ ap (λ (x : ℕ). nextUse x ws) (sym (r .0)))
+  where
+    member : bit v cs ≡ 1
+    member = rw e i
+
+    go : (d : ℕ) → bit v never ≡ d → n .next ≡ nextUse v ws
+    go zero p = r .1 .1 p ∙ sym (told .1 v member p)
+    go (suc d) p = let o : bit v never ≡ 1 = omega arith in r .1 .0 o ∙ sym (told .0 v member o)
+
+-- the next uses of a part of the candidates
+pub noted-part : (cs left never : ℕ) (uses ws : List ℕ) → ((c : ℕ) → bit c left ≡ 1 → bit c cs ≡ 1) → Noted cs never uses ws → Noted left never uses ws
+noted-part cs left never uses ws part told = (λ c i. told .0 c (part c i), λ c i. told .1 c (part c i))

@@ -4,13 +4,14 @@ use job::Examined;
 use job::Refusal;
 ghost use mathlib.Core.Path.{_≡_};
 ghost use mathlib.Core.List.{List};
-ghost use Prim.Native.Nat.{ℕ, _+_, _≤_, _<_, min};
+ghost use Prim.Native.Nat.{ℕ, _+_, _-_, _≤_, _<_, min};
 ghost use lib.ListN.{length, getD, take, drop};
 ghost use Rattle.bitset.specs.Set.{size, bit};
 ghost use Rattle.job.specs.Choice.{found};
 ghost use Rattle.job.specs.Refusal.{mapped, overwritten, examinedOutcome, countOutcome};
 ghost use Rattle.planning.specs.Order.{orderKnown};
-ghost use Rattle.planning.specs.Plan.{inOrder, loadCount, stepPasses, checkSteps, nextUse, further, furthest, victims, dropsFor, dropSets, loadSets};
+ghost use Rattle.planning.specs.Plan.{inOrder, loadCount, stepPasses, checkSteps, further, furthest, victims, dropsFor, dropSets, loadSets};
+ghost use Rattle.planning.specs.Uses.{Noted, GoesBefore};
 ghost use Rattle.planning.specs.Planning.{planAnswer, planDrops, planLoads, setsKnown, checking};
 ghost use Rattle.planning.specs.Demand3.{Demand3};
 
@@ -184,8 +185,7 @@ fn note(curves: u64, k: usize, uses: &mut [usize])
 // The next use of each candidate, by one walk over the later steps: noted in `uses`, or never for those in the answer.
 fn next_uses(candidates: u64, later: &[u64], uses: &mut [usize]) -> u64
     requires { ⌜ length (now uses) ≡ 64 ⌝ }
-    ensures { λ r. ⌜ ((c : ℕ) → bit c candidates ≡ 1 → bit c r ≡ 1 → nextUse c (now (later .entry)) ≡ NextUse.Never) ⌝ }
-    ensures { λ r. ⌜ ((c : ℕ) → bit c candidates ≡ 1 → bit c r ≡ 0 → nextUse c (now (later .entry)) ≡ NextUse.At (getD (now (uses .exit)) c 0)) ⌝ }
+    ensures { λ r. ⌜ Noted candidates r (now (uses .exit)) (now (later .entry)) ⌝ }
 {
     let mut left = candidates;
     let mut k: usize = 0;
@@ -241,10 +241,8 @@ fn further(a: Candidate, b: Candidate) -> bool
 // The candidate "whose next use in a later step is furthest", the lowest of several: for whatever later steps the next uses are those of `never` and `uses`.
 fn furthest(candidates: u64, never: u64, uses: &[usize; 64]) -> Candidate
     requires { ⌜ 0 < candidates ⌝ }
-    ensures { λ r. ⌜ ((ws : List ℕ)
-        → ((c : ℕ) → bit c candidates ≡ 1 → bit c never ≡ 1 → nextUse c ws ≡ NextUse.Never)
-        → ((c : ℕ) → bit c candidates ≡ 1 → bit c never ≡ 0 → nextUse c ws ≡ NextUse.At (getD (now (uses .entry)) c 0))
-        → furthest 64 candidates ws ≡ found (r .curve)) ⌝ }
+    ensures { λ r. ⌜ bit (r .curve) candidates ≡ 1 ⌝ }
+    ensures { λ r. ⌜ ((ws : List ℕ) → Noted candidates never (now (uses .entry)) ws → furthest 64 candidates ws ≡ found (r .curve)) ⌝ }
 {
     let mut best = with_next_use(bitset::lowest(candidates), never, uses);
     let mut rest = bitset::without_lowest(candidates);
@@ -258,24 +256,69 @@ fn furthest(candidates: u64, never: u64, uses: &[usize; 64]) -> Candidate
     best
 }
 
-// So many of the candidates, "one by one: each time the curve whose next use in a later step is furthest".
-fn choose_drops(excess: usize, candidates: u64, later: &[u64]) -> u64
-    requires { ⌜ excess ≤ size candidates ⌝ }
-    ensures { λ r. ⌜ r ≡ victims (furthest 64) excess candidates (now (later .entry)) ⌝ }
+// The candidate whose next use is soonest, the highest of several: each other one goes before it.
+fn soonest(candidates: u64, never: u64, uses: &[usize; 64]) -> Candidate
+    requires { ⌜ 0 < candidates ⌝ }
+    ensures { λ r. ⌜ bit (r .curve) candidates ≡ 1 ⌝ }
+    ensures { λ r. ⌜ ((ws : List ℕ) → Noted candidates never (now (uses .entry)) ws → (c : ℕ) → bit c candidates ≡ 1 → GoesBefore ws c (r .curve)) ⌝ }
 {
-    let mut uses = [0usize; 64];
-    let never = next_uses(candidates, later, &mut uses);
+    let mut best = with_next_use(bitset::lowest(candidates), never, uses);
+    let mut rest = bitset::without_lowest(candidates);
+    while rest != 0 {
+        let next = with_next_use(bitset::lowest(rest), never, uses);
+        if !further(next, best) {
+            best = next;
+        }
+        rest = bitset::without_lowest(rest);
+    }
+    best
+}
+
+// So many of the candidates, "one by one: each time the curve whose next use in a later step is furthest".
+fn drop_furthest(excess: usize, candidates: u64, never: u64, uses: &[usize; 64]) -> u64
+    requires { ⌜ excess ≤ size candidates ⌝ }
+    ensures { λ r. ⌜ ((ws : List ℕ) → Noted candidates never (now (uses .entry)) ws → r ≡ victims (furthest 64) excess candidates ws) ⌝ }
+{
     let mut chosen: u64 = 0;
     let mut left = candidates;
     let mut more = excess;
     while 0 < more {
-        let best = furthest(left, never, &uses);
+        let best = furthest(left, never, uses);
         let victim = bitset::single(best.curve);
         chosen = bitset::union(chosen, victim);
         left = bitset::without(left, victim);
         more -= 1;
     }
     chosen
+}
+
+// The same drops, found by those that stay: so many of the candidates, each time the one whose next use is soonest. The answer has the others.
+fn keep_soonest(spare: usize, candidates: u64, never: u64, uses: &[usize; 64]) -> u64
+    requires { ⌜ spare ≤ size candidates ⌝ }
+    ensures { λ r. ⌜ ((ws : List ℕ) → Noted candidates never (now (uses .entry)) ws → r ≡ victims (furthest 64) (size candidates - spare) candidates ws) ⌝ }
+{
+    let mut left = candidates;
+    let mut more = spare;
+    while 0 < more {
+        let best = soonest(left, never, uses);
+        left = bitset::without(left, bitset::single(best.curve));
+        more -= 1;
+    }
+    left
+}
+
+// So many of the candidates: the drops are chosen one by one, or those that stay are, where these are fewer.
+fn choose_drops(excess: usize, candidates: u64, later: &[u64]) -> u64
+    requires { ⌜ excess ≤ size candidates ⌝ }
+    ensures { λ r. ⌜ r ≡ victims (furthest 64) excess candidates (now (later .entry)) ⌝ }
+{
+    let mut uses = [0usize; 64];
+    let never = next_uses(candidates, later, &mut uses);
+    let spare = bitset::size(candidates) - excess;
+    if excess <= spare {
+        return drop_furthest(excess, candidates, never, &uses);
+    }
+    keep_soonest(spare, candidates, never, &uses)
 }
 
 // "If held and wanted curves together exceed the places, drop exactly the excess, from held curves that the test doesn't want".

@@ -3,26 +3,20 @@ use mathlib.Core.Bool.{Bool, true, false}
 use mathlib.Core.Path.{_≡_, refl, sym, ap, subst, _∙_}
 use mathlib.Core.List.{List}
 use mathlib.Core.Logic.{⊎-elim}
-use Prim.Native.Nat.{ℕ, zero, suc, _≤_, _<_, _^_}
+use Prim.Native.Nat.{ℕ, suc, _≤_, _<_, _^_}
 use native.Mathlib.Omega.{arith}
 use borrow.Author.Needs.{needs}
-use lib.ListN.{getD}
 use lib.Count.{trailingZeros}
 use denote.Ref.{now}
 use Rattle.bitset.specs.Set.{bit}
 use Rattle.bitset.proofs.Element.{lowest-in, lowest-lt}
 use Rattle.job.specs.Choice.{nobody, found, keep, bestOf}
-use Rattle.planning.specs.declared.NextUse.the-variants.{At, Never}
 use Rattle.planning.specs.declared.Candidate.{Candidate}
 use Rattle.planning.specs.Plan.{nextUse, further, furthest}
-use Rattle.planning.proofs.Scan.{rest-less, From, from-start, from-in, from-next, scanned, scan-end, scan-first, scan-next}
+use Rattle.planning.specs.Uses.{Noted}
+use Rattle.planning.proofs.Scan.{rest-less, used, From, from-start, from-in, from-next, scanned, scan-end, scan-first, scan-next}
 use Rattle.planning.proofs.furthest.Statement.{statement}
 use Rattle.planning.proofs.furthest.Tie as tie
-
--- the next uses are those of later steps that want ws
-abbrev Told : ℕ → ℕ → List ℕ → List ℕ → Type 0
-Told cs never uses ws =
-    ((c : ℕ) → bit c cs ≡ 1 → bit c never ≡ 1 → nextUse c ws ≡ Never) × ((c : ℕ) → bit c cs ≡ 1 → bit c never ≡ 0 → nextUse c ws ≡ At (getD uses c 0))
 
 -- the best of the candidates below m, with its next use
 abbrev Best : ℕ → List ℕ → ℕ → Candidate → Type 0
@@ -35,7 +29,8 @@ Inv-loop candidates never uses best₀ rest₀ best rest =
       m : ℕ;
       small : m ≤ 64;
       left : From candidates m rest;
-      ahead : (ws : List ℕ) → Told candidates never uses ws → Best candidates ws m best;
+      candidate : bit (best .curve) candidates ≡ 1;
+      ahead : (ws : List ℕ) → Noted candidates never uses ws → Best candidates ws m best;
     }
 
 abbrev μ-loop : tie.MeasureT-loop
@@ -53,19 +48,6 @@ without-lowest-requires c κs = tt
 start : (better : ℕ → ℕ → Bool) (cs : ℕ) → scanned better cs 0 ≡ nobody
 unfolding bestOf
 start better cs = refl
-
--- a curve with its next use, as `with_next_use` gives it
-used : (cs never : ℕ) (uses ws : List ℕ) (v t : ℕ) (n : Candidate) → Told cs never uses ws → v ≡ t → bit t cs ≡ 1
-    → (n .curve ≡ v) × ((bit v never ≡ 1 → n .next ≡ Never) × (bit v never ≡ 0 → n .next ≡ At (getD uses v 0)))
-    → (n .curve ≡ t) × (n .next ≡ nextUse (n .curve) ws)
-used cs never uses ws v t n told e i r = (r .0 ∙ e, go (bit v never) refl ∙ ap (λ (x : ℕ). nextUse x ws) (sym (r .0)))
-  where
-    member : bit v cs ≡ 1
-    member = rw e i
-
-    go : (d : ℕ) → bit v never ≡ d → n .next ≡ nextUse v ws
-    go zero p = r .1 .1 p ∙ sym (told .1 v member p)
-    go (suc d) p = let o : bit v never ≡ 1 = omega arith in r .1 .0 o ∙ sym (told .0 v member o)
 
 -- the newcomer n, whose curve is t, against b
 module _ (cs : ℕ) (ws : List ℕ) (t : ℕ) (b n : Candidate) (old : b .next ≡ nextUse (b .curve) ws) (new : (n .curve ≡ t) × (n .next ≡ nextUse (n .curve) ws)) where
@@ -96,6 +78,7 @@ loop-holds c =
       m = suc t;
       small = omega (arith, lowest-lt 64 (a .candidates) some range);
       left = from-next 64 (a .candidates) 0 (a .candidates) f some range;
+      candidate = rw (c .before .with-next-use .ensures .0 ∙ c .before .before .lowest .ensures) (lowest-in 64 (a .candidates) some range);
       ahead =
           λ ws told. let n = used (a .candidates) (a .never) (now (a .uses)) ws _ t _ told (c .before .before .lowest .ensures) (lowest-in 64 (a .candidates) some range) (c .before .with-next-use .ensures) in
           (scan-first _ (a .candidates) 64 0 (a .candidates) f some range (start _ _) ∙ ap found (sym (n .0)), n .1);
@@ -130,6 +113,11 @@ loop-again c =
       m = suc t;
       small = omega (arith, lowest-lt 64 (q .rest) some range);
       left = from-next 64 (a .candidates) (q .inv .m) (q .rest) (q .inv .left) some range;
+      candidate =
+          ⊎-elim
+          (λ w. rw (w .1, c .before .before .before .with-next-use2 .ensures .0 ∙ c .before .before .before .before .lowest2 .ensures) (from-in 64 (a .candidates) (q .inv .m) (q .rest) (q .inv .left) some range))
+          (λ w. rw (w .1) (q .inv .candidate))
+          (c .before .if1 .came);
       ahead =
           λ ws told. let n = used (a .candidates) (a .never) (now (a .uses)) ws _ t _ told (c .before .before .before .before .lowest2 .ensures) (from-in 64 (a .candidates) (q .inv .m) (q .rest) (q .inv .left) some range) (c .before .before .before .with-next-use2 .ensures) in
           let old = q .inv .ahead ws told in
@@ -144,8 +132,10 @@ returns : tie.Need-returns Inv-loop μ-loop
 unfolding furthest
 returns c =
     let q = c .before .loop in
-    let a = c .before .before .before .before .before .args in
-    λ ws never at. scan-end _ (a .candidates) (q .inv .m) 64 (subst (From (a .candidates) (q .inv .m)) (c .loop-test .left) (q .inv .left)) (q .inv .small) ∙ q .inv .ahead ws (never, at) .0
+    let a = c .before .before .before .before .before .args in (
+      q .inv .candidate,
+      λ ws told. scan-end _ (a .candidates) (q .inv .m) 64 (subst (From (a .candidates) (q .inv .m)) (c .loop-test .left) (q .inv .left)) (q .inv .small) ∙ q .inv .ahead ws told .0,
+    )
 
 pub furthest-spec : {M : Type 1} → statement M
 furthest-spec =
