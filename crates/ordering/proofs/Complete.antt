@@ -44,7 +44,7 @@ abbrev pub Fresh : ℕ → List ℕ → Found ℕ → Type 0
 Fresh n ts nobody = (t : ℕ) → t < n → listed ts t ≡ true
 Fresh n ts (found t) = (t < n) × (listed ts t ≡ false)
 
-not-both : (b c : Bool) → not b && c ≡ true → b ≡ false
+pub not-both : (b c : Bool) → not b && c ≡ true → b ≡ false
 not-both true c e = absurd (false≢true e)
 not-both false c e = refl
 
