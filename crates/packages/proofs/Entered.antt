@@ -5,9 +5,8 @@ use Prim.Native.Nat.{ℕ, _≤_, _<_}
 use native.Mathlib.Omega.{arith}
 use lib.ListN.{length, take, drop, replicate}
 use lib.Seq.{take-append-seam}
-use lib.Dec.{leb}
 use borrow.Author.Tests.{le-leb, lt-leb}
-use Rattle.job.specs.Refusal.{done, refused, _>>_, demand, room, overwritten}
+use Rattle.job.specs.Refusal.{done, demand, room, overwritten}
 use Rattle.job.specs.Handed.{testsKnown}
 use Rattle.job.proofs.Laws.{demand-done, done-both, done-room, leaves-done, leaves-refused}
 use Rattle.job.proofs.Examination.{refused-both}

@@ -5,7 +5,8 @@
 --     Entered  tests that are written to a list where they fit
 --     Lists    lists that are changed in place
 --     Rows     the closest pair, row by row
---     Renew    the best second package of each row, kept over a join
+--     Renew    the rating of each row, kept over a join
+--     Ratings  the closest pair by the ratings
 --     Runs     heads, tails and flipping
 --     State    the packages as the code holds them, and a turn of the rounds
 pub mod Written
@@ -15,5 +16,6 @@ pub mod Entered
 pub mod Lists
 pub mod Rows
 pub mod Renew
+pub mod Ratings
 pub mod Runs
 pub mod State

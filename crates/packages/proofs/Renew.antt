@@ -1,20 +1,19 @@
--- The best second package of each row, kept over a join: what is best by comparison is what the row's scan finds, and what a join changes of it.
+-- The rating of each row, kept over a join: what is best by comparison is what the row's scan finds, and what a join changes of it.
 use mathlib.Core.Path.{_≡_, refl, sym, ap, _∙_, subst}
 use mathlib.Core.Bool.{Bool, true, false, cond, false≢true}
-use mathlib.Core.Logic.{_⊎_, ⊎-elim}
 use mathlib.Core.List.{List, _++_}
-use Prim.Native.Nat.{ℕ, zero, suc, _+_, _-_, _≤_, _<_}
+use Prim.Native.Nat.{ℕ, zero, suc, _+_, _-_, _/_, _%_, _≤_, _<_}
 use native.Mathlib.Omega.{arith}
 use native.Mathlib.Decide.{ℕ-discrete, decLt}
 use lib.ListN.{length, getD, take, drop, set, length-set, List·getD-append}
-use lib.Seq.{getD-take, getD-drop, getD-append-add, getD-set-same, getD-set-other, length-take-le}
-use lib.Dec.{ltb}
-use borrow.Author.Tests.{lt-ltb, le-ltb}
-use Rattle.bitset.specs.Set.{_∪_, _∩_, _⊆_}
-use Rattle.bitset.proofs.Laws.{⊆-∪, ⊆-∪-r, size-mono, ∩-most, ∩-⊆, ∩-⊆-r, ⊆-trans}
+use lib.Seq.{take-append-le, getD-take, getD-drop, getD-append-add, getD-set-same, getD-set-other, length-take-le}
+use lib.Dec.{ltb, eqb}
+use borrow.Author.Tests.{lt-ltb, le-ltb, eq-eqb, ne-eqb}
+use Rattle.bitset.specs.Set.{_∪_}
 use Rattle.job.specs.Choice.{Found, nobody, found}
 use Rattle.packages.specs.Tests.{common}
 use Rattle.packages.specs.Packages.{Pair}
+use Rattle.packages.specs.Ratings.{Rated}
 use Rattle.packages.proofs.Rows.{chosen, chosen-some, chosen-none, score, score-none, score-some, rowTo, row-start, row-take, row-pass, row-keep}
 
 -- p is the best second for the first k among those below n: 0 where none fits, else the first of those with most in common
@@ -83,6 +82,9 @@ module _ (fits : ℕ → Bool) (cs : List ℕ) (k : ℕ) where
 
   row-all : k < length cs → Row (length cs)
   row-all h = let e : k + 1 + (length cs - (k + 1)) ≡ length cs = omega arith in subst Row e (rows (length cs - (k + 1)))
+
+  pub row-found : k < length cs → (q : ℕ) × (rowTo fits cs k (length cs) ≡ chosen k q)
+  row-found h = let r = row-all h in (r .0, r .1)
 
   lower : (n p q : ℕ) → Best fits cs k n p → Best fits cs k n q → p < q → ⊥
   lower n zero q b c h = let o = c .own h in omega (arith, b .most q (o .0) (o .1) (o .2), score-none cs k, score-some cs k q h)
@@ -176,24 +178,26 @@ new-above j k p h l = go (decLt k (newPlace j p)) (ℕ-discrete k (newPlace j p)
 old-below : (j x p : ℕ) → (p ≡ j → ⊥) → x < newPlace j p → oldPlace j x < p
 old-below j x p h l = omega (arith, old-less j x (newPlace j p) l, old-new j p h)
 
+-- a list ls without its entry j
+entry-out : (ds ls : List ℕ) (j : ℕ) → j ≤ length ls → ds ≡ take j ls ++ drop (suc j) ls → (x : ℕ) → getD ds x 0 ≡ getD ls (oldPlace j x) 0
+entry-out ds ls j within made x = go (decLt x j)
+  where
+    n : length (take j ls) ≡ j
+    n = length-take-le j ls within
+
+    go : Dec (x < j) → getD ds x 0 ≡ getD ls (oldPlace j x) 0
+    go (yes h) =
+        ap (λ (m : List ℕ). getD m x 0) made ∙ List·getD-append (take j ls) (drop (suc j) ls) 0 x (omega (arith, n)) ∙ getD-take j ls x 0 h ∙ ap (λ (m : ℕ). getD ls m 0) (sym (old-low j x h))
+    go (no h) =
+        let e : x ≡ length (take j ls) + (x - j) = omega (arith, n) in
+        let f : suc j + (x - j) ≡ oldPlace j x = omega (arith, old-high j x (omega arith)) in
+        ap (λ (m : List ℕ). getD m x 0) made ∙ ap (λ (m : ℕ). getD (take j ls ++ drop (suc j) ls) m 0) e ∙ getD-append-add (take j ls) (drop (suc j) ls) (x - j) 0
+        ∙ getD-drop (suc j) ls (x - j) 0 ∙ ap (λ (m : ℕ). getD ls m 0) f
+
 module _ (fits : ℕ → Bool) (cs ds : List ℕ) (i j : ℕ) (before : i < j) (long : length cs ≡ suc (length ds)) (within : j ≤ length ds)
     (made : ds ≡ take j (set cs i (getD cs i 0 ∪ getD cs j 0)) ++ drop (suc j) (set cs i (getD cs i 0 ∪ getD cs j 0))) where
   entry-at : (x : ℕ) → getD ds x 0 ≡ getD (set cs i (getD cs i 0 ∪ getD cs j 0)) (oldPlace j x) 0
-  entry-at x = go (decLt x j)
-    where
-      n : length (take j (set cs i (getD cs i 0 ∪ getD cs j 0))) ≡ j
-      n = length-take-le j (set cs i (getD cs i 0 ∪ getD cs j 0)) (omega (arith, length-set cs i (getD cs i 0 ∪ getD cs j 0)))
-
-      go : Dec (x < j) → getD ds x 0 ≡ getD (set cs i (getD cs i 0 ∪ getD cs j 0)) (oldPlace j x) 0
-      go (yes h) =
-          let ls = set cs i (getD cs i 0 ∪ getD cs j 0) in
-          ap (λ (m : List ℕ). getD m x 0) made ∙ List·getD-append (take j ls) (drop (suc j) ls) 0 x (omega (arith, n)) ∙ getD-take j ls x 0 h ∙ ap (λ (m : ℕ). getD ls m 0) (sym (old-low j x h))
-      go (no h) =
-          let ls = set cs i (getD cs i 0 ∪ getD cs j 0) in
-          let e : x ≡ length (take j ls) + (x - j) = omega (arith, n) in
-          let f : suc j + (x - j) ≡ oldPlace j x = omega (arith, old-high j x (omega arith)) in
-          ap (λ (m : List ℕ). getD m x 0) made ∙ ap (λ (m : ℕ). getD (take j ls ++ drop (suc j) ls) m 0) e ∙ getD-append-add (take j ls) (drop (suc j) ls) (x - j) 0
-          ∙ getD-drop (suc j) ls (x - j) 0 ∙ ap (λ (m : ℕ). getD ls m 0) f
+  entry-at = entry-out ds (set cs i (getD cs i 0 ∪ getD cs j 0)) j (omega (arith, length-set cs i (getD cs i 0 ∪ getD cs j 0))) made
 
   -- all but the joined package are as they were
   others : (x : ℕ) → (x ≡ i → ⊥) → getD ds x 0 ≡ getD cs (oldPlace j x) 0
@@ -277,89 +281,208 @@ module _ (fits : ℕ → Bool) (cs ds : List ℕ) (i j : ℕ) (before : i < j) (
           below x (yes e) l m f = omega (arith, ap (score ds k) e, worse (omega arith) (ap (λ (y : ℕ). fits (getD ds k 0 ∪ getD ds y 0)) (sym e) ∙ f) .1 (omega arith))
           below x (no e) l m f = first-new x e l m f
 
-      -- the joined package fits and is better, or as good and earlier
-      pub beat : k < i → fits (getD ds k 0 ∪ getD ds i 0) ≡ true → score ds k (newPlace j p) ≤ score ds k i → (newPlace j p ≤ i → score ds k (newPlace j p) < score ds k i)
-          → Best fits ds k (length ds) i
-      beat l f a b =
-          record {
-            own = λ z. (l, omega arith, f);
-            most = λ x m n g. at-most x (ℕ-discrete x i) m n g;
-            first = λ x m n g. below x (decLt i (newPlace j p)) m n g;
-          }
-        where
-          at-most : (x : ℕ) → Dec (x ≡ i) → k < x → x < length ds → fits (getD ds k 0 ∪ getD ds x 0) ≡ true → score ds k x ≤ score ds k i
-          at-most x (yes e) m n g = omega (arith, ap (score ds k) e)
-          at-most x (no e) m n g = omega (arith, most-new x e m n g)
+-- ---- ratings
 
-          below : (x : ℕ) → Dec (i < newPlace j p) → k < x → x < i → fits (getD ds k 0 ∪ getD ds x 0) ≡ true → score ds k x < score ds k i
-          below x (yes h) m n g = omega (arith, first-new x (λ e. omega arith) m (omega arith) g)
-          below x (no h) m n g = omega (arith, most-new x (λ e. omega arith) m (omega arith) g, b (omega arith))
+module _ (fits : ℕ → Bool) (cs : List ℕ) (k r : ℕ) (row : k < length cs) where
+  -- what a scan of the row finds is a rating
+  pub row-rated : rowTo fits cs k (length cs) ≡ chosen k (r % 256) → r / 256 ≡ score cs k (r % 256) → Rated fits cs k r
+  row-rated e s =
+      let b = row-best fits cs k (r % 256) row e in
+      record {
+        most = λ j l m f. omega (arith, b .most j l m f, s, score-some cs k j (omega arith));
+        own = λ z. (e ∙ chosen-some k (r % 256) z, s ∙ score-some cs k (r % 256) z);
+      }
 
-    -- the best was one of the two that are joined: it is the joined package, where that fits
-    pub join-best : (p : ℕ) → Best fits cs (oldPlace j k) (length cs) p → k < i → (p ≡ i) ⊎ (p ≡ j) → fits (getD ds k 0 ∪ getD ds i 0) ≡ true → Best fits ds k (length ds) i
-    join-best p b l which f =
-        record {
-          own = λ z. (l, omega arith, f);
-          most = λ x m n g. at-most x (ℕ-discrete x i) m n g;
-          first = λ x m n g. omega (arith, score-is x (λ e. omega arith) (omega arith), more, b .first (oldPlace j x) (old-less j k x m) (lower-than x n) (sym (fits-is x (λ e. omega arith)) ∙ g));
-        }
-      where
-        pos : 0 < p
-        pos = ⊎-elim (λ e. omega (arith, e)) (λ e. omega (arith, e)) which
+  rated-best : Rated fits cs k r → 0 < r % 256 → Best fits cs k (length cs) (r % 256)
+  rated-best q z = row-best fits cs k (r % 256) row (q .own z .0 ∙ sym (chosen-some k (r % 256) z))
 
-        part : getD cs p 0 ⊆ getD ds i 0
-        part =
-            ⊎-elim
-            (λ e. subst (λ (x : ℕ). getD cs x 0 ⊆ getD ds i 0) (sym e) (subst (λ (y : ℕ). getD cs i 0 ⊆ y) (sym joined-is) (⊆-∪ (getD cs i 0) (getD cs j 0))))
-            (λ e. subst (λ (x : ℕ). getD cs x 0 ⊆ getD ds i 0) (sym e) (subst (λ (y : ℕ). getD cs j 0 ⊆ y) (sym joined-is) (⊆-∪-r (getD cs i 0) (getD cs j 0))))
-            which
+  best-rated : ((j : ℕ) → k < j → j < length cs → fits (getD cs k 0 ∪ getD cs j 0) ≡ true → score cs k j ≤ r / 256)
+      → (0 < r % 256 → Best fits cs k (length cs) (r % 256) × (r / 256 ≡ score cs k (r % 256))) → Rated fits cs k r
+  best-rated m o =
+      record {
+        most = λ j l n f. omega (arith, m j l n f, score-some cs k j (omega arith));
+        own = λ z. (best-row fits cs k (r % 256) row (o z .0) ∙ chosen-some k (r % 256) z, o z .1 ∙ score-some cs k (r % 256) z);
+      }
 
-        more : score cs (oldPlace j k) p ≤ score ds k i
-        more =
-            let a = getD cs (oldPlace j k) 0 in
-            omega (
-              arith,
-              score-some cs (oldPlace j k) p pos,
-              score-some ds k i (omega arith),
-              ap (λ (x : ℕ). common x (getD ds i 0)) (others k other),
-              size-mono (a ∩ getD cs p 0) (a ∩ getD ds i 0)
-                  (∩-most a (getD ds i 0) (a ∩ getD cs p 0) (∩-⊆ a (getD cs p 0)) (⊆-trans (a ∩ getD cs p 0) (getD cs p 0) (getD ds i 0) (∩-⊆-r a (getD cs p 0)) part)),
-            )
+  -- no package of the row has a higher score
+  pub rated-score : Rated fits cs k r → (q : ℕ) → rowTo fits cs k (length cs) ≡ chosen k q → score cs k q ≤ r / 256
+  rated-score w q e = go (ℕ-discrete q 0)
+    where
+      go : Dec (q ≡ 0) → score cs k q ≤ r / 256
+      go (yes z) = omega (arith, ap (score cs k) z, score-none cs k)
+      go (no z) =
+          let o = row-best fits cs k q row e .own (omega arith) in
+          omega (arith, w .most q (o .0) (o .1) (o .2), score-some cs k q (omega arith))
 
-        lower-than : (x : ℕ) → x < i → oldPlace j x < p
-        lower-than x h = ⊎-elim (λ e. omega (arith, e, old-low j x (omega arith))) (λ e. omega (arith, e, old-low j x (omega arith))) which
+-- t is what is left of the rating r when the packages i and j are joined: the score, and the partner if that is another one
+pub record Kept (i j r t : ℕ) : Type 0 where
+  pub same : t / 256 ≡ r / 256
+  pub partner : 0 < t % 256 → (0 < r % 256) × (t % 256 ≡ newPlace j (r % 256)) × (r % 256 ≡ i → ⊥) × (r % 256 ≡ j → ⊥)
 
-        at-most : (x : ℕ) → Dec (x ≡ i) → k < x → x < length ds → fits (getD ds k 0 ∪ getD ds x 0) ≡ true → score ds k x ≤ score ds k i
-        at-most x (yes e) m n g = omega (arith, ap (score ds k) e)
-        at-most x (no e) m n g = omega (arith, score-is x e (omega arith), more, b .most (oldPlace j x) (old-less j k x m) (omega (arith, old-within j x (length ds) n within)) (sym (fits-is x e) ∙ g))
+pub kept-none : (i j r t : ℕ) → t ≡ r - r % 256 → Kept i j r t
+kept-none i j r t e = record { same = omega (arith, e); partner = λ z. absurd (omega (arith, e)) }
 
--- the same, of what the scans of the rows find: row k after the join, whose best before it was `old`
+-- what the code makes of a rating whose partner is not the first of the two
+abbrev pub movedUp : ℕ → ℕ → ℕ
+movedUp j r = cond (eqb (r % 256) j) (r - r % 256) (cond (ltb j (r % 256)) (r - 1) r)
+
+pub kept-moved : (i j r t : ℕ) → i < j → (0 < r % 256 → r % 256 ≡ i → ⊥) → t ≡ movedUp j r → Kept i j r t
+kept-moved i j r t l h e = go (ℕ-discrete (r % 256) j) (decLt j (r % 256))
+  where
+    go : Dec (r % 256 ≡ j) → Dec (j < r % 256) → Kept i j r t
+    go (yes a) d = kept-none i j r t (e ∙ rw (eq-eqb (r % 256) j a) refl)
+    go (no a) (yes d) =
+        let f : t ≡ r - 1 = e ∙ rw (ne-eqb (r % 256) j a, lt-ltb j (r % 256) d) refl in
+        let m = new-high j (r % 256) d in
+        record { same = omega (arith, f); partner = λ z. (omega arith, omega (arith, f, m), h (omega arith), a) }
+    go (no a) (no d) =
+        let f : t ≡ r = e ∙ rw (ne-eqb (r % 256) j a, le-ltb j (r % 256) (omega arith)) refl in
+        let m = new-low j (r % 256) (omega arith) in
+        record { same = omega (arith, f); partner = λ z. (omega (arith, f), omega (arith, f, m), h (omega (arith, f)), a) }
+
+-- row k after the join, whose rating before it was r
 module _ (fits : ℕ → Bool) (cs ds : List ℕ) (i j : ℕ) (before : i < j) (long : length cs ≡ suc (length ds)) (within : j ≤ length ds)
     (made : ds ≡ take j (set cs i (getD cs i 0 ∪ getD cs j 0)) ++ drop (suc j) (set cs i (getD cs i 0 ∪ getD cs j 0)))
-    (k : ℕ) (row : k < length ds) (old : ℕ) (was : rowTo fits cs (oldPlace j k) (length cs) ≡ chosen (oldPlace j k) old) where
-  old-best : Best fits cs (oldPlace j k) (length cs) old
-  old-best = row-best fits cs (oldPlace j k) old (omega (arith, old-within j k (length ds) row within)) was
+    (k : ℕ) (row : k < length ds) (other : k ≡ i → ⊥) (r t : ℕ) (was : Rated fits cs (oldPlace j k) r) where
+  old-row : oldPlace j k < length cs
+  old-row = omega (arith, old-within j k (length ds) row within)
 
-  pub row-behind : i < k → (old ≡ j → ⊥) → rowTo fits ds k (length ds) ≡ chosen k (newPlace j old)
-  row-behind l h =
-      best-row fits ds k (newPlace j old) row
-      (stay fits cs ds i j before long within made k (λ e. omega arith) old old-best h
-      (λ z e. omega (arith, e, old-best .own z .0, above (decLt k j))) (λ m f. absurd (omega arith)))
+  old-best : 0 < r % 256 → Best fits cs (oldPlace j k) (length cs) (r % 256)
+  old-best = rated-best fits cs (oldPlace j k) r old-row was
+
+  old-score : 0 < r % 256 → r / 256 ≡ score cs (oldPlace j k) (r % 256)
+  old-score z = was .own z .1 ∙ sym (score-some cs (oldPlace j k) (r % 256) z)
+
+  -- no other package has a higher score than before
+  most-kept : (x : ℕ) → (x ≡ i → ⊥) → k < x → x < length ds → fits (getD ds k 0 ∪ getD ds x 0) ≡ true → score ds k x ≤ r / 256
+  most-kept x h l m f =
+      let up = old-less j k x l in
+      omega (
+        arith,
+        score-is fits cs ds i j before long within made k other x h (omega arith),
+        score-some cs (oldPlace j k) (oldPlace j x) (omega (arith, up)),
+        was .most (oldPlace j x) up (omega (arith, old-within j x (length ds) m within)) (sym (fits-is fits cs ds i j before long within made k other x h) ∙ f),
+      )
+
+  module _ (kept : Kept i j r t) where
+    new-score : (z : 0 < t % 256) → t / 256 ≡ score ds k (newPlace j (r % 256))
+    new-score z =
+        let q = kept .partner z in
+        kept .same ∙ old-score (q .0) ∙ sym (score-new fits cs ds i j before long within made k other (r % 256) (old-best (q .0)) (q .3) (λ _. q .2))
+
+    -- the joined package does not come in question, or is no better
+    pub rated-stays : (k < i → fits (getD ds k 0 ∪ getD ds i 0) ≡ true → (score ds k i ≤ t / 256) × (i < t % 256 → score ds k i < t / 256)) → Rated fits ds k t
+    rated-stays worse =
+        best-rated fits ds k t row (λ x l m f. at-most x (ℕ-discrete x i) l m f)
+        (λ z.
+        let q = kept .partner z in
+        let p = newPlace j (r % 256) in (
+          subst (Best fits ds k (length ds)) (sym (q .1))
+              (stay fits cs ds i j before long within made k other (r % 256) (old-best (q .0)) (q .3) (λ _. q .2)
+              (λ l f. (omega (arith, worse l f .0, new-score z), λ n. omega (arith, worse l f .1 (omega (arith, q .1)), new-score z)))),
+          new-score z ∙ ap (score ds k) (sym (q .1)),
+        ))
+      where
+        at-most : (x : ℕ) → Dec (x ≡ i) → k < x → x < length ds → fits (getD ds k 0 ∪ getD ds x 0) ≡ true → score ds k x ≤ t / 256
+        at-most x (yes e) l m f = omega (arith, ap (score ds k) e, worse (omega arith) (ap (λ (y : ℕ). fits (getD ds k 0 ∪ getD ds y 0)) (sym e) ∙ f) .0)
+        at-most x (no e) l m f = omega (arith, most-kept x e l m f, kept .same)
+
+    -- the joined package fits and is better, or as good and earlier
+    pub rated-beaten : (u : ℕ) → u / 256 ≡ score ds k i → u % 256 ≡ i → k < i → fits (getD ds k 0 ∪ getD ds i 0) ≡ true
+        → t / 256 ≤ score ds k i → (score ds k i ≤ t / 256 → i < t % 256) → Rated fits ds k u
+    rated-beaten u us up l f a b =
+        best-rated fits ds k u row (λ x m n g. omega (arith, at-most x (ℕ-discrete x i) m n g, us))
+        (λ z. (subst (Best fits ds k (length ds)) (sym up) best, us ∙ ap (score ds k) (sym up)))
+      where
+        at-most : (x : ℕ) → Dec (x ≡ i) → k < x → x < length ds → fits (getD ds k 0 ∪ getD ds x 0) ≡ true → score ds k x ≤ score ds k i
+        at-most x (yes e) m n g = omega (arith, ap (score ds k) e)
+        at-most x (no e) m n g = omega (arith, most-kept x e m n g, kept .same, a)
+
+        below : (x : ℕ) → Dec (t / 256 < score ds k i) → k < x → x < i → fits (getD ds k 0 ∪ getD ds x 0) ≡ true → score ds k x < score ds k i
+        below x (yes d) m n g = omega (arith, most-kept x (λ e. omega arith) m (omega arith) g, kept .same)
+        below x (no d) m n g =
+            let later = b (omega arith) in
+            let z : 0 < t % 256 = omega (arith, later) in
+            let q = kept .partner z in
+            omega (
+              arith,
+              first-new fits cs ds i j before long within made k other (r % 256) (old-best (q .0)) (q .3) (λ _. q .2) x (λ e. omega arith) m (omega (arith, later, q .1)) g,
+              new-score z,
+              a,
+            )
+
+        best : Best fits ds k (length ds) i
+        best =
+            record {
+              own = λ z. (l, omega arith, f);
+              most = λ x m n g. at-most x (ℕ-discrete x i) m n g;
+              first = λ x m n g. below x (decLt (t / 256) (score ds k i)) m n g;
+            }
+
+-- the ratings of all rows: rs before the join, xs without the entry j and with the joined package's own, ys with those before it renewed, zs with those behind it too
+module _ (fits : ℕ → Bool) (cs ds rs xs ys zs : List ℕ) (i j own : ℕ) (before : i < j) (long : length cs ≡ suc (length ds)) (within : j ≤ length ds)
+    (made : ds ≡ take j (set cs i (getD cs i 0 ∪ getD cs j 0)) ++ drop (suc j) (set cs i (getD cs i 0 ∪ getD cs j 0)))
+    (as-long : length rs ≡ suc (length ds)) (still : length ys ≡ length rs)
+    (out : take (length rs - 1) xs ≡ take j (set rs i own) ++ drop (suc j) (set rs i own))
+    (joined : Rated fits ds i own)
+    (front : (k : ℕ) → k < i → Rated fits cs k (getD xs k 0) → Rated fits ds k (getD ys k 0))
+    (rest : (k : ℕ) → i ≤ k → getD ys k 0 ≡ getD xs k 0)
+    (back : (k : ℕ) → i < k → k < length ys → getD zs k 0 ≡ movedUp j (getD ys k 0))
+    (stays : (k : ℕ) → k ≤ i → getD zs k 0 ≡ getD ys k 0)
+    (was : (k : ℕ) → k < length cs → Rated fits cs k (getD rs k 0)) where
+  placed : (k : ℕ) → k < length ds → getD xs k 0 ≡ getD (set rs i own) (oldPlace j k) 0
+  placed k h =
+      sym (getD-take (length rs - 1) xs k 0 (omega (arith, as-long)))
+      ∙ entry-out (take (length rs - 1) xs) (set rs i own) j (omega (arith, as-long, length-set rs i own)) out k
+
+  other-at : (k : ℕ) → k < length ds → (oldPlace j k ≡ i → ⊥) → getD xs k 0 ≡ getD rs (oldPlace j k) 0
+  other-at k h n = placed k h ∙ getD-set-other rs i (oldPlace j k) own 0 n
+
+  above : (k : ℕ) → k ≤ oldPlace j k
+  above k = go (decLt k j)
     where
-      above : Dec (k < j) → k ≤ oldPlace j k
-      above (yes a) = omega (arith, old-low j k a)
-      above (no a) = omega (arith, old-high j k (omega arith))
+      go : Dec (k < j) → k ≤ oldPlace j k
+      go (yes a) = omega (arith, old-low j k a)
+      go (no a) = omega (arith, old-high j k (omega arith))
 
-  module _ (l : k < i) where
-    pub row-stays : (old ≡ i → ⊥) → (old ≡ j → ⊥)
-        → (fits (getD ds k 0 ∪ getD ds i 0) ≡ true → (score ds k i ≤ score ds k (newPlace j old)) × (i < newPlace j old → score ds k i < score ds k (newPlace j old)))
-        → rowTo fits ds k (length ds) ≡ chosen k (newPlace j old)
-    row-stays h n w =
-        best-row fits ds k (newPlace j old) row (stay fits cs ds i j before long within made k (λ e. omega arith) old old-best n (λ z. h) (λ m f. w f))
+  behind : (k : ℕ) → k < length ds → i < k → Rated fits ds k (getD zs k 0)
+  behind k h l =
+      let r = getD rs (oldPlace j k) 0 in
+      let up = above k in
+      let there = old-within j k (length ds) h within in
+      let w = was (oldPlace j k) (omega (arith, there)) in
+      rated-stays fits cs ds i j before long within made k h (λ e. omega arith) r (getD zs k 0) w
+      (kept-moved i j r (getD zs k 0) before (λ z e. omega (arith, e, up, rated-best fits cs (oldPlace j k) r (omega (arith, there)) w z .own z .0))
+      (back k l (omega (arith, still, as-long)) ∙ ap (movedUp j) (rest k (omega arith) ∙ other-at k h (λ e. omega (arith, e, up)))))
+      (λ m f. absurd (omega arith))
 
-    pub row-beaten : (old ≡ i → ⊥) → (old ≡ j → ⊥) → fits (getD ds k 0 ∪ getD ds i 0) ≡ true → score ds k (newPlace j old) ≤ score ds k i
-        → (newPlace j old ≤ i → score ds k (newPlace j old) < score ds k i) → rowTo fits ds k (length ds) ≡ chosen k i
-    row-beaten h n f a b = best-row fits ds k i row (beat fits cs ds i j before long within made k (λ e. omega arith) old old-best n (λ z. h) l f a b)
+  pub all-rated : (k : ℕ) → k < length ds → Rated fits ds k (getD zs k 0)
+  all-rated k h = go (decLt k i) (decLt i k)
+    where
+      go : Dec (k < i) → Dec (i < k) → Rated fits ds k (getD zs k 0)
+      go (yes a) b =
+          let low = old-low j k (omega arith) in
+          subst (Rated fits ds k) (sym (stays k (omega arith)))
+          (front k a (subst (Rated fits cs k) (sym (other-at k h (λ e. omega (arith, e, low)) ∙ ap (λ (n : ℕ). getD rs n 0) low)) (was k (omega arith))))
+      go (no a) (yes b) = behind k h b
+      go (no a) (no b) =
+          let e : k ≡ i = omega arith in
+          let mine : getD zs k 0 ≡ own =
+          stays k (omega arith) ∙ rest k (omega arith) ∙ placed k h ∙ ap (λ (n : ℕ). getD (set rs i own) n 0) (old-low j k (omega arith) ∙ e) ∙ getD-set-same rs i own 0 (omega (arith, as-long)) in
+          subst (λ (n : ℕ). Rated fits ds n (getD zs k 0)) (sym e) (subst (Rated fits ds i) (sym mine) joined)
 
-    pub row-joined : (old ≡ i) ⊎ (old ≡ j) → fits (getD ds k 0 ∪ getD ds i 0) ≡ true → rowTo fits ds k (length ds) ≡ chosen k i
-    row-joined which f = best-row fits ds k i row (join-best fits cs ds i j before long within made k (λ e. omega arith) old old-best l which f)
+-- the ratings in a list that was lent and came back as ys
+pub front-rated : (fits : ℕ → Bool) (cs ys zs : List ℕ) (n : ℕ) → n ≤ length ys → length cs ≤ n → ((k : ℕ) → k < length cs → Rated fits cs k (getD ys k 0))
+    → (k : ℕ) → k < length cs → Rated fits cs k (getD (take n (ys ++ zs)) k 0)
+front-rated fits cs ys zs n a b h k l =
+    subst (Rated fits cs k) (sym (ap (λ (m : List ℕ). getD m k 0) (take-append-le n ys zs a) ∙ getD-take n ys k 0 (omega arith))) (h k l)
+
+-- the same where the curves were lent too, and the first n entries count
+pub fronts-rated : (fits : ℕ → Bool) (us vs ys zs : List ℕ) (n m : ℕ) → m ≡ n → n ≤ length us → n ≤ length ys → ((k : ℕ) → k < m → Rated fits (take m us) k (getD ys k 0))
+    → (k : ℕ) → k < length (take n (us ++ vs)) → Rated fits (take n (us ++ vs)) k (getD (take n (ys ++ zs)) k 0)
+fronts-rated fits us vs ys zs n m e a b h k l =
+    let f = take-append-le n us vs a in
+    let low : k < n = omega (arith, ap length f, length-take-le n us a) in
+    subst (λ (cs : List ℕ). Rated fits cs k (getD (take n (ys ++ zs)) k 0)) (sym f)
+    (subst (Rated fits (take n us) k) (sym (ap (λ (q : List ℕ). getD q k 0) (take-append-le n ys zs b) ∙ getD-take n ys k 0 low))
+    (subst (λ (x : ℕ). Rated fits (take x us) k (getD ys k 0)) e (h k (omega arith))))

@@ -1,13 +1,12 @@
 -- The closest pair, row by row: row i is the best second package for the first i. A second of 0 stands for none, since the second is behind the first.
 use mathlib.Core.Path.{_≡_, refl, sym, ap, _∙_}
 use mathlib.Core.Bool.{Bool, true, false, _&&_, cond}
-use mathlib.Core.List.{List, _++_}
+use mathlib.Core.List.{List}
 use Prim.Native.Nat.{ℕ, zero, suc, _+_, _^_, _≤_, _<_}
 use native.Mathlib.Omega.{arith}
 use native.Mathlib.Numerals.{add-one}
 use native.Mathlib.Decide.{decLt}
-use lib.ListN.{length, getD, take}
-use lib.Seq.{getD-take, take-append-le}
+use lib.ListN.{length, getD}
 use lib.Dec.{ltb}
 use borrow.Author.Tests.{lt-ltb, le-ltb, ltb-true, ltb-false}
 use Rattle.bitset.specs.Set.{_∪_, _∩_, size}
@@ -216,9 +215,3 @@ pair-start fits cs = sym (chosen-none 0)
 -- what two sets have in common is at most 64
 pub few-shared : (a b n : ℕ) → a < 2 ^ 64 → n ≡ size (a ∩ b) → n ≤ 64
 few-shared a b n h e = omega (arith, e, size-∩-le a b, size-le 64 a h)
-
--- the rows' bests in a list that was lent and came back as ys
-pub front-rows : (fits : ℕ → Bool) (cs ys zs : List ℕ) (n : ℕ) → n ≤ length ys → length cs ≤ n → ((k : ℕ) → k < length cs → rowTo fits cs k (length cs) ≡ chosen k (getD ys k 0))
-    → (k : ℕ) → k < length cs → rowTo fits cs k (length cs) ≡ chosen k (getD (take n (ys ++ zs)) k 0)
-front-rows fits cs ys zs n a b h k l =
-    h k l ∙ ap (chosen k) (sym (ap (λ (m : List ℕ). getD m k 0) (take-append-le n ys zs a) ∙ getD-take n ys k 0 (omega arith)))

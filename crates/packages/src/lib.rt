@@ -1,16 +1,19 @@
 // Method 3 of "Orders": packages with both rounds, heads, tails and flipping. The packages lie one behind the other in a list of tests. Beside it stand the
-// length and the curves of each package, and its partner: the package behind it that would be the best second one of a pair with it, 0 for none.
+// length and the curves of each package, and its rating: 256 times its score, plus its partner. The partner is the package behind it that would be the best
+// second one of a pair with it, and the score is one more than the number of curves that the two have in common. A partner of 0 is none, or not known yet:
+// then no package behind it gives a higher score.
 ghost use mathlib.Core.Path.{_≡_};
 ghost use mathlib.Core.Bool.{Bool, cond};
 ghost use mathlib.Core.List.{List, _++_, map, reverse};
-ghost use Prim.Native.Nat.{ℕ, suc, _+_, _-_, _≤_, _<_};
+ghost use Prim.Native.Nat.{ℕ, suc, _+_, _-_, _/_, _%_, _≤_, _<_};
 ghost use lib.ListN.{length, getD, take, drop, set, replicate};
-ghost use lib.Dec.{leb, ltb};
+ghost use lib.Dec.{leb, ltb, eqb};
 ghost use Rattle.bitset.specs.Set.{_∪_, size};
 ghost use Rattle.job.specs.Refusal.{overwritten};
 ghost use Rattle.job.specs.Choice.{nobody, keep, bestOf};
 ghost use Rattle.packages.specs.Tests.{common, upTo, entered};
 ghost use Rattle.packages.specs.Packages.{eligible, closer, bestPair, flat, head, tail, flipped, packages};
+ghost use Rattle.packages.specs.Ratings.{Rated};
 
 // Two places in the list of packages; no pair where the second is 0.
 pub struct PackagePair {
@@ -211,11 +214,12 @@ fn join_entry(xs: &mut [u64], first: usize, second: usize, value: u64)
     }
 }
 
-// The partner of a package: "the pair with most common curves; ties to .. the earlier second package". 0 where no union is at most the bound.
-fn best_partner(bound: usize, curves: &[u64], first: usize) -> usize
-    requires { ⌜ first < length (now curves) ⌝ }
-    ensures { λ r. ⌜ bestOf (eligible (λ u. leb (size u) bound) (now (curves .entry))) (closer (now (curves .entry))) (λ j. record { first = first; second = j }) (length (now (curves .entry))) nobody
-        ≡ keep (ltb 0 r) (record { first = first; second = r }) nobody ⌝ }
+// The rating of a package, whose partner gives "the pair with most common curves; ties to .. the earlier second package". 0 where no union is at most the bound.
+fn best_partner(bound: usize, curves: &[u64], first: usize) -> u64
+    requires { ⌜ (first < length (now curves)) × (length (now curves) ≤ 256) ⌝ }
+    ensures partner { λ r. ⌜ bestOf (eligible (λ u. leb (size u) bound) (now (curves .entry))) (closer (now (curves .entry))) (λ j. record { first = first; second = j }) (length (now (curves .entry))) nobody
+        ≡ keep (ltb 0 (r % 256)) (record { first = first; second = r % 256 }) nobody ⌝ }
+    ensures score { λ r. ⌜ r / 256 ≡ cond (ltb 0 (r % 256)) (1 + common (getD (now (curves .entry)) first 0) (getD (now (curves .entry)) (r % 256) 0)) 0 ⌝ }
 {
     let mut second: usize = 0;
     let mut most: usize = 0;
@@ -230,142 +234,169 @@ fn best_partner(bound: usize, curves: &[u64], first: usize) -> usize
         }
         j += 1;
     }
-    second
+    (most * 256 + second) as u64
 }
 
-// One more than the number of curves that two packages have in common; 0 where the second is 0, which stands for none.
-fn score(curves: &[u64], first: usize, second: usize) -> usize
-    ensures { λ r. ⌜ r ≡ cond (ltb 0 second) (1 + common (getD (now (curves .entry)) first 0) (getD (now (curves .entry)) second 0)) 0 ⌝ }
-{
-    if second == 0 {
-        return 0;
-    }
-    1 + shared(entry(curves, first), entry(curves, second))
-}
-
-// The pair with most common curves, "ties to the earlier first, then the earlier second package", found among the packages and their
-// partners.
-fn closest(curves: &[u64], partners: &[usize]) -> PackagePair
-    requires { ⌜ length (now partners) ≡ length (now curves) ⌝ }
-    ensures { λ r. ⌜ ((fits : ℕ → Bool)
-        → ((k : ℕ) → k < length (now (curves .entry))
-        → bestOf (eligible fits (now (curves .entry))) (closer (now (curves .entry))) (λ j. record { first = k; second = j }) (length (now (curves .entry))) nobody
-        ≡ keep (ltb 0 (getD (now (partners .entry)) k 0)) (record { first = k; second = getD (now (partners .entry)) k 0 }) nobody)
-        → bestPair fits (now (curves .entry)) (length (now (curves .entry))) ≡ keep (ltb 0 (r .second)) (record { first = r .first; second = r .second }) nobody) ⌝ }
-{
-    let mut first: usize = 0;
-    let mut second: usize = 0;
-    let mut most: usize = 0;
-    let mut i: usize = 0;
-    while i < partners.len() {
-        let count = score(curves, i, partners[i]);
-        if most < count {
-            first = i;
-            second = partners[i];
-            most = count;
-        }
-        i += 1;
-    }
-    PackagePair { first, second }
-}
-
-// The partner of each package.
-fn best_partners(bound: usize, curves: &[u64], partners: &mut [usize])
-    requires { ⌜ length (now partners) ≡ length (now curves) ⌝ }
-    ensures { λ _. ⌜ ((k : ℕ) → k < length (now (curves .entry))
-        → bestOf (eligible (λ u. leb (size u) bound) (now (curves .entry))) (closer (now (curves .entry))) (λ j. record { first = k; second = j }) (length (now (curves .entry))) nobody
-        ≡ keep (ltb 0 (getD (now (partners .exit)) k 0)) (record { first = k; second = getD (now (partners .exit)) k 0 }) nobody) ⌝ }
+// The rating of each package.
+fn best_partners(bound: usize, curves: &[u64], ratings: &mut [u64])
+    requires { ⌜ (length (now ratings) ≡ length (now curves)) × (length (now curves) ≤ 256) ⌝ }
+    ensures { λ _. ⌜ ((k : ℕ) → k < length (now (curves .entry)) → Rated (λ u. leb (size u) bound) (now (curves .entry)) k (getD (now (ratings .exit)) k 0)) ⌝ }
 {
     let mut k: usize = 0;
     while k < curves.len() {
-        partners[k] = best_partner(bound, curves, k);
+        ratings[k] = best_partner(bound, curves, k);
         k += 1;
     }
 }
 
-// After a join the places behind the second package move up by one.
-fn moved(second: usize, place: usize) -> usize
-    ensures { λ r. ⌜ r ≡ cond (ltb second place) (place - 1) place ⌝ }
+// The place of the highest score, "ties to the earlier first".
+fn highest(ratings: &[u64]) -> usize
+    ensures most { λ r. ⌜ ((k : ℕ) → getD (now (ratings .entry)) k 0 / 256 ≤ getD (now (ratings .entry)) r 0 / 256) ⌝ }
+    ensures earliest { λ r. ⌜ ((k : ℕ) → k < r → getD (now (ratings .entry)) k 0 / 256 < getD (now (ratings .entry)) r 0 / 256) ⌝ }
 {
-    if second < place { place - 1 } else { place }
+    let mut first: usize = 0;
+    let mut most: u64 = 0;
+    let mut i: usize = 0;
+    while i < ratings.len() {
+        let count = ratings[i] / 256;
+        if most < count {
+            first = i;
+            most = count;
+        }
+        i += 1;
+    }
+    first
 }
 
-// The partner of the package at `row` after the join of `first` and `second`; `old` was its partner before. The others are as good as they were, so it is looked
-// for anew only where the old one is gone; and for a package before the joined one, that is as good as either part, unless it no longer fits.
+// The pair with most common curves, "ties to the earlier first, then the earlier second package": the package with the highest score, and its partner. Where that
+// is not known it is looked for anew.
+fn closest(bound: usize, curves: &[u64], ratings: &mut [u64]) -> PackagePair
+    requires { ⌜ (length (now ratings) ≡ length (now curves)) × (length (now curves) ≤ 256) ⌝ }
+    requires { ⌜ ((k : ℕ) → k < length (now curves) → Rated (λ u. leb (size u) bound) (now curves) k (getD (now ratings) k 0)) ⌝ }
+    ensures pair { λ r. ⌜ bestPair (λ u. leb (size u) bound) (now (curves .entry)) (length (now (curves .entry))) ≡ keep (ltb 0 (r .second)) (record { first = r .first; second = r .second }) nobody ⌝ }
+    ensures rated { λ _. ⌜ ((k : ℕ) → k < length (now (curves .entry)) → Rated (λ u. leb (size u) bound) (now (curves .entry)) k (getD (now (ratings .exit)) k 0)) ⌝ }
+{
+    loop {
+        let first = highest(ratings);
+        let rating = entry(ratings, first);
+        let second = (rating % 256) as usize;
+        if 0 < second {
+            return PackagePair { first, second };
+        }
+        if rating == 0 {
+            return PackagePair { first, second };
+        }
+        ratings[first] = best_partner(bound, curves, first);
+    }
+}
+
+// The rating of another package after a join: the second package is no partner any more, and those behind it move up by one.
+fn moved(second: usize, rating: u64) -> u64
+    ensures { λ r. ⌜ r ≡ cond (eqb (rating % 256) second) (rating - rating % 256) (cond (ltb second (rating % 256)) (rating - 1) rating) ⌝ }
+{
+    let partner = (rating % 256) as usize;
+    if partner == second {
+        return rating - rating % 256;
+    }
+    if second < partner { rating - 1 } else { rating }
+}
+
+// The ratings of the packages behind the joined one.
+fn renew_behind(ratings: &mut [u64], first: usize, second: usize)
+    requires { ⌜ first < length (now ratings) ⌝ }
+    ensures behind { λ _. ⌜ ((k : ℕ) → first < k → k < length (now (ratings .entry))
+        → getD (now (ratings .exit)) k 0
+        ≡ cond (eqb (getD (now (ratings .entry)) k 0 % 256) second) (getD (now (ratings .entry)) k 0 - getD (now (ratings .entry)) k 0 % 256) (cond (ltb second (getD (now (ratings .entry)) k 0 % 256)) (getD (now (ratings .entry)) k 0 - 1) (getD (now (ratings .entry)) k 0))) ⌝ }
+    ensures before { λ _. ⌜ ((k : ℕ) → k ≤ first → getD (now (ratings .exit)) k 0 ≡ getD (now (ratings .entry)) k 0) ⌝ }
+{
+    let mut row = first + 1;
+    while row < ratings.len() {
+        ratings[row] = moved(second, ratings[row]);
+        row += 1;
+    }
+}
+
+// The rating of a package before the joined one. That may be its partner, where it fits: with a higher score than before, or with the same as a partner behind it.
 fn renewed(
     bound: usize,
     curves: &[u64],
     first: usize,
     second: usize,
     row: usize,
-    old: usize,
-) -> usize
-    requires { ⌜ (first < second) × (second ≤ length (now curves)) × (row < length (now curves)) ⌝ }
+    rating: u64,
+) -> u64
+    requires { ⌜ (first < second) × (second ≤ length (now curves)) × (row < first) × (length (now curves) ≤ 256) ⌝ }
     ensures { λ r. ⌜ ((cs : List ℕ) → length cs ≡ suc (length (now (curves .entry)))
         → now (curves .entry) ≡ take second (set cs first (getD cs first 0 ∪ getD cs second 0)) ++ drop (suc second) (set cs first (getD cs first 0 ∪ getD cs second 0))
-        → bestOf (eligible (λ u. leb (size u) bound) cs) (closer cs) (λ j. record { first = cond (ltb row second) row (suc row); second = j }) (length cs) nobody
-        ≡ keep (ltb 0 old) (record { first = cond (ltb row second) row (suc row); second = old }) nobody
-        → bestOf (eligible (λ u. leb (size u) bound) (now (curves .entry))) (closer (now (curves .entry))) (λ j. record { first = row; second = j }) (length (now (curves .entry))) nobody
-        ≡ keep (ltb 0 r) (record { first = row; second = r }) nobody) ⌝ }
+        → Rated (λ u. leb (size u) bound) cs row rating
+        → Rated (λ u. leb (size u) bound) (now (curves .entry)) row r) ⌝ }
 {
-    if row == first {
-        return best_partner(bound, curves, row);
-    }
-    if first < row {
-        if old == second {
-            return best_partner(bound, curves, row);
-        }
-        return moved(second, old);
-    }
+    let kept = if (rating % 256) as usize == first {
+        rating - rating % 256
+    } else {
+        moved(second, rating)
+    };
     if bound < bitset::size(bitset::union(curves[row], curves[first])) {
-        if old == first {
-            return best_partner(bound, curves, row);
-        }
-        if old == second {
-            return best_partner(bound, curves, row);
-        }
-        return moved(second, old);
+        return kept;
     }
-    if old == first {
-        return first;
+    let count = (1 + shared(curves[row], curves[first])) as u64;
+    let joined = count * 256 + first as u64;
+    if kept / 256 < count {
+        return joined;
     }
-    if old == second {
-        return first;
+    if count < kept / 256 {
+        return kept;
     }
-    let other = moved(second, old);
-    let other_score = score(curves, row, other);
-    let first_score = score(curves, row, first);
-    if other_score < first_score {
-        return first;
+    if first < (kept % 256) as usize {
+        joined
+    } else {
+        kept
     }
-    if first_score < other_score {
-        return other;
-    }
-    if first < other { first } else { other }
 }
 
-// The partner of each package after the join.
-fn renew_partners(bound: usize, curves: &[u64], partners: &mut [usize], first: usize, second: usize)
-    requires { ⌜ (first < second) × (second ≤ length (now curves)) × (length (now partners) ≡ suc (length (now curves))) ⌝ }
-    ensures { λ _. ⌜ ((cs : List ℕ) → length cs ≡ suc (length (now (curves .entry)))
+// The ratings of the packages before the joined one.
+fn renew_before(bound: usize, curves: &[u64], ratings: &mut [u64], first: usize, second: usize)
+    requires { ⌜ (first < second) × (second ≤ length (now curves)) × (length (now ratings) ≡ suc (length (now curves))) × (length (now curves) ≤ 256) ⌝ }
+    ensures before { λ _. ⌜ ((cs : List ℕ) → length cs ≡ suc (length (now (curves .entry)))
         → now (curves .entry) ≡ take second (set cs first (getD cs first 0 ∪ getD cs second 0)) ++ drop (suc second) (set cs first (getD cs first 0 ∪ getD cs second 0))
-        → ((k : ℕ) → k < length cs
-        → bestOf (eligible (λ u. leb (size u) bound) cs) (closer cs) (λ j. record { first = k; second = j }) (length cs) nobody
-        ≡ keep (ltb 0 (getD (now (partners .entry)) k 0)) (record { first = k; second = getD (now (partners .entry)) k 0 }) nobody)
-        → (k : ℕ) → k < length (now (curves .entry))
-        → bestOf (eligible (λ u. leb (size u) bound) (now (curves .entry))) (closer (now (curves .entry))) (λ j. record { first = k; second = j }) (length (now (curves .entry))) nobody
-        ≡ keep (ltb 0 (getD (now (partners .exit)) k 0)) (record { first = k; second = getD (now (partners .exit)) k 0 }) nobody) ⌝ }
+        → (k : ℕ) → k < first → Rated (λ u. leb (size u) bound) cs k (getD (now (ratings .entry)) k 0)
+        → Rated (λ u. leb (size u) bound) (now (curves .entry)) k (getD (now (ratings .exit)) k 0)) ⌝ }
+    ensures behind { λ _. ⌜ ((k : ℕ) → first ≤ k → getD (now (ratings .exit)) k 0 ≡ getD (now (ratings .entry)) k 0) ⌝ }
 {
     let mut row: usize = 0;
-    while row < curves.len() {
-        let old = if row < second {
-            partners[row]
-        } else {
-            partners[row + 1]
-        };
-        partners[row] = renewed(bound, curves, first, second, row, old);
+    while row < first {
+        ratings[row] = renewed(bound, curves, first, second, row, ratings[row]);
         row += 1;
     }
+}
+
+// The rating of each package after the join.
+fn renew_ratings(bound: usize, curves: &[u64], ratings: &mut [u64], first: usize, second: usize)
+    requires { ⌜ (first < second) × (second ≤ length (now curves)) × (length (now ratings) ≡ suc (length (now curves))) × (length (now curves) ≤ 256) ⌝ }
+    ensures { λ _. ⌜ ((cs : List ℕ) → length cs ≡ suc (length (now (curves .entry)))
+        → now (curves .entry) ≡ take second (set cs first (getD cs first 0 ∪ getD cs second 0)) ++ drop (suc second) (set cs first (getD cs first 0 ∪ getD cs second 0))
+        → ((k : ℕ) → k < length cs → Rated (λ u. leb (size u) bound) cs k (getD (now (ratings .entry)) k 0))
+        → (k : ℕ) → k < length (now (curves .entry)) → Rated (λ u. leb (size u) bound) (now (curves .entry)) k (getD (now (ratings .exit)) k 0)) ⌝ }
+{
+    let own = best_partner(bound, curves, first);
+    join_entry(ratings, first, second, own);
+    renew_before(bound, curves, ratings, first, second);
+    renew_behind(ratings, first, second);
+}
+
+// Joins the curves of two packages; the ratings after it.
+fn join_curves(bound: usize, curves: &mut [u64], ratings: &mut [u64], first: usize, second: usize)
+    requires { ⌜ (first < second) × (second < length (now curves)) × (length (now ratings) ≡ length (now curves)) × (length (now curves) ≤ 256) ⌝ }
+    requires { ⌜ ((k : ℕ) → k < length (now curves) → Rated (λ u. leb (size u) bound) (now curves) k (getD (now ratings) k 0)) ⌝ }
+    ensures sets { λ _. ⌜ take (length (now (curves .entry)) - 1) (now (curves .exit))
+        ≡ take second (set (now (curves .entry)) first (getD (now (curves .entry)) first 0 ∪ getD (now (curves .entry)) second 0))
+        ++ drop (suc second) (set (now (curves .entry)) first (getD (now (curves .entry)) first 0 ∪ getD (now (curves .entry)) second 0)) ⌝ }
+    ensures rated { λ _. ⌜ ((k : ℕ) → k < length (now (curves .entry)) - 1 → Rated (λ u. leb (size u) bound) (take (length (now (curves .entry)) - 1) (now (curves .exit))) k (getD (now (ratings .exit)) k 0)) ⌝ }
+{
+    let left = curves.len() - 1;
+    let joined = bitset::union(curves[first], curves[second]);
+    join_entry(curves, first, second, joined);
+    renew_ratings(bound, &curves[..left], ratings, first, second);
 }
 
 // The wants as the curves of the first packages.
@@ -417,12 +448,12 @@ fn order_by_packages(places: usize, wants: &[u64], order: &mut [u16])
     as_listed(left, order);
     let mut lengths = [1u64; 256];
     let mut curves = first_curves(wants);
-    let mut partners = [0usize; 256];
-    best_partners(places, &curves[..left], &mut partners[..left]);
+    let mut ratings = [0u64; 256];
+    best_partners(places, &curves[..left], &mut ratings[..left]);
     let mut flipping = false;
     let mut bound = places;
     loop {
-        let pair = closest(&curves[..left], &partners[..left]);
+        let pair = closest(bound, &curves[..left], &mut ratings[..left]);
         let first = pair.first;
         let second = pair.second;
         if second == 0 {
@@ -431,7 +462,7 @@ fn order_by_packages(places: usize, wants: &[u64], order: &mut [u16])
             }
             flipping = true;
             bound = 64;
-            best_partners(bound, &curves[..left], &mut partners[..left]);
+            best_partners(bound, &curves[..left], &mut ratings[..left]);
         } else {
             let a = lengths[first];
             let b = lengths[second];
@@ -446,12 +477,10 @@ fn order_by_packages(places: usize, wants: &[u64], order: &mut [u16])
                 b as usize,
             );
             join_entry(&mut lengths[..left], first, second, a + b);
-            let joined = bitset::union(curves[first], curves[second]);
-            join_entry(&mut curves[..left], first, second, joined);
-            renew_partners(
+            join_curves(
                 bound,
-                &curves[..left - 1],
-                &mut partners[..left],
+                &mut curves[..left],
+                &mut ratings[..left],
                 first,
                 second,
             );

@@ -2,7 +2,7 @@
 use mathlib.Core.Path.{_≡_, sym, ap, _∙_}
 use mathlib.Core.Bool.{Bool, true, false}
 use mathlib.Core.Logic.{⊎-elim}
-use Prim.Native.Nat.{ℕ, _≤_, _<_, _-_, _+_}
+use Prim.Native.Nat.{ℕ, _≤_, _<_, _-_, _+_, _*_, _/_, _%_}
 use native.Mathlib.Omega.{arith}
 use lib.Dec.{leb}
 use lib.ListN.{length, getD}
@@ -16,7 +16,7 @@ use Rattle.packages.proofs.best_partner.Statement.{statement}
 use Rattle.packages.proofs.best_partner.Tie as tie
 
 abbrev Inv-loop : tie.InvT-loop
-Inv-loop bound curves first second₀ most₀ j₀ second most j = record { turns : first < j; within : j ≤ length curves; row : rows.rowTo (λ u. leb (size u) bound) curves first j ≡ rows.chosen first second; count : most ≡ rows.score curves first second }
+Inv-loop bound curves first second₀ most₀ j₀ second most j = record { turns : first < j; within : j ≤ length curves; row : rows.rowTo (λ u. leb (size u) bound) curves first j ≡ rows.chosen first second; count : most ≡ rows.score curves first second; few : most ≤ 65; low : second < j }
 
 abbrev μ-loop : tie.MeasureT-loop
 μ-loop bound curves first second₀ most₀ j₀ second most j = length curves - j
@@ -32,6 +32,8 @@ loop-holds c =
       within = omega arith;
       row = rows.row-start (λ u. leb (size u) (a .bound)) (now (a .curves)) (a .first);
       count = sym (rows.score-none (now (a .curves)) (a .first));
+      few = omega arith;
+      low = omega arith;
     }
 
 mul-shared : tie.Need-mul-shared Inv-loop μ-loop
@@ -90,6 +92,7 @@ loop-again c =
     let s = k .loop .second in
     let v = k .loop .inv in
     let e = c .before .shared .ensures in
+    let few = rows.few-shared (getD cs i 0) (getD cs j 0) (c .before .shared .result) (c .before .before .shared-slice-known3 .given i .fits) e in
     ⊎-elim
     (λ w.
     let f : leb (size (getD cs i 0 ∪ getD cs j 0)) (a .bound) ≡ true = le-leb (size (getD cs i 0 ∪ getD cs j 0)) (a .bound) (omega (arith, w .5 .taken, w .4 .ensures, ap size (w .3 .ensures))) in
@@ -98,6 +101,8 @@ loop-again c =
       within = omega arith;
       row = rw (w .6) (rows.row-take fits cs i j s (k .loop .most) (v .row) (v .turns) (v .count) (omega (arith, e, w .0 .taken)) f);
       count = rw (w .6, w .7) (ap (λ (n : ℕ). 1 + n) e ∙ sym (rows.score-some cs i j (omega arith)));
+      few = omega (arith, w .7, few);
+      low = omega (arith, w .6);
     })
     (λ o.
     ⊎-elim
@@ -108,6 +113,8 @@ loop-again c =
       within = omega arith;
       row = rw (w .6) (rows.row-pass fits cs i j s (k .loop .most) (v .row) f);
       count = rw (w .6, w .7) (v .count);
+      few = omega (arith, w .7, v .few);
+      low = omega (arith, w .6, v .low);
     })
     (λ w.
     record {
@@ -115,16 +122,28 @@ loop-again c =
       within = omega arith;
       row = rw (w .1) (rows.row-keep fits cs i j s (k .loop .most) (v .row) (v .count) (omega (arith, e, w .0 .left)));
       count = rw (w .1, w .2) (v .count);
+      few = omega (arith, w .2, v .few);
+      low = omega (arith, w .1, v .low);
     })
     o)
     (c .if1 .came)
+
+mul-result : tie.Need-mul-result Inv-loop μ-loop
+mul-result c = omega (arith, c .before .loop .inv .few)
+
+add-result : tie.Need-add-result Inv-loop μ-loop
+add-result c = omega (arith, c .before .loop .inv .few, c .before .loop .inv .low)
 
 returns : tie.Need-returns Inv-loop μ-loop
 returns c =
     let k = c .before in
     let a = k .before .before .args in
+    let v = k .loop .inv in
     let e : length (now (a .curves)) ≡ k .loop .j = omega arith in
-    rw e (k .loop .inv .row)
+    let low : k .loop .second < 256 = omega (arith, v .low, v .within, k .before .before .pre) in
+    let p : (k .loop .most * 256 + k .loop .second) % 256 ≡ k .loop .second = omega (arith, low) in
+    let d : (k .loop .most * 256 + k .loop .second) / 256 ≡ k .loop .most = omega (arith, low) in
+    (rw e (v .row) ∙ ap (rows.chosen (a .first)) (sym p), d ∙ v .count ∙ ap (rows.score (now (a .curves)) (a .first)) (sym p) ∙ sym (rows.score-as (now (a .curves)) (a .first) _))
 
 pub best-partner-spec : {M : Type 1} → statement M
 best-partner-spec =
@@ -149,4 +168,6 @@ best-partner-spec =
     add-j-2
     loop-less
     loop-again
+    mul-result
+    add-result
     returns)

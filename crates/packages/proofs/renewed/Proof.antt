@@ -1,49 +1,54 @@
--- `packages::renewed` meets its contract. Each return is one way in which a join leaves a package's partner (`Renew`).
+-- `packages::renewed` meets its contract: what is left of the rating stays, or the joined package is the partner (`Renew`).
 use mathlib.Core.Bool.{false≢true, Bool, true, false}
-use mathlib.Core.Logic.{inl, inr}
-use mathlib.Core.Path.{_≡_, sym, ap, _∙_}
-use Prim.Native.Nat.{ℕ}
+use mathlib.Core.Logic.{⊎-elim}
+use mathlib.Core.Path.{_≡_, sym, subst, ap, _∙_}
+use Prim.Native.Nat.{ℕ, _+_, _*_, _/_, _%_, _≤_}
 use native.Mathlib.Omega.{arith}
 use lib.Dec.{leb}
 use lib.ListN.{getD}
-use borrow.Author.Needs.{needs}
 use borrow.Author.Tests.{le-leb, lt-leb}
 use denote.Ref.{now}
 use Rattle.bitset.specs.Set.{_∪_, size}
-use Rattle.packages.specs.Tests.{common}
+use Rattle.packages.specs.Ratings.{Rated}
 use Rattle.packages.proofs.Rows as rows
 use Rattle.packages.proofs.Renew as renew
+use borrow.Author.Needs.{needs}
 use Rattle.packages.proofs.renewed.Statement.{statement}
 use Rattle.packages.proofs.renewed.Tie as tie
 
+-- what is left of the rating
+kept : (c : tie.Joined1) → let a = c .before .before .args in renew.Kept (a .first) (a .second) (a .rating) (c .if1 .kept)
+kept c =
+    let s = c .before .before in
+    let a = s .args in
+    ⊎-elim
+    (λ w. renew.kept-none (a .first) (a .second) (a .rating) (c .if1 .kept) (w .1))
+    (λ w. renew.kept-moved (a .first) (a .second) (a .rating) (c .if1 .kept) (s .pre .0) (λ z e. w .0 .left e) (w .2 ∙ w .1 .ensures))
+    (c .if1 .came)
+
 -- the joined package fits
-fit : (c : tie.Else4) → let a = c .before .before .before .before .before .before .before .before .args in leb (size (getD (now (a .curves)) (a .row) 0 ∪ getD (now (a .curves)) (a .first) 0)) (a .bound) ≡ true
+fit : (c : tie.Else2) → let a = c .before .before .before .before .before .before .before .args in leb (size (getD (now (a .curves)) (a .row) 0 ∪ getD (now (a .curves)) (a .first) 0)) (a .bound) ≡ true
 fit c =
-    let a = c .before .before .before .before .before .before .before .before .args in
-    le-leb (size (getD (now (a .curves)) (a .row) 0 ∪ getD (now (a .curves)) (a .first) 0)) (a .bound) (omega (arith, c .if4 .left, c .before .size .ensures, ap size (c .before .before .union .ensures)))
+    let a = c .before .before .before .before .before .before .before .args in
+    le-leb (size (getD (now (a .curves)) (a .row) 0 ∪ getD (now (a .curves)) (a .first) 0)) (a .bound) (omega (arith, c .if2 .left, c .before .size .ensures, ap size (c .before .before .union .ensures)))
 
-best-partner-requires : tie.Need-best-partner-requires
-best-partner-requires c κs = search needs
+-- its score, and its rating
+counted : (c : tie.After-shared) → let a = c .before .before .before .before .before .before .before .before .before .before .args in 1 + c .shared .result ≡ rows.score (now (a .curves)) (a .row) (a .first)
+counted c =
+    let s = c .before .before .before .before .before .before .before .before .before .before in
+    let a = s .args in
+    ap (λ (n : ℕ). 1 + n) (c .shared .ensures) ∙ sym (rows.score-some (now (a .curves)) (a .row) (a .first) (omega (arith, s .pre)))
 
-returns : tie.Need-returns
-returns c = search needs
+few : (c : tie.After-shared) → c .shared .result ≤ 64
+few c =
+    let a = c .before .before .before .before .before .before .before .before .before .before .args in
+    rows.few-shared (getD (now (a .curves)) (a .row) 0) _ (c .shared .result) (c .before .shared-slice-known5 .given (a .row) .fits) (c .shared .ensures)
 
-best-partner-requires-2 : tie.Need-best-partner-requires-2
-best-partner-requires-2 c κs = search needs
-
-returns-2 : tie.Need-returns-2
-returns-2 c = search needs
+sub-kept : tie.Need-sub-kept
+sub-kept c = search needs
 
 moved-requires : tie.Need-moved-requires
 moved-requires c κs = search needs
-
-returns-3 : tie.Need-returns-3
-returns-3 c =
-    let s = c .before .before .before .before .before in
-    let a = s .args in
-    let ds = now (a .curves) in
-    let fits : ℕ → Bool = λ u. leb (size u) (a .bound) in
-    λ cs n e r. renew.row-behind fits cs ds (a .first) (a .second) (s .pre .0) n (s .pre .1) e (a .row) (s .pre .2) (a .old) r (c .before .before .if2 .taken) (c .before .if3 .left) ∙ ap (rows.chosen (a .row)) (sym (c .moved .ensures))
 
 mul-union : tie.Need-mul-union
 mul-union c = search needs
@@ -63,135 +68,103 @@ union-requires c κs = search needs
 size-requires : tie.Need-size-requires
 size-requires c κs = search needs
 
-best-partner-requires-3 : tie.Need-best-partner-requires-3
-best-partner-requires-3 c κs = search needs
+returns : tie.Need-returns
+returns c =
+    let s = c .before .before .before .before .before .before .before in
+    let a = s .args in
+    let ds = now (a .curves) in
+    let fits : ℕ → Bool = λ u. leb (size u) (a .bound) in
+    let no : leb (size (getD ds (a .row) 0 ∪ getD ds (a .first) 0)) (a .bound) ≡ false = lt-leb (size (getD ds (a .row) 0 ∪ getD ds (a .first) 0)) (a .bound) (omega (arith, c .if2 .taken, c .before .size .ensures, ap size (c .before .before .union .ensures))) in
+    λ cs n e w. renew.rated-stays fits cs ds (a .first) (a .second) (s .pre .0) n (s .pre .1) e (a .row) (omega (arith, s .pre)) (λ z. omega (arith, z, s .pre)) (a .rating) (c .before .before .before .before .before .if1 .kept) (subst (λ (k : ℕ). Rated fits cs k (a .rating)) (sym (renew.old-low (a .second) (a .row) (omega (arith, s .pre)))) w) (kept (c .before .before .before .before .before)) (λ l f. absurd (false≢true (sym no ∙ f)))
+
+mul-shared : tie.Need-mul-shared
+mul-shared c = search needs
+
+shared-slice-read-shared : tie.Need-shared-slice-read-shared
+shared-slice-read-shared c = search needs
+
+mul-shared-2 : tie.Need-mul-shared-2
+mul-shared-2 c = search needs
+
+shared-slice-read-shared-2 : tie.Need-shared-slice-read-shared-2
+shared-slice-read-shared-2 c = search needs
+
+shared-requires : tie.Need-shared-requires
+shared-requires c κs = search needs
+
+add-count : tie.Need-add-count
+add-count c = omega (arith, few c)
+
+mul-joined : tie.Need-mul-joined
+mul-joined c = omega (arith, few c)
+
+add-joined : tie.Need-add-joined
+add-joined c = omega (arith, few c, c .before .before .before .before .before .before .before .before .before .before .pre)
+
+returns-2 : tie.Need-returns-2
+returns-2 c =
+    let s = c .before .before .before .before .before .before .before .before .before .before .before .before in
+    let a = s .args in
+    let ds = now (a .curves) in
+    let fits : ℕ → Bool = λ u. leb (size u) (a .bound) in
+    let m = counted (c .before .before) in
+    let u = (1 + c .before .before .shared .result) * 256 + a .first in
+    let us : u / 256 ≡ rows.score ds (a .row) (a .first) = omega (arith, m, s .pre) in
+    let up : u % 256 ≡ a .first = omega (arith, s .pre) in
+    λ cs n e w. renew.rated-beaten fits cs ds (a .first) (a .second) (s .pre .0) n (s .pre .1) e (a .row) (omega (arith, s .pre)) (λ z. omega (arith, z, s .pre)) (a .rating) (c .before .before .before .before .before .before .before .before .before .before .if1 .kept) (subst (λ (k : ℕ). Rated fits cs k (a .rating)) (sym (renew.old-low (a .second) (a .row) (omega (arith, s .pre)))) w) (kept (c .before .before .before .before .before .before .before .before .before .before)) u us up (omega (arith, s .pre)) (fit (c .before .before .before .before .before)) (omega (arith, m, c .if3 .taken)) (λ h. absurd (omega (arith, m, c .if3 .taken)))
+
+returns-3 : tie.Need-returns-3
+returns-3 c =
+    let s = c .before .before .before .before .before .before .before .before .before .before .before .before .before in
+    let a = s .args in
+    let ds = now (a .curves) in
+    let fits : ℕ → Bool = λ u. leb (size u) (a .bound) in
+    let m = counted (c .before .before .before) in
+    λ cs n e w. renew.rated-stays fits cs ds (a .first) (a .second) (s .pre .0) n (s .pre .1) e (a .row) (omega (arith, s .pre)) (λ z. omega (arith, z, s .pre)) (a .rating) (c .before .before .before .before .before .before .before .before .before .before .before .if1 .kept) (subst (λ (k : ℕ). Rated fits cs k (a .rating)) (sym (renew.old-low (a .second) (a .row) (omega (arith, s .pre)))) w) (kept (c .before .before .before .before .before .before .before .before .before .before .before)) (λ l f. (omega (arith, m, c .if4 .taken), λ h. omega (arith, m, c .if4 .taken)))
 
 returns-4 : tie.Need-returns-4
-returns-4 c = search needs
-
-best-partner-requires-4 : tie.Need-best-partner-requires-4
-best-partner-requires-4 c κs = search needs
-
-returns-5 : tie.Need-returns-5
-returns-5 c = search needs
-
-moved-requires-2 : tie.Need-moved-requires-2
-moved-requires-2 c κs = search needs
-
-returns-6 : tie.Need-returns-6
-returns-6 c =
-    let s = c .before .before .before .before .before .before .before .before .before .before .before in
-    let a = s .args in
-    let ds = now (a .curves) in
-    let fits : ℕ → Bool = λ u. leb (size u) (a .bound) in
-    let t = c .before .before .before in
-    let no : leb (size (getD ds (a .row) 0 ∪ getD ds (a .first) 0)) (a .bound) ≡ false = lt-leb (size (getD ds (a .row) 0 ∪ getD ds (a .first) 0)) (a .bound) (omega (arith, t .if4 .taken, t .before .size .ensures, ap size (t .before .before .union .ensures))) in
-    λ cs n e r. renew.row-stays fits cs ds (a .first) (a .second) (s .pre .0) n (s .pre .1) e (a .row) (s .pre .2) (a .old) r (omega (arith, t .before .before .before .before .before .if2 .left, t .before .before .before .before .before .before .if1 .left)) (c .before .before .if5 .left) (c .before .if6 .left) (λ g. absurd (false≢true (sym no ∙ g)))
-    ∙ ap (rows.chosen (a .row)) (sym (c .moved2 .ensures))
-
-returns-7 : tie.Need-returns-7
-returns-7 c =
-    let s = c .before .before .before .before .before .before .before .before .before in
-    let a = s .args in
-    let ds = now (a .curves) in
-    let fits : ℕ → Bool = λ u. leb (size u) (a .bound) in
-    λ cs n e r. renew.row-joined fits cs ds (a .first) (a .second) (s .pre .0) n (s .pre .1) e (a .row) (s .pre .2) (a .old) r (omega (arith, c .before .before .before .before .before .before .if2 .left, c .before .before .before .before .before .before .before .if1 .left)) (inl (c .if7 .taken)) (fit (c .before))
-
-returns-8 : tie.Need-returns-8
-returns-8 c =
-    let s = c .before .before .before .before .before .before .before .before .before .before in
-    let a = s .args in
-    let ds = now (a .curves) in
-    let fits : ℕ → Bool = λ u. leb (size u) (a .bound) in
-    λ cs n e r. renew.row-joined fits cs ds (a .first) (a .second) (s .pre .0) n (s .pre .1) e (a .row) (s .pre .2) (a .old) r (omega (arith, c .before .before .before .before .before .before .before .if2 .left, c .before .before .before .before .before .before .before .before .if1 .left)) (inr (c .if8 .taken)) (fit (c .before .before))
-
-moved-requires-3 : tie.Need-moved-requires-3
-moved-requires-3 c κs = search needs
-
-score-requires : tie.Need-score-requires
-score-requires c κs = search needs
-
-score-requires-2 : tie.Need-score-requires-2
-score-requires-2 c κs = search needs
-
-returns-9 : tie.Need-returns-9
-returns-9 c =
+returns-4 c =
     let s = c .before .before .before .before .before .before .before .before .before .before .before .before .before .before in
     let a = s .args in
     let ds = now (a .curves) in
     let fits : ℕ → Bool = λ u. leb (size u) (a .bound) in
-    let q = renew.newPlace (a .second) (a .old) in
-    let other : c .before .before .before .moved3 .result ≡ q = c .before .before .before .moved3 .ensures in
-    let most : c .before .before .score .result ≡ rows.score ds (a .row) q = c .before .before .score .ensures ∙ rows.score-as ds (a .row) (c .before .before .before .moved3 .result) ∙ ap (rows.score ds (a .row)) other in
-    let common : c .before .score2 .result ≡ rows.score ds (a .row) (a .first) = c .before .score2 .ensures ∙ rows.score-as ds (a .row) (a .first) in
-    λ cs n e r. renew.row-beaten fits cs ds (a .first) (a .second) (s .pre .0) n (s .pre .1) e (a .row) (s .pre .2) (a .old) r (omega (arith, c .before .before .before .before .before .before .before .before .before .before .before .if2 .left, c .before .before .before .before .before .before .before .before .before .before .before .before .if1 .left)) (c .before .before .before .before .before .if7 .left) (c .before .before .before .before .if8 .left) (fit (c .before .before .before .before .before .before)) (omega (arith, most, common, c .if9 .taken)) (λ h. omega (arith, most, common, c .if9 .taken))
+    let m = counted (c .before .before .before .before) in
+    let u = (1 + c .before .before .before .before .shared .result) * 256 + a .first in
+    let us : u / 256 ≡ rows.score ds (a .row) (a .first) = omega (arith, m, s .pre) in
+    let up : u % 256 ≡ a .first = omega (arith, s .pre) in
+    λ cs n e w. renew.rated-beaten fits cs ds (a .first) (a .second) (s .pre .0) n (s .pre .1) e (a .row) (omega (arith, s .pre)) (λ z. omega (arith, z, s .pre)) (a .rating) (c .before .before .before .before .before .before .before .before .before .before .before .before .if1 .kept) (subst (λ (k : ℕ). Rated fits cs k (a .rating)) (sym (renew.old-low (a .second) (a .row) (omega (arith, s .pre)))) w) (kept (c .before .before .before .before .before .before .before .before .before .before .before .before)) u us up (omega (arith, s .pre)) (fit (c .before .before .before .before .before .before .before)) (omega (arith, m, c .before .if4 .left)) (λ h. omega (arith, c .if5 .taken))
 
-returns-10 : tie.Need-returns-10
-returns-10 c =
-    let s = c .before .before .before .before .before .before .before .before .before .before .before .before .before .before .before in
+returns-5 : tie.Need-returns-5
+returns-5 c =
+    let s = c .before .before .before .before .before .before .before .before .before .before .before .before .before .before in
     let a = s .args in
     let ds = now (a .curves) in
     let fits : ℕ → Bool = λ u. leb (size u) (a .bound) in
-    let q = renew.newPlace (a .second) (a .old) in
-    let other : c .before .before .before .before .moved3 .result ≡ q = c .before .before .before .before .moved3 .ensures in
-    let most : c .before .before .before .score .result ≡ rows.score ds (a .row) q = c .before .before .before .score .ensures ∙ rows.score-as ds (a .row) (c .before .before .before .before .moved3 .result) ∙ ap (rows.score ds (a .row)) other in
-    let common : c .before .before .score2 .result ≡ rows.score ds (a .row) (a .first) = c .before .before .score2 .ensures ∙ rows.score-as ds (a .row) (a .first) in
-    λ cs n e r. renew.row-stays fits cs ds (a .first) (a .second) (s .pre .0) n (s .pre .1) e (a .row) (s .pre .2) (a .old) r (omega (arith, c .before .before .before .before .before .before .before .before .before .before .before .before .if2 .left, c .before .before .before .before .before .before .before .before .before .before .before .before .before .if1 .left)) (c .before .before .before .before .before .before .if7 .left) (c .before .before .before .before .before .if8 .left) (λ g. (omega (arith, most, common, c .if10 .taken), λ h. omega (arith, most, common, c .if10 .taken)))
-    ∙ ap (rows.chosen (a .row)) (sym other)
-
-returns-11 : tie.Need-returns-11
-returns-11 c =
-    let s = c .before .before .before .before .before .before .before .before .before .before .before .before .before .before .before .before in
-    let a = s .args in
-    let ds = now (a .curves) in
-    let fits : ℕ → Bool = λ u. leb (size u) (a .bound) in
-    let q = renew.newPlace (a .second) (a .old) in
-    let other : c .before .before .before .before .before .moved3 .result ≡ q = c .before .before .before .before .before .moved3 .ensures in
-    let most : c .before .before .before .before .score .result ≡ rows.score ds (a .row) q = c .before .before .before .before .score .ensures ∙ rows.score-as ds (a .row) (c .before .before .before .before .before .moved3 .result) ∙ ap (rows.score ds (a .row)) other in
-    let common : c .before .before .before .score2 .result ≡ rows.score ds (a .row) (a .first) = c .before .before .before .score2 .ensures ∙ rows.score-as ds (a .row) (a .first) in
-    λ cs n e r. renew.row-beaten fits cs ds (a .first) (a .second) (s .pre .0) n (s .pre .1) e (a .row) (s .pre .2) (a .old) r (omega (arith, c .before .before .before .before .before .before .before .before .before .before .before .before .before .if2 .left, c .before .before .before .before .before .before .before .before .before .before .before .before .before .before .if1 .left)) (c .before .before .before .before .before .before .before .if7 .left) (c .before .before .before .before .before .before .if8 .left) (fit (c .before .before .before .before .before .before .before .before)) (omega (arith, most, common, c .before .if10 .left)) (λ h. absurd (omega (arith, c .if11 .taken, other)))
-
-returns-12 : tie.Need-returns-12
-returns-12 c =
-    let s = c .before .before .before .before .before .before .before .before .before .before .before .before .before .before .before .before in
-    let a = s .args in
-    let ds = now (a .curves) in
-    let fits : ℕ → Bool = λ u. leb (size u) (a .bound) in
-    let q = renew.newPlace (a .second) (a .old) in
-    let other : c .before .before .before .before .before .moved3 .result ≡ q = c .before .before .before .before .before .moved3 .ensures in
-    let most : c .before .before .before .before .score .result ≡ rows.score ds (a .row) q = c .before .before .before .before .score .ensures ∙ rows.score-as ds (a .row) (c .before .before .before .before .before .moved3 .result) ∙ ap (rows.score ds (a .row)) other in
-    let common : c .before .before .before .score2 .result ≡ rows.score ds (a .row) (a .first) = c .before .before .before .score2 .ensures ∙ rows.score-as ds (a .row) (a .first) in
-    λ cs n e r. renew.row-stays fits cs ds (a .first) (a .second) (s .pre .0) n (s .pre .1) e (a .row) (s .pre .2) (a .old) r (omega (arith, c .before .before .before .before .before .before .before .before .before .before .before .before .before .if2 .left, c .before .before .before .before .before .before .before .before .before .before .before .before .before .before .if1 .left)) (c .before .before .before .before .before .before .before .if7 .left) (c .before .before .before .before .before .before .if8 .left) (λ g. (omega (arith, most, common, c .before .before .if9 .left), λ h. absurd (omega (arith, c .if11 .left, other))))
-    ∙ ap (rows.chosen (a .row)) (sym other)
+    let m = counted (c .before .before .before .before) in
+    λ cs n e w. renew.rated-stays fits cs ds (a .first) (a .second) (s .pre .0) n (s .pre .1) e (a .row) (omega (arith, s .pre)) (λ z. omega (arith, z, s .pre)) (a .rating) (c .before .before .before .before .before .before .before .before .before .before .before .before .if1 .kept) (subst (λ (k : ℕ). Rated fits cs k (a .rating)) (sym (renew.old-low (a .second) (a .row) (omega (arith, s .pre)))) w) (kept (c .before .before .before .before .before .before .before .before .before .before .before .before)) (λ l f. (omega (arith, m, c .before .before .if3 .left), λ h. absurd (omega (arith, c .if5 .left))))
 
 pub renewed-spec : {M : Type 1} → statement M
 renewed-spec =
     tie.close
     (tie.spec
-    best-partner-requires
-    returns
-    best-partner-requires-2
-    returns-2
+    sub-kept
     moved-requires
-    returns-3
     mul-union
     shared-slice-read-union
     mul-union-2
     shared-slice-read-union-2
     union-requires
     size-requires
-    best-partner-requires-3
+    returns
+    mul-shared
+    shared-slice-read-shared
+    mul-shared-2
+    shared-slice-read-shared-2
+    shared-requires
+    add-count
+    mul-joined
+    add-joined
+    returns-2
+    returns-3
     returns-4
-    best-partner-requires-4
-    returns-5
-    moved-requires-2
-    returns-6
-    returns-7
-    returns-8
-    moved-requires-3
-    score-requires
-    score-requires-2
-    returns-9
-    returns-10
-    returns-11
-    returns-12)
+    returns-5)

@@ -1,0 +1,99 @@
+-- `packages::renew_behind` meets its contract. Invariant: the ratings behind the first and before `row` are renewed, the others as they were.
+use mathlib.Core.Path.{_≡_, refl, sym, ap, _∙_}
+use Prim.Native.Nat.{ℕ, _≤_, _<_, _-_}
+use native.Mathlib.Omega.{arith}
+use native.Mathlib.Decide.{ℕ-discrete}
+use mathlib.Core.List.{List}
+use lib.Seq.{getD-set-same, getD-set-other}
+use lib.ListN.{length, getD, set, length-set}
+use borrow.Author.Needs.{needs}
+use denote.Ref.{now}
+use Rattle.packages.proofs.Renew.{movedUp}
+use Rattle.packages.proofs.renew_behind.Statement.{statement}
+use Rattle.packages.proofs.renew_behind.Tie as tie
+
+abbrev Inv-loop : tie.InvT-loop
+Inv-loop ratings₀ first second row₀ ratings row = record {
+  turns : first < row;
+  long : length ratings ≡ length ratings₀;
+  done : (k : ℕ) → first < k → k < row → getD ratings k 0 ≡ movedUp second (getD ratings₀ k 0);
+  rest : (k : ℕ) → row ≤ k → getD ratings k 0 ≡ getD ratings₀ k 0;
+  before : (k : ℕ) → k ≤ first → getD ratings k 0 ≡ getD ratings₀ k 0;
+}
+
+abbrev μ-loop : tie.MeasureT-loop
+μ-loop ratings₀ first second row₀ ratings row = length ratings₀ - row
+
+add-row : tie.Need-add-row Inv-loop μ-loop
+add-row c = search needs
+
+-- one rating more
+turned : (rs old : List ℕ) (i k second r : ℕ) → i < length rs → r ≡ movedUp second (getD old i 0) → Dec (k ≡ i) → ((k ≡ i → ⊥) → getD rs k 0 ≡ movedUp second (getD old k 0))
+    → getD (set rs i r) k 0 ≡ movedUp second (getD old k 0)
+turned rs old i k second r l e (yes d) h = ap (λ (n : ℕ). getD (set rs i r) n 0) d ∙ getD-set-same rs i r 0 l ∙ e ∙ ap (λ (n : ℕ). movedUp second (getD old n 0)) (sym d)
+turned rs old i k second r l e (no d) h = getD-set-other rs i k r 0 d ∙ h d
+
+loop-holds : tie.Need-loop-holds Inv-loop μ-loop
+loop-holds c = record { turns = omega arith; long = refl; done = λ k a b. absurd (omega arith); rest = λ k l. refl; before = λ k l. refl }
+
+mul-moved : tie.Need-mul-moved Inv-loop μ-loop
+mul-moved c = search needs
+
+slice-read-moved : tie.Need-slice-read-moved Inv-loop μ-loop
+slice-read-moved c = search needs
+
+moved-requires : tie.Need-moved-requires Inv-loop μ-loop
+moved-requires c κs = search needs
+
+mul-ratings : tie.Need-mul-ratings Inv-loop μ-loop
+mul-ratings c = search needs
+
+slice-write-ratings : tie.Need-slice-write-ratings Inv-loop μ-loop
+slice-write-ratings c = search needs
+
+add-row-2 : tie.Need-add-row-2 Inv-loop μ-loop
+add-row-2 c = search needs
+
+loop-less : tie.Need-loop-less Inv-loop μ-loop
+loop-less c = search needs
+
+loop-again : tie.Need-loop-again Inv-loop μ-loop
+loop-again c =
+    let q = c .before .before .before in
+    let a = q .before .before .args in
+    let rs = q .loop .ratings in
+    let i = q .loop .row in
+    let v = q .loop .inv in
+    let made : c .moved .result ≡ movedUp (a .second) (getD (now (a .ratings)) i 0) = c .moved .ensures ∙ ap (movedUp (a .second)) (v .rest i (omega arith)) in
+    record {
+      turns = omega arith;
+      long = simp length-set (v .long);
+      done = λ k l m. turned rs (now (a .ratings)) i k (a .second) (c .moved .result) (omega (arith, v .long)) made (ℕ-discrete k i) (λ e. v .done k l (omega arith));
+      rest = λ k l. getD-set-other rs i k _ 0 (λ e. omega arith) ∙ v .rest k (omega arith);
+      before = λ k l. getD-set-other rs i k _ 0 (λ e. omega arith) ∙ v .before k l;
+    }
+
+same-length : tie.Need-same-length Inv-loop μ-loop
+same-length c = c .before .loop .inv .long
+
+returns : tie.Need-returns Inv-loop μ-loop
+returns c = (λ k l m. c .before .loop .inv .done k l (omega (arith, c .before .loop .inv .long)), c .before .loop .inv .before)
+
+pub renew-behind-spec : {M : Type 1} → statement M
+renew-behind-spec =
+    tie.close
+    (tie.spec
+    Inv-loop
+    μ-loop
+    add-row
+    loop-holds
+    mul-moved
+    slice-read-moved
+    moved-requires
+    mul-ratings
+    slice-write-ratings
+    add-row-2
+    loop-less
+    loop-again
+    same-length
+    returns)
