@@ -4,24 +4,12 @@ use job::Examined;
 use job::Refusal;
 ghost use mathlib.Core.Path.{_≡_};
 ghost use Prim.Native.Nat.{_≤_};
-ghost use lib.ListN.{length, take};
+ghost use lib.ListN.{length};
 ghost use Rattle.job.specs.Refusal.{countOutcome, overwritten};
 ghost use Rattle.ordering.specs.Methods.{orderBy};
 ghost use Rattle.ordering.specs.Ordering.{orderAnswer, orderList};
 
 mod growing;
-
-// The first entries of a list that was made elsewhere.
-fn copy_first(tests: usize, from: &[u16; 256], order: &mut [u16])
-    requires { ⌜ (tests ≤ 256) × (tests ≤ length (now from)) × (tests ≤ length (now order)) ⌝ }
-    ensures { λ _. ⌜ now (order .exit) ≡ overwritten (take tests (now (from .entry))) (now (order .entry)) ⌝ }
-{
-    let mut i: usize = 0;
-    while i < tests {
-        order[i] = from[i];
-        i += 1;
-    }
-}
 
 // The order of the method.
 fn write_order(places: usize, method: usize, wants: &[u64], order: &mut [u16])
@@ -40,8 +28,7 @@ fn write_order(places: usize, method: usize, wants: &[u64], order: &mut [u16])
         growing::spanning_tree(wants, order);
         return;
     }
-    let made = packages::package_order(places, wants);
-    copy_first(wants.len(), &made, order);
+    packages::package_order(places, wants, order);
 }
 
 // Orders the tests: "5, 10 in its own order, then for ordering 7, 9". Answers the number of tests, which are in the first entries of the lent list; nothing

@@ -1,10 +1,9 @@
 -- Tests that are written to a list where they fit: the cases, and the orders of methods 0 and 3.
-use mathlib.Core.Path.{_≡_, refl, sym, ap, _∙_}
+use mathlib.Core.Path.{_≡_, refl, _∙_}
 use mathlib.Core.List.{List}
 use Prim.Native.Nat.{ℕ, _≤_, _<_}
 use native.Mathlib.Omega.{arith}
-use lib.ListN.{length, take, drop, replicate}
-use lib.Seq.{take-append-seam}
+use lib.ListN.{length}
 use borrow.Author.Tests.{le-leb, lt-leb}
 use Rattle.job.specs.Refusal.{done, demand, room, overwritten}
 use Rattle.job.specs.Handed.{testsKnown}
@@ -53,14 +52,8 @@ module _ (places : ℕ) (wants : List ℕ) where
   pub packages-many : (old : List ℕ) → 256 < length wants → entered (packages places wants) old ≡ old
   packages-many old h = many (packages places wants) old (omega (arith, long))
 
+  pub packages-short : (old : List ℕ) → length wants ≤ 256 → length old < length wants → entered (packages places wants) old ≡ old
+  packages-short old f h = short (packages places wants) old (omega (arith, long)) (omega (arith, long))
+
   pub packages-all : (old : List ℕ) → length wants ≤ 256 → length wants ≤ length old → entered (packages places wants) old ≡ overwritten (packages places wants) old
   packages-all old f h = all (packages places wants) old (omega (arith, long)) (omega (arith, long))
-
-  -- the first entries of the array
-  pub packages-first : length wants ≤ 256 → take (length wants) (entered (packages places wants) (replicate 256 0)) ≡ packages places wants
-  unfolding overwritten
-  packages-first f =
-      let ts = packages places wants in
-      let old : List ℕ = replicate 256 0 in
-      let e : length old ≡ 256 = refl in
-      ap (take (length wants)) (packages-all old f (omega (arith, e))) ∙ ap (λ (k : ℕ). take k (overwritten ts old)) (sym long) ∙ take-append-seam ts (drop (length ts) old)

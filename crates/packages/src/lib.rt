@@ -6,7 +6,7 @@ ghost use mathlib.Core.Path.{_≡_};
 ghost use mathlib.Core.Bool.{Bool, cond};
 ghost use mathlib.Core.List.{List, _++_, map, reverse};
 ghost use Prim.Native.Nat.{ℕ, suc, _+_, _-_, _/_, _%_, _≤_, _<_};
-ghost use lib.ListN.{length, getD, take, drop, set, replicate};
+ghost use lib.ListN.{length, getD, take, drop, set};
 ghost use lib.Dec.{leb, ltb, eqb};
 ghost use Rattle.bitset.specs.Set.{_∪_, size};
 ghost use Rattle.job.specs.Refusal.{overwritten};
@@ -489,14 +489,15 @@ fn order_by_packages(places: usize, wants: &[u64], order: &mut [u16])
     }
 }
 
-// The order of method 3 as an array, of which the first entries count, one for each of at most 256 tests.
-pub fn package_order(places: usize, wants: &[u64]) -> [u16; 256]
-    ensures { λ r. ⌜ r ≡ entered (packages places (now (wants .entry))) (replicate 256 0) ⌝ }
+// "3, packages", of at most 256 tests: writes the tests to the beginning of `order`, where they fit.
+pub fn package_order(places: usize, wants: &[u64], order: &mut [u16])
+    ensures { λ _. ⌜ now (order .exit) ≡ entered (packages places (now (wants .entry))) (now (order .entry)) ⌝ }
 {
-    let mut order = [0u16; 256];
     if 256 < wants.len() {
-        return order;
+        return;
     }
-    order_by_packages(places, wants, &mut order);
-    order
+    if order.len() < wants.len() {
+        return;
+    }
+    order_by_packages(places, wants, order);
 }

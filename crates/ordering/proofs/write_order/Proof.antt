@@ -3,10 +3,10 @@ use mathlib.Core.Path.{_≡_, sym, ap, _∙_}
 use mathlib.Core.List.{List}
 use Prim.Native.Nat.{ℕ}
 use native.Mathlib.Omega.{arith}
-use lib.ListN.{length, take}
+use lib.ListN.{length}
 use denote.Ref.{now}
 use Rattle.job.specs.Refusal.{overwritten}
-use Rattle.packages.proofs.Entered.{listed-all, packages-first}
+use Rattle.packages.proofs.Entered.{listed-all, packages-all}
 use Rattle.ordering.proofs.Ordered.{by-0, by-1, by-2, by-3}
 use borrow.Author.Needs.{needs}
 use Rattle.ordering.proofs.write_order.Statement.{statement}
@@ -51,19 +51,15 @@ returns-3 c =
 package-order-requires : tie.Need-package-order-requires
 package-order-requires c κs = search needs
 
-copy-first-requires : tie.Need-copy-first-requires
-copy-first-requires c κs = search needs
-
 same-length-4 : tie.Need-same-length-4
 same-length-4 c = search needs
 
 returns-4 : tie.Need-returns-4
 returns-4 c =
-    let a = c .before .before .before .before .before .before .before .before .before .before .before .args in
+    let a = c .before .before .before .before .before .before .before .before .before .args in
     let ws = now (a .wants) in
-    let made = c .before .before .before .before .before .package-order in
-    c .before .before .copy-first .ensures
-    ∙ over (now (a .order)) _ _ (by-3 (a .places) ws (a .method) (λ e. omega arith) (λ e. omega arith) (λ e. omega arith) ∙ sym (ap (take (length ws)) (made .ensures) ∙ packages-first (a .places) ws (omega arith)))
+    c .before .before .package-order .ensures ∙ packages-all (a .places) ws (now (a .order)) (omega arith) (omega arith)
+    ∙ over (now (a .order)) _ _ (by-3 (a .places) ws (a .method) (λ e. omega arith) (λ e. omega arith) (λ e. omega arith))
 
 pub write-order-spec : {M : Type 1} → statement M
 write-order-spec =
@@ -79,6 +75,5 @@ write-order-spec =
     same-length-3
     returns-3
     package-order-requires
-    copy-first-requires
     same-length-4
     returns-4)
