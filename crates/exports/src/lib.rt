@@ -258,3 +258,23 @@ pub extern "C" fn t_inside(a: u64, b: u64) -> u64 {
 pub extern "C" fn t_below(n: usize) -> u64 {
     bitset::below(n)
 }
+
+// ---- lists of tests; each answers 0
+
+#[no_mangle]
+pub extern "C" fn t_reverse(xs: &mut [u16]) -> u64 {
+    packages::reverse(xs);
+    0
+}
+
+#[no_mangle]
+pub extern "C" fn t_listed_order(tests: usize, order: &mut [u16]) -> u64 {
+    packages::listed_order(tests, order);
+    0
+}
+
+#[no_mangle]
+pub extern "C" fn t_package_order(places: usize, wants: &[u64], order: &mut [u16]) -> u64 {
+    packages::package_order(places, wants, order);
+    0
+}

@@ -112,6 +112,18 @@ pub enum Case {
         set: u64,
         out_len: usize,
     },
+    Reverse {
+        length: usize,
+    },
+    ListedOrder {
+        tests: usize,
+        order_len: usize,
+    },
+    PackageOrder {
+        places: usize,
+        wants: Vec<u64>,
+        order_len: usize,
+    },
     /// A function on one set, two sets, a set and a number, or a number.
     Sets {
         function: SetFunction,
@@ -149,13 +161,13 @@ const SET_FUNCTIONS: [SetFunction; 10] = [
 ];
 
 /// The number of the first of them among all functions.
-const FIRST_SET: usize = 19;
+const FIRST_SET: usize = 22;
 
 /// The functions' names, in the order of the variants above. `sheet` is `report::write_report`,
 /// `audit` is `report::audit::write_audit`. `curveplan::number_of` and `curveplan::figure_of` have
 /// no cases of their own: every refusal of the others is answered, or printed, through them, and
 /// each of the twelve refusals occurs.
-pub const FUNCTIONS: [&str; 29] = [
+pub const FUNCTIONS: [&str; 32] = [
     "read_job",
     "write_job",
     "order_tests",
@@ -175,6 +187,9 @@ pub const FUNCTIONS: [&str; 29] = [
     "group_map",
     "set_len",
     "put_set",
+    "reverse",
+    "listed_order",
+    "package_order",
     "size",
     "lowest",
     "union",
@@ -188,10 +203,11 @@ pub const FUNCTIONS: [&str; 29] = [
 ];
 
 /// How often each function gets a case, of 1,000.
-const SHARES: [usize; 29] = [
-    112, 64, 96, 96, 88, 72, 96, 48, 96, 44, 50, // bytes, orders, plans and texts
+const SHARES: [usize; 32] = [
+    106, 64, 96, 96, 88, 72, 86, 48, 96, 44, 50, // bytes, orders, plans and texts
     14, 14, 10, 14, // examinations
     20, 6, 6, 14, // sets in bytes
+    2, 4, 10, // lists of tests
     4, 4, 4, 4, 4, 4, 4, 4, 4, 4, // sets
 ];
 
@@ -217,6 +233,9 @@ impl Case {
             Case::GroupMap { .. } => 16,
             Case::SetLen { .. } => 17,
             Case::PutSet { .. } => 18,
+            Case::Reverse { .. } => 19,
+            Case::ListedOrder { .. } => 20,
+            Case::PackageOrder { .. } => 21,
             Case::Sets { function, .. } => FIRST_SET + *function as usize,
         }
     }
@@ -335,6 +354,17 @@ impl Case {
             }
             Case::GroupMap { .. } | Case::SetLen { .. } => {}
             Case::PutSet { out_len, .. } => number("out_len", *out_len),
+            Case::Reverse { length } => number("length", *length),
+            Case::ListedOrder { tests, order_len } => {
+                number("tests", *tests);
+                number("order_len", *order_len);
+            }
+            Case::PackageOrder {
+                places, order_len, ..
+            } => {
+                number("places", *places);
+                number("order_len", *order_len);
+            }
             Case::Sets { k, .. } => number("k", *k),
         }
         let mut list = |name: &str, entries: Vec<String>| {
@@ -352,8 +382,9 @@ impl Case {
             | Case::OrderTests { wants, .. }
             | Case::Examine { wants, .. }
             | Case::ExamineBy { wants, .. }
-            | Case::ExamineSizes { wants, .. } => list("wants", hex_sets(wants)),
-            Case::ExamineCounts { .. } => {}
+            | Case::ExamineSizes { wants, .. }
+            | Case::PackageOrder { wants, .. } => list("wants", hex_sets(wants)),
+            Case::ExamineCounts { .. } | Case::Reverse { .. } | Case::ListedOrder { .. } => {}
             Case::ReadGroup { rest, .. } => list("rest", hex_bytes(rest)),
             Case::GroupMap { set } | Case::SetLen { set } | Case::PutSet { set, .. } => {
                 list("set", hex_sets(&[*set]))
@@ -1605,6 +1636,48 @@ pub fn case_of(function: usize, size: Size, random: &mut Random) -> Case {
             Case::PutSet {
                 set,
                 out_len: lent(random, needed),
+            }
+        }
+        19 => Case::Reverse {
+            length: random.below(300),
+        },
+        20 => {
+            let tests = if random.chance(1, 6) {
+                random.between(255, 400)
+            } else {
+                random.below(257)
+            };
+            Case::ListedOrder {
+                tests,
+                order_len: lent(random, tests),
+            }
+        }
+        21 => {
+            let Job {
+                places, mut wants, ..
+            } = job(random, size);
+            // Any list is taken, however long, with any sets and any places.
+            match random.below(12) {
+                0 => wants.clear(),
+                1 => wants.resize(random.between(257, 300), any_set(random)),
+                2 | 3 => {
+                    for _ in 0..random.between(1, 2) {
+                        let test = random.below(wants.len());
+                        wants[test] = any_set(random);
+                    }
+                }
+                _ => {}
+            }
+            let places = if random.chance(1, 6) {
+                any_number(random)
+            } else {
+                places
+            };
+            let order_len = lent(random, wants.len());
+            Case::PackageOrder {
+                places,
+                wants,
+                order_len,
             }
         }
         _ => {

@@ -57,6 +57,9 @@ trait Subject {
     fn group_map(&self, _set: u64) -> Option<u64> { None }
     fn set_len(&self, _set: u64) -> Option<u64> { None }
     fn put_set(&self, _set: u64, _out: &mut [u8]) -> Option<u64> { None }
+    fn reverse(&self, _xs: &mut [u16]) -> Option<u64> { None }
+    fn listed_order(&self, _tests: usize, _order: &mut [u16]) -> Option<u64> { None }
+    fn package_order(&self, _places: usize, _wants: &[u64], _order: &mut [u16]) -> Option<u64> { None }
     fn sets(&self, _function: SetFunction, _a: u64, _b: u64, _k: usize) -> Option<u64> { None }
 }
 
@@ -146,6 +149,15 @@ impl Subject for Product {
     fn put_set(&self, set: u64, out: &mut [u8]) -> Option<u64> {
         Some(product::put_set(set, out))
     }
+    fn reverse(&self, xs: &mut [u16]) -> Option<u64> {
+        Some(product::reverse(xs))
+    }
+    fn listed_order(&self, tests: usize, order: &mut [u16]) -> Option<u64> {
+        Some(product::listed_order(tests, order))
+    }
+    fn package_order(&self, places: usize, wants: &[u64], order: &mut [u16]) -> Option<u64> {
+        Some(product::package_order(places, wants, order))
+    }
     fn sets(&self, function: SetFunction, a: u64, b: u64, k: usize) -> Option<u64> {
         Some(product::sets(function, a, b, k))
     }
@@ -210,6 +222,13 @@ impl<T: Entry> Lent<T> {
     fn part(&mut self) -> &mut [T] {
         let end = self.found.len() - MARGIN;
         &mut self.found[MARGIN..end]
+    }
+
+    /// The entries are expected in reverse.
+    fn reversed(mut self) -> Lent<T> {
+        let end = self.expected.len() - MARGIN;
+        self.expected[MARGIN..end].reverse();
+        self
     }
 
     fn difference(&self) -> Option<String> {
@@ -677,6 +696,38 @@ fn run(case: &Case, random: &mut Random, subjects: &[Box<dyn Subject>]) -> Verdi
             }
             if bytes.is_empty() { "short" } else { "ok" }.to_string()
         }
+        Case::Reverse { length } => {
+            for subject in subjects {
+                let mut xs = Lent::<u16>::new("xs", random, *length, &[]).reversed();
+                let found = subject.reverse(xs.part());
+                results.push(found.map(|found| compare(0, found, &[xs.difference()])));
+            }
+            if length % 2 == 0 { "even" } else { "odd" }.to_string()
+        }
+        Case::ListedOrder { tests, order_len } => {
+            let (name, result) = tests_written(*tests, *order_len, || (0..*tests as u16).collect());
+            for subject in subjects {
+                let mut order = Lent::new("order", random, *order_len, &result);
+                let found = subject.listed_order(*tests, order.part());
+                results.push(found.map(|found| compare(0, found, &[order.difference()])));
+            }
+            name.to_string()
+        }
+        Case::PackageOrder {
+            places,
+            wants,
+            order_len,
+        } => {
+            let (name, result) = tests_written(wants.len(), *order_len, || {
+                reference::package_order(*places, wants)
+            });
+            for subject in subjects {
+                let mut order = Lent::new("order", random, *order_len, &result);
+                let found = subject.package_order(*places, wants, order.part());
+                results.push(found.map(|found| compare(0, found, &[order.difference()])));
+            }
+            name.to_string()
+        }
         Case::Sets { function, a, b, k } => {
             let (number, name) = set_answer(*function, *a, *b, *k);
             for subject in subjects {
@@ -690,6 +741,22 @@ fn run(case: &Case, random: &mut Random, subjects: &[Box<dyn Subject>]) -> Verdi
         outcome,
         notes,
         results,
+    }
+}
+
+/// The tests that are written to a list: all, or none where there are more than 256 or too few
+/// entries.
+fn tests_written(
+    tests: usize,
+    order_len: usize,
+    order: impl Fn() -> Vec<u16>,
+) -> (&'static str, Vec<u16>) {
+    if tests > 256 {
+        ("many", Vec::new())
+    } else if order_len < tests {
+        ("short", Vec::new())
+    } else {
+        ("ok", order())
     }
 }
 
@@ -730,6 +797,9 @@ const OUTCOMES: [&[&str]; FUNCTIONS.len()] = [
     &SETS,
     &SETS,
     &["ok", "short"],
+    &["even", "odd"],
+    &["ok", "short", "many"],
+    &["ok", "short", "many"],
     &SETS,
     &["at0", "at1-62", "at63", "at64"],
     &SETS,

@@ -124,6 +124,15 @@ extern "C" {
     fn t_group_map(s: u64) -> u64;
     fn t_set_len(s: u64) -> u64;
     fn t_put_set(s: u64, out: *mut u8, out_len: usize) -> u64;
+    fn t_reverse(xs: *mut u16, xs_len: usize) -> u64;
+    fn t_listed_order(tests: usize, order: *mut u16, order_len: usize) -> u64;
+    fn t_package_order(
+        places: usize,
+        wants: *const u64,
+        wants_len: usize,
+        order: *mut u16,
+        order_len: usize,
+    ) -> u64;
     fn t_size(s: u64) -> u64;
     fn t_lowest(s: u64) -> u64;
     fn t_union(a: u64, b: u64) -> u64;
@@ -356,6 +365,26 @@ pub fn set_len(s: u64) -> u64 {
 
 pub fn put_set(s: u64, out: &mut [u8]) -> u64 {
     unsafe { t_put_set(s, out.as_mut_ptr(), out.len()) }
+}
+
+pub fn reverse(xs: &mut [u16]) -> u64 {
+    unsafe { t_reverse(xs.as_mut_ptr(), xs.len()) }
+}
+
+pub fn listed_order(tests: usize, order: &mut [u16]) -> u64 {
+    unsafe { t_listed_order(tests, order.as_mut_ptr(), order.len()) }
+}
+
+pub fn package_order(places: usize, wants: &[u64], order: &mut [u16]) -> u64 {
+    unsafe {
+        t_package_order(
+            places,
+            wants.as_ptr(),
+            wants.len(),
+            order.as_mut_ptr(),
+            order.len(),
+        )
+    }
 }
 
 pub fn sets(function: SetFunction, a: u64, b: u64, k: usize) -> u64 {

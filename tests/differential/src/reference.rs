@@ -360,6 +360,12 @@ pub fn order_and_flips(
     Ok((order.iter().map(|&test| test as u16).collect(), flips))
 }
 
+/// The order of method 3 alone, of any list of tests.
+pub fn package_order(places: usize, wants: &[u64]) -> Vec<u16> {
+    let order = packages(places, &sets_of(wants), &mut Flips::default());
+    order.iter().map(|&test| test as u16).collect()
+}
+
 /// The weight of every two tests; a test has none with itself.
 fn weights(wants: &[Curves]) -> Vec<Vec<usize>> {
     let mut table = Vec::new();
