@@ -3,7 +3,7 @@
 // second one of a pair with it, and the score is one more than the number of curves that the two have in common. A partner of 0 is none, or not known yet:
 // then no package behind it gives a higher score.
 ghost use mathlib.Core.Path.{_≡_};
-ghost use mathlib.Core.Bool.{Bool, cond};
+ghost use mathlib.Core.Bool.{cond};
 ghost use mathlib.Core.List.{List, _++_, map, reverse};
 ghost use Prim.Native.Nat.{ℕ, suc, _+_, _-_, _/_, _%_, _≤_, _<_};
 ghost use lib.ListN.{length, getD, take, drop, set};

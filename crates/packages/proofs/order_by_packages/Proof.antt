@@ -3,10 +3,10 @@
 use mathlib.Core.Path.{_≡_, refl, sym, ap, _∙_}
 use mathlib.Core.Bool.{cond}
 use mathlib.Core.List.{_++_}
-use Prim.Native.Nat.{ℕ, _≤_, _<_, _-_, _+_, _^_}
+use Prim.Native.Nat.{ℕ, suc, _≤_, _<_, _-_, _+_, _^_}
 use native.Mathlib.Omega.{arith}
 use lib.Seq.{getD-take, length-take-le, length-front}
-use lib.ListN.{replicate, length-take, length-drop, length, getD, take, drop}
+use lib.ListN.{replicate, length-take, length-drop, length, getD, take, drop, set}
 use lib.Dec.{leb}
 use borrow.Rule.Slice.PartMut.{same-len-mid}
 use borrow.Author.Needs.{needs}
@@ -339,14 +339,15 @@ loop-again-2 c =
     let ls = c .before .before .before .before .before .before .join-entry in
     let jc = c .before .before .join-curves in
     let cs = take (q .left) (q .curves) in
-    let back = state.prefix-back (q .curves) (jc .last .1 .0) _ (q .left) (omega (arith, v .few, v .long-curves)) (jc .kept .1 .0) (jc .ensures .0) in
-    let whole : getD cs i 0 ∪ getD cs j 0 ≡ getD (q .curves) i 0 ∪ getD (q .curves) j 0 =
+    let u = getD cs i 0 ∪ getD cs j 0 in
+    let back = state.prefix-back (q .curves) (jc .last .1 .0) (take j (set cs i u) ++ drop (suc j) (set cs i u)) (q .left) (omega (arith, v .few, v .long-curves)) (jc .kept .1 .0) (jc .ensures .0) in
+    let whole : u ≡ getD (q .curves) i 0 ∪ getD (q .curves) j 0 =
     ap (λ (x : ℕ). x ∪ getD cs j 0) (getD-take (q .left) (q .curves) i 0 (omega (arith, o))) ∙ ap (λ (x : ℕ). getD (q .curves) i 0 ∪ x) (getD-take (q .left) (q .curves) j 0 (omega (arith, o))) in
     record {
       held = state.state-join s i j (omega (arith, e1 .if1 .left)) (found-pair cl) (getD (q .lengths) i 0) (getD (q .lengths) j 0) from to refl refl
           (t2 .before .before .total .ensures (take i (s .ps)) (state.lengths-to s i (omega (arith, o))))
           (ap (λ (n : ℕ). n + getD (q .lengths) j 0) (t2 .total2 .ensures (take j (s .ps)) (state.lengths-to s j (omega (arith, o)))))
-          (jt .last .1 .1 .1 .0) _ _ _ (getD cs i 0 ∪ getD cs j 0) (jt .ensures) refl
+          (jt .last .1 .1 .1 .0) _ _ _ u (jt .ensures) refl
           (state.prefix-back (q .lengths) (ls .last .0) _ (q .left) (omega (arith, v .few, v .long-lengths)) (ls .kept .0) (ls .ensures))
           whole
           back;
