@@ -362,6 +362,9 @@ pub fn order_and_flips(
 
 /// The order of method 3 alone, of any list of tests.
 pub fn package_order(places: usize, wants: &[u64]) -> Vec<u16> {
+    if wants.is_empty() {
+        return Vec::new();
+    }
     let order = packages(places, &sets_of(wants), &mut Flips::default());
     order.iter().map(|&test| test as u16).collect()
 }
