@@ -1,4 +1,4 @@
--- Method 3's order names each test exactly once; and what the proofs of the code lean on.
+-- Method 3's order names each test exactly once, and what its rules choose; and what the proofs of the code lean on.
 --     Written  what a list holds of which the first entries were written
 --     Listed   the tests in list order
 --     Rounds   the rounds end, and each test comes once
@@ -9,6 +9,7 @@
 --     Ratings  the closest pair by the ratings
 --     Runs     heads, tails and flipping
 --     State    the packages as the code holds them, and a turn of the rounds
+--     Meaning  what the rules choose: the pair that is joined, heads and tails, flipping
 pub mod Written
 pub mod Listed
 pub mod Rounds
@@ -19,3 +20,4 @@ pub mod Renew
 pub mod Ratings
 pub mod Runs
 pub mod State
+pub mod Meaning

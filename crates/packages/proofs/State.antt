@@ -22,7 +22,7 @@ use Rattle.packages.proofs.Rows.{at, chosen, chosen-some}
 
 -- ---- the curves of joined and of reversed packages
 
-∪-none : (s : ℕ) → 0 ∪ s ≡ s
+pub ∪-none : (s : ℕ) → 0 ∪ s ≡ s
 ∪-none s = same-by-bits (0 ∪ s) s (λ k. omega (arith, bit-∪ k 0 s, bit-empty k))
 
 module _ (wants : List ℕ) where
