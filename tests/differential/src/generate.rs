@@ -25,7 +25,7 @@ pub enum Case {
         wants: Vec<u64>,
         order_len: usize,
     },
-    Plan {
+    PlanOrder {
         places: usize,
         curves: usize,
         wants: Vec<u64>,
@@ -58,11 +58,12 @@ pub enum Case {
         drops_len: usize,
         loads_len: usize,
     },
+    /// Fetched at each position of the plan, behind the last, and at a further one.
     StepBytes {
         curves: usize,
         tests: usize,
         plan: Vec<u8>,
-        position: usize,
+        further: usize,
     },
     Call {
         job: Vec<u8>,
@@ -163,20 +164,19 @@ const SET_FUNCTIONS: [SetFunction; 10] = [
 /// The number of the first of them among all functions.
 const FIRST_SET: usize = 22;
 
-/// The functions' names, in the order of the variants above. `sheet` is `report::write_report`,
-/// `audit` is `report::audit::write_audit`. `curveplan::number_of` and `curveplan::figure_of` have
-/// no cases of their own: every refusal of the others is answered, or printed, through them, and
-/// each of the twelve refusals occurs.
+/// The functions' names behind `curveplan_`, in the order of the variants above; `plan` is the C
+/// host's own call. What tells a refusal's number and figure has no cases of its own: every refusal
+/// is answered, or printed, through it, and each of the twelve occurs.
 pub const FUNCTIONS: [&str; 32] = [
     "read_job",
     "write_job",
     "order_tests",
-    "plan",
+    "plan_order",
     "check_plan",
     "write_plan",
     "read_plan",
     "step_bytes",
-    "curveplan_plan",
+    "plan",
     "sheet",
     "audit",
     "examine",
@@ -217,7 +217,7 @@ impl Case {
             Case::ReadJob { .. } => 0,
             Case::WriteJob { .. } => 1,
             Case::OrderTests { .. } => 2,
-            Case::Plan { .. } => 3,
+            Case::PlanOrder { .. } => 3,
             Case::CheckPlan { .. } => 4,
             Case::WritePlan { .. } => 5,
             Case::ReadPlan { .. } => 6,
@@ -272,7 +272,7 @@ impl Case {
                 number("method", *method);
                 number("order_len", *order_len);
             }
-            Case::Plan {
+            Case::PlanOrder {
                 places,
                 curves,
                 drops_len,
@@ -315,12 +315,12 @@ impl Case {
             Case::StepBytes {
                 curves,
                 tests,
-                position,
+                further,
                 ..
             } => {
                 number("curves", *curves);
                 number("tests", *tests);
-                number("position", *position);
+                number("further", *further);
             }
             Case::Call { plan_len, .. } => number("plan_len", *plan_len),
             Case::Sheet { out_len, .. } | Case::Audit { out_len, .. } => {
@@ -390,7 +390,7 @@ impl Case {
                 list("set", hex_sets(&[*set]))
             }
             Case::Sets { a, b, .. } => list("a, b", hex_sets(&[*a, *b])),
-            Case::Plan { wants, order, .. } => {
+            Case::PlanOrder { wants, order, .. } => {
                 list("wants", hex_sets(wants));
                 list("order", hex_order(order));
             }
@@ -436,8 +436,8 @@ pub fn hex_order(list: &[u16]) -> Vec<String> {
 // ---------------------------------------------------------------------------------------------
 // Jobs
 
-/// Room for every sheet: 256 lines of at most 420 bytes, and two short ones.
-pub const SHEET: usize = 110_000;
+/// Room for every sheet: the longest has as many bytes.
+pub const SHEET: usize = 52_477;
 
 /// How large a case is.
 #[derive(Clone, Copy, Debug, PartialEq, Eq)]
@@ -1409,7 +1409,7 @@ pub fn case_of(function: usize, size: Size, random: &mut Random) -> Case {
             } else {
                 (enough(random, wants.len()), enough(random, wants.len()))
             };
-            Case::Plan {
+            Case::PlanOrder {
                 places,
                 curves,
                 wants,
@@ -1507,19 +1507,16 @@ pub fn case_of(function: usize, size: Size, random: &mut Random) -> Case {
         }
         7 => {
             let (curves, tests, plan) = any_plan_bytes(random, size);
-            let position = match random.below(12) {
-                0 => tests,
-                1 => usize::MAX,
-                2 => tests.saturating_sub(1),
-                3 => 0,
-                4 => random.between(0, 300),
-                _ => random.below(tests.clamp(1, 256)),
+            let further = match random.below(3) {
+                0 => random.pick(&[257, 300, 65_535, 65_536, 1 << 32, usize::MAX]),
+                1 => tests.saturating_add(random.between(1, 9)),
+                _ => plan.len(),
             };
             Case::StepBytes {
                 curves,
                 tests,
                 plan,
-                position,
+                further,
             }
         }
         8 => {

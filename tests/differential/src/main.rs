@@ -6,15 +6,17 @@
 //!
 //! Without the feature `product` the tuned implementation of the C call is compared, and the
 //! other functions are only counted. Ends with 1 at the first difference, with 2 if some outcome
-//! that a function can have, or one of method 3's flips, was never reached.
+//! that a function can have, one of method 3's flips or one of the audit's two kinds of refusal was
+//! never reached.
 
 use differential::generate::{self, Case, SetFunction, FUNCTIONS};
 use differential::parts::{self, GroupRead};
 use differential::random::{mix, Random};
-use differential::reference::{self, Refusal};
+use differential::reference::{self, Refusal, Refused};
 use differential::tuned;
 use std::collections::BTreeMap;
 use std::env;
+use std::fmt::Debug;
 use std::process::exit;
 use std::time::Instant;
 
@@ -28,12 +30,13 @@ use differential::product;
 #[rustfmt::skip]
 trait Subject {
     fn name(&self) -> &'static str;
-    fn read_job(&self, _job: &[u8], _wants: &mut [u64], _head: &mut [u64; 4]) -> Option<u64> { None }
+    /// The answer, and places, curves, tests and method.
+    fn read_job(&self, _job: &[u8], _wants: &mut [u64]) -> Option<(u64, [usize; 4])> { None }
     fn write_job(&self, _places: usize, _curves: usize, _method: usize, _wants: &[u64],
         _out: &mut [u8]) -> Option<u64> { None }
     fn order_tests(&self, _places: usize, _curves: usize, _method: usize, _wants: &[u64],
         _order: &mut [u16]) -> Option<u64> { None }
-    fn plan(&self, _places: usize, _curves: usize, _wants: &[u64], _order: &[u16],
+    fn plan_order(&self, _places: usize, _curves: usize, _wants: &[u64], _order: &[u16],
         _drops: &mut [u64], _loads: &mut [u64]) -> Option<u64> { None }
     fn check_plan(&self, _places: usize, _curves: usize, _wants: &[u64], _order: &[u16],
         _drops: &[u64], _loads: &[u64]) -> Option<u64> { None }
@@ -42,8 +45,9 @@ trait Subject {
         _drops: &[u64], _loads: &[u64], _out: &mut [u8]) -> Option<u64> { None }
     fn read_plan(&self, _curves: usize, _tests: usize, _plan: &[u8], _order: &mut [u16],
         _drops: &mut [u64], _loads: &mut [u64]) -> Option<u64> { None }
+    /// Start and count.
     fn step_bytes(&self, _curves: usize, _tests: usize, _plan: &[u8], _position: usize)
-        -> Option<u64> { None }
+        -> Option<(usize, usize)> { None }
     fn call(&self, _job: &[u8], _plan: &mut [u8]) -> Option<u64> { None }
     fn sheet(&self, _job: &[u8], _out: &mut [u8]) -> Option<u64> { None }
     fn audit(&self, _job: &[u8], _plan: &[u8], _out: &mut [u8]) -> Option<u64> { None }
@@ -53,13 +57,13 @@ trait Subject {
     fn examine_counts(&self, _curves: usize, _tests: usize) -> Option<u64> { None }
     fn examine_sizes(&self, _places: usize, _wants: &[u64]) -> Option<u64> { None }
     fn read_group(&self, _rest: &[u8], _at: usize, _group: usize, _curves: usize,
-        _set: &mut [u64]) -> Option<u64> { None }
+        _set: &mut u64) -> Option<u64> { None }
     fn group_map(&self, _set: u64) -> Option<u64> { None }
     fn set_len(&self, _set: u64) -> Option<u64> { None }
     fn put_set(&self, _set: u64, _out: &mut [u8]) -> Option<u64> { None }
-    fn reverse(&self, _xs: &mut [u16]) -> Option<u64> { None }
-    fn listed_order(&self, _tests: usize, _order: &mut [u16]) -> Option<u64> { None }
-    fn package_order(&self, _places: usize, _wants: &[u64], _order: &mut [u16]) -> Option<u64> { None }
+    fn reverse(&self, _xs: &mut [u16]) -> Option<()> { None }
+    fn listed_order(&self, _tests: usize, _order: &mut [u16]) -> Option<()> { None }
+    fn package_order(&self, _places: usize, _wants: &[u64], _order: &mut [u16]) -> Option<()> { None }
     fn sets(&self, _function: SetFunction, _a: u64, _b: u64, _k: usize) -> Option<u64> { None }
 }
 
@@ -83,8 +87,9 @@ impl Subject for Product {
     fn name(&self) -> &'static str {
         "product"
     }
-    fn read_job(&self, job: &[u8], wants: &mut [u64], head: &mut [u64; 4]) -> Option<u64> {
-        Some(product::read_job(job, wants, head))
+    fn read_job(&self, job: &[u8], wants: &mut [u64]) -> Option<(u64, [usize; 4])> {
+        let head = product::read_job(job, wants);
+        Some((head.answer, [head.places, head.curves, head.tests, head.method]))
     }
     fn write_job(&self, places: usize, curves: usize, method: usize, wants: &[u64],
         out: &mut [u8]) -> Option<u64> {
@@ -94,9 +99,9 @@ impl Subject for Product {
         order: &mut [u16]) -> Option<u64> {
         Some(product::order_tests(places, curves, method, wants, order))
     }
-    fn plan(&self, places: usize, curves: usize, wants: &[u64], order: &[u16],
+    fn plan_order(&self, places: usize, curves: usize, wants: &[u64], order: &[u16],
         drops: &mut [u64], loads: &mut [u64]) -> Option<u64> {
-        Some(product::plan(places, curves, wants, order, drops, loads))
+        Some(product::plan_order(places, curves, wants, order, drops, loads))
     }
     fn check_plan(&self, places: usize, curves: usize, wants: &[u64], order: &[u16],
         drops: &[u64], loads: &[u64]) -> Option<u64> {
@@ -111,8 +116,9 @@ impl Subject for Product {
         Some(product::read_plan(curves, tests, plan, order, drops, loads))
     }
     fn step_bytes(&self, curves: usize, tests: usize, plan: &[u8], position: usize)
-        -> Option<u64> {
-        Some(product::step_bytes(curves, tests, plan, position))
+        -> Option<(usize, usize)> {
+        let part = product::step_bytes(curves, tests, plan, position);
+        Some((part.start, part.count))
     }
     fn call(&self, job: &[u8], plan: &mut [u8]) -> Option<u64> {
         Some(product::call(job, plan))
@@ -137,7 +143,7 @@ impl Subject for Product {
         Some(product::examine_sizes(places, wants))
     }
     fn read_group(&self, rest: &[u8], at: usize, group: usize, curves: usize,
-        set: &mut [u64]) -> Option<u64> {
+        set: &mut u64) -> Option<u64> {
         Some(product::read_group(rest, at, group, curves, set))
     }
     fn group_map(&self, set: u64) -> Option<u64> {
@@ -149,14 +155,17 @@ impl Subject for Product {
     fn put_set(&self, set: u64, out: &mut [u8]) -> Option<u64> {
         Some(product::put_set(set, out))
     }
-    fn reverse(&self, xs: &mut [u16]) -> Option<u64> {
-        Some(product::reverse(xs))
+    fn reverse(&self, xs: &mut [u16]) -> Option<()> {
+        product::reverse(xs);
+        Some(())
     }
-    fn listed_order(&self, tests: usize, order: &mut [u16]) -> Option<u64> {
-        Some(product::listed_order(tests, order))
+    fn listed_order(&self, tests: usize, order: &mut [u16]) -> Option<()> {
+        product::listed_order(tests, order);
+        Some(())
     }
-    fn package_order(&self, places: usize, wants: &[u64], order: &mut [u16]) -> Option<u64> {
-        Some(product::package_order(places, wants, order))
+    fn package_order(&self, places: usize, wants: &[u64], order: &mut [u16]) -> Option<()> {
+        product::package_order(places, wants, order);
+        Some(())
     }
     fn sets(&self, function: SetFunction, a: u64, b: u64, k: usize) -> Option<u64> {
         Some(product::sets(function, a, b, k))
@@ -259,11 +268,16 @@ impl<T: Entry> Lent<T> {
 // ---------------------------------------------------------------------------------------------
 // One case
 
+/// The one rule for an outcome as one number: a count, or a refusal's number and figure.
 fn number_of<T>(answer: &Result<T, Refusal>, count: impl Fn(&T) -> u64) -> u64 {
     match answer {
         Ok(result) => count(result),
-        Err(no) => no.number << 48 | no.figure,
+        Err(no) => refused(no.number, no.figure),
     }
+}
+
+fn refused(number: u64, figure: u64) -> u64 {
+    number << 48 | figure
 }
 
 /// The outcome's name in the histogram.
@@ -283,14 +297,20 @@ fn named(no: &Refusal) -> String {
 }
 
 /// The outcome's name of a text in a buffer of this length: what the text tells, or 9 and what
-/// the text would have told.
+/// kind of text did not fit.
 fn text_outcome(text: &str, out_len: usize) -> String {
-    let refused = text.strip_prefix("refused ");
-    match (out_len < text.len(), refused) {
-        (true, None) => "9:plan".to_string(),
-        (true, Some(_)) => "9:refusal".to_string(),
-        (false, None) => "ok".to_string(),
-        (false, Some(rest)) => rest.split(' ').next().unwrap().to_string(),
+    let number = |rest: &str| rest.split(' ').next().unwrap().to_string();
+    let (kind, told) = if let Some(rest) = text.strip_prefix("refused ") {
+        ("job", number(rest))
+    } else if let Some(rest) = text.strip_prefix("plan refused ") {
+        ("plan", format!("plan:{}", number(rest)))
+    } else {
+        ("ok", "ok".to_string())
+    };
+    if out_len < text.len() {
+        format!("9:{kind}")
+    } else {
+        told
     }
 }
 
@@ -357,10 +377,16 @@ struct Verdict {
     results: Vec<Option<Result<(), String>>>,
 }
 
-fn compare(expected: u64, found: u64, lists: &[Option<String>]) -> Result<(), String> {
+/// Answers are compared whole: refusal number, figure and all.
+fn compare<T: PartialEq + Debug>(
+    expected: T,
+    found: T,
+    lists: &[Option<String>],
+) -> Result<(), String> {
     let mut text = String::new();
     if expected != found {
-        text += &format!("answer differs: expected {expected:#x}, found {found:#x}\n");
+        text +=
+            &format!("answer differs: expected {expected:x?}, found {found:x?} (hexadecimal)\n");
     }
     for difference in lists.iter().flatten() {
         text += difference;
@@ -380,28 +406,19 @@ fn run(case: &Case, random: &mut Random, subjects: &[Box<dyn Subject>]) -> Verdi
         Case::ReadJob { job, wants_len } => {
             let answer = reference::read_job(job, *wants_len);
             let number = number_of(&answer, |read| read.tests as u64);
+            // Under a refusal the four numbers are 0.
             let (wants, head) = match &answer {
                 Ok(read) => (
                     read.wants.clone(),
-                    vec![
-                        read.places as u64,
-                        read.curves as u64,
-                        read.tests as u64,
-                        read.method as u64,
-                    ],
+                    [read.places, read.curves, read.tests, read.method],
                 ),
-                Err(_) => (vec![], vec![]),
+                Err(_) => (vec![], [0; 4]),
             };
             for subject in subjects {
                 let mut wants = Lent::new("wants", random, *wants_len, &wants);
-                let mut head = Lent::new("head", random, 4, &head);
-                let part: &mut [u64; 4] = head.part().try_into().unwrap();
-                let found = subject.read_job(job, wants.part(), part);
-                results.push(
-                    found.map(|found| {
-                        compare(number, found, &[wants.difference(), head.difference()])
-                    }),
-                );
+                let found = subject.read_job(job, wants.part());
+                results
+                    .push(found.map(|found| compare((number, head), found, &[wants.difference()])));
             }
             outcome(&answer)
         }
@@ -440,7 +457,7 @@ fn run(case: &Case, random: &mut Random, subjects: &[Box<dyn Subject>]) -> Verdi
             }
             outcome(&answer)
         }
-        Case::Plan {
+        Case::PlanOrder {
             places,
             curves,
             wants,
@@ -458,7 +475,7 @@ fn run(case: &Case, random: &mut Random, subjects: &[Box<dyn Subject>]) -> Verdi
                 let mut drops = Lent::new("drops", random, *drops_len, &new_drops);
                 let mut loads = Lent::new("loads", random, *loads_len, &new_loads);
                 let found =
-                    subject.plan(*places, *curves, wants, order, drops.part(), loads.part());
+                    subject.plan_order(*places, *curves, wants, order, drops.part(), loads.part());
                 results.push(found.map(|found| {
                     compare(number, found, &[drops.difference(), loads.difference()])
                 }));
@@ -543,15 +560,26 @@ fn run(case: &Case, random: &mut Random, subjects: &[Box<dyn Subject>]) -> Verdi
             curves,
             tests,
             plan,
-            position,
+            further,
         } => {
-            let (start, length) = reference::step_bytes(*curves, *tests, plan, *position);
-            let number = start as u64 * 65_536 + length as u64;
+            let answer = reference::read_steps(*curves, *tests, plan);
+            let steps = answer.clone().unwrap_or_default();
             for subject in subjects {
-                let found = subject.step_bytes(*curves, *tests, plan, *position);
-                results.push(found.map(|found| compare(number, found, &[])));
+                let mut result = None;
+                for position in (0..=(*tests).min(256)).chain([*further]) {
+                    let expected = reference::part(&steps, plan, position);
+                    let found = subject.step_bytes(*curves, *tests, plan, position);
+                    result = found.map(|found| {
+                        compare(expected, found, &[])
+                            .map_err(|text| format!("at position {position}: {text}"))
+                    });
+                    if !matches!(result, Some(Ok(()))) {
+                        break;
+                    }
+                }
+                results.push(result);
             }
-            if length > 0 { "part" } else { "empty" }.to_string()
+            outcome(&answer)
         }
         Case::Call { job, plan_len } => {
             let answer = reference::call_bytes(job, *plan_len);
@@ -590,6 +618,12 @@ fn run(case: &Case, random: &mut Random, subjects: &[Box<dyn Subject>]) -> Verdi
                 let found = subject.audit(job, plan, out.part());
                 results.push(found.map(|found| compare(number, found, &[out.difference()])));
             }
+            let fits = text.len() <= *out_len;
+            let told = [
+                fits && matches!(audit, Err(Refused::Job(_))),
+                fits && matches!(audit, Err(Refused::Plan(_))),
+            ];
+            notes.extend(AUDIT_REFUSALS.into_iter().zip(told.map(u64::from)));
             let name = text_outcome(&text, *out_len);
             match audit {
                 Ok(audit) => {
@@ -657,14 +691,14 @@ fn run(case: &Case, random: &mut Random, subjects: &[Box<dyn Subject>]) -> Verdi
             let (number, result, name) = match parts::read_group(rest, *at, *group, *curves) {
                 GroupRead::Curves(set) if *curves > 64 => (0, vec![set], "curves:65+"),
                 GroupRead::Curves(set) => (0, vec![set], "curves"),
-                GroupRead::Owed => (1, vec![], "owed"),
-                GroupRead::Empty => (2, vec![], "empty"),
-                GroupRead::Unknown if *group > 7 => (3, vec![], "unknown:8+"),
-                GroupRead::Unknown => (3, vec![], "unknown"),
+                GroupRead::Owed => (refused(1, 0), vec![], "owed"),
+                GroupRead::Empty => (refused(2, 0), vec![], "empty"),
+                GroupRead::Unknown if *group > 7 => (refused(3, 0), vec![], "unknown:8+"),
+                GroupRead::Unknown => (refused(3, 0), vec![], "unknown"),
             };
             for subject in subjects {
                 let mut set = Lent::new("set", random, 1, &result);
-                let found = subject.read_group(rest, *at, *group, *curves, set.part());
+                let found = subject.read_group(rest, *at, *group, *curves, &mut set.part()[0]);
                 results.push(found.map(|found| compare(number, found, &[set.difference()])));
             }
             name.to_string()
@@ -700,7 +734,7 @@ fn run(case: &Case, random: &mut Random, subjects: &[Box<dyn Subject>]) -> Verdi
             for subject in subjects {
                 let mut xs = Lent::<u16>::new("xs", random, *length, &[]).reversed();
                 let found = subject.reverse(xs.part());
-                results.push(found.map(|found| compare(0, found, &[xs.difference()])));
+                results.push(found.map(|found| compare((), found, &[xs.difference()])));
             }
             if length % 2 == 0 { "even" } else { "odd" }.to_string()
         }
@@ -709,7 +743,7 @@ fn run(case: &Case, random: &mut Random, subjects: &[Box<dyn Subject>]) -> Verdi
             for subject in subjects {
                 let mut order = Lent::new("order", random, *order_len, &result);
                 let found = subject.listed_order(*tests, order.part());
-                results.push(found.map(|found| compare(0, found, &[order.difference()])));
+                results.push(found.map(|found| compare((), found, &[order.difference()])));
             }
             name.to_string()
         }
@@ -724,7 +758,7 @@ fn run(case: &Case, random: &mut Random, subjects: &[Box<dyn Subject>]) -> Verdi
             for subject in subjects {
                 let mut order = Lent::new("order", random, *order_len, &result);
                 let found = subject.package_order(*places, wants, order.part());
-                results.push(found.map(|found| compare(0, found, &[order.difference()])));
+                results.push(found.map(|found| compare((), found, &[order.difference()])));
             }
             name.to_string()
         }
@@ -772,6 +806,9 @@ const MANY: u64 = 100_000;
 /// Which comparison won in the second round of method 3.
 const FLIPS: [&str; 4] = ["tail-head", "tail-tail", "head-head", "head-tail"];
 
+/// What an audit refused whose text was written.
+const AUDIT_REFUSALS: [&str; 2] = ["job", "plan"];
+
 /// The fewest loads of an audit were confirmed by trying every plan.
 const TRIED: &str = "audits with every plan tried";
 
@@ -785,10 +822,11 @@ const OUTCOMES: [&[&str]; FUNCTIONS.len()] = [
     &["ok", "5", "8", "10:0", "10:1", "10:2", "10:4+", "12"],
     &["ok", "5", "8", "9", "10:0", "10:1", "10:2", "10:4+", "12"],
     &["ok", "5", "9", "10:1", "10:2", "11"],
-    &["part", "empty"],
+    &["ok", "5", "10:1", "10:2", "11"],
     &["ok", "1", "2", "3", "4", "5", "6", "7", "9"],
-    &["ok", "1", "2", "3", "4", "5", "6", "7", "9:plan", "9:refusal"],
-    &["ok", "ok:more", "1", "2", "3", "4", "5", "6", "8", "9:plan", "9:refusal", "11", "12"],
+    &["ok", "1", "2", "3", "4", "5", "6", "7", "9:ok", "9:job"],
+    &["ok", "ok:more", "1", "2", "3", "4", "5", "6", "plan:8", "plan:11", "plan:12", "9:ok",
+        "9:job", "9:plan"],
     &["ok", "5", "10:0", "10:1", "10:2", "10:4+"],
     &["ok", "5", "10:0", "10:1", "10:2", "10:3", "10:4+"],
     &["ok", "5", "10:1", "10:2"],
@@ -914,9 +952,10 @@ fn main() {
         println!("  {:<16}{:>9}", "all", compared[s].iter().sum::<u64>());
     }
     println!(
-        "\noutcomes of the reference (ok, or refusal number; 10 with its figure; 9 of a text with"
+        "\noutcomes of the reference (ok, or refusal number; 10 with its figure; plan: where an"
     );
-    println!("what it would have told; for sets the kind of set, or the number asked)");
+    println!("audit refuses the plan; 9 of a text with what it would have told: ok, or what is");
+    println!("refused; for sets the kind of set, or the number asked)");
     let mut missing = Vec::new();
     for (called, outcomes) in OUTCOMES.iter().enumerate() {
         if histogram[called].is_empty() && (function.is_some() || only.is_some()) {
@@ -938,13 +977,19 @@ fn main() {
             }
         }
     }
-    if met.contains_key(FLIPS[0]) {
-        let mut line = "method 3, comparisons won:".to_string();
-        for flip in FLIPS {
-            let count = met[flip];
-            line += &format!(" {flip}={count}");
+    for (title, names) in [
+        ("method 3, comparisons won", &FLIPS[..]),
+        ("audits, refused", &AUDIT_REFUSALS[..]),
+    ] {
+        if !met.contains_key(names[0]) {
+            continue;
+        }
+        let mut line = format!("{title}:");
+        for name in names {
+            let count = met[name];
+            line += &format!(" {name}={count}");
             if count == 0 {
-                missing.push(flip.to_string());
+                missing.push(format!("{title} {name}"));
             }
         }
         println!("{line}");

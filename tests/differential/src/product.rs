@@ -1,23 +1,38 @@
-//! The library under test, through the C boundary of its test exports.
+//! The library under test, through its C interface.
 //!
-//! A slice passes as pointer, then length. Each function answers one number: the count or the
-//! number of tests, or on a refusal `number << 48 | figure`. `curveplan_plan` is the exception:
-//! it is the C host's own call and answers `number * 65536 + figure`. `t_step_bytes` answers
-//! `start * 65536 + count`. `t_sheet` and `t_audit` answer the count of the text's bytes (a refusal
-//! is a text too). The examinations answer 0 or the refusal, `t_read_group` its answer's case.
+//! A slice passes as pointer, then length. A count is answered as itself, a refusal as
+//! `number << 48 | figure`; an examination that passes and a group that is read answer 0.
+//! `curveplan_plan` is the exception: it is the C host's own call and answers
+//! `number * 65536 + figure`. A text tells of the refusals of job and plan itself, so
+//! `curveplan_sheet` and `curveplan_audit` refuse nothing but a buffer that is too short.
 
 use crate::generate::SetFunction;
 
+/// What reading a job answers: the number of tests or the refusal, and the job's numbers.
+#[repr(C)]
+pub struct JobHead {
+    pub answer: u64,
+    pub places: usize,
+    pub curves: usize,
+    pub tests: usize,
+    pub method: usize,
+}
+
+/// Where a step's bytes lie in the plan's.
+#[repr(C)]
+pub struct StepPart {
+    pub start: usize,
+    pub count: usize,
+}
+
 extern "C" {
-    fn t_read_job(
+    fn curveplan_read_job(
         job: *const u8,
         job_len: usize,
         wants: *mut u64,
         wants_len: usize,
-        head: *mut u64,
-        head_len: usize,
-    ) -> u64;
-    fn t_write_job(
+    ) -> JobHead;
+    fn curveplan_write_job(
         places: usize,
         curves: usize,
         method: usize,
@@ -26,7 +41,7 @@ extern "C" {
         out: *mut u8,
         out_len: usize,
     ) -> u64;
-    fn t_order_tests(
+    fn curveplan_order_tests(
         places: usize,
         curves: usize,
         method: usize,
@@ -35,7 +50,7 @@ extern "C" {
         order: *mut u16,
         order_len: usize,
     ) -> u64;
-    fn t_plan(
+    fn curveplan_plan_order(
         places: usize,
         curves: usize,
         wants: *const u64,
@@ -47,7 +62,7 @@ extern "C" {
         loads: *mut u64,
         loads_len: usize,
     ) -> u64;
-    fn t_check_plan(
+    fn curveplan_check_plan(
         places: usize,
         curves: usize,
         wants: *const u64,
@@ -59,7 +74,7 @@ extern "C" {
         loads: *const u64,
         loads_len: usize,
     ) -> u64;
-    fn t_write_plan(
+    fn curveplan_write_plan(
         places: usize,
         curves: usize,
         wants: *const u64,
@@ -73,7 +88,7 @@ extern "C" {
         out: *mut u8,
         out_len: usize,
     ) -> u64;
-    fn t_read_plan(
+    fn curveplan_read_plan(
         curves: usize,
         tests: usize,
         plan: *const u8,
@@ -85,16 +100,16 @@ extern "C" {
         loads: *mut u64,
         loads_len: usize,
     ) -> u64;
-    fn t_step_bytes(
+    fn curveplan_step_bytes(
         curves: usize,
         tests: usize,
         plan: *const u8,
         plan_len: usize,
         position: usize,
-    ) -> u64;
+    ) -> StepPart;
     fn curveplan_plan(job: *const u8, job_len: usize, plan: *mut u8, plan_len: usize) -> u64;
-    fn t_sheet(job: *const u8, job_len: usize, out: *mut u8, out_len: usize) -> u64;
-    fn t_audit(
+    fn curveplan_sheet(job: *const u8, job_len: usize, out: *mut u8, out_len: usize) -> u64;
+    fn curveplan_audit(
         job: *const u8,
         job_len: usize,
         plan: *const u8,
@@ -102,63 +117,54 @@ extern "C" {
         out: *mut u8,
         out_len: usize,
     ) -> u64;
-    fn t_examine(places: usize, curves: usize, wants: *const u64, wants_len: usize) -> u64;
-    fn t_examine_by(
+    fn curveplan_examine(places: usize, curves: usize, wants: *const u64, wants_len: usize) -> u64;
+    fn curveplan_examine_by(
         places: usize,
         curves: usize,
         method: usize,
         wants: *const u64,
         wants_len: usize,
     ) -> u64;
-    fn t_examine_counts(curves: usize, tests: usize) -> u64;
-    fn t_examine_sizes(places: usize, wants: *const u64, wants_len: usize) -> u64;
-    fn t_read_group(
+    fn curveplan_examine_counts(curves: usize, tests: usize) -> u64;
+    fn curveplan_examine_sizes(places: usize, wants: *const u64, wants_len: usize) -> u64;
+    fn curveplan_read_group(
         rest: *const u8,
         rest_len: usize,
         at: usize,
         group: usize,
         curves: usize,
         set: *mut u64,
-        set_len: usize,
     ) -> u64;
-    fn t_group_map(s: u64) -> u64;
-    fn t_set_len(s: u64) -> u64;
-    fn t_put_set(s: u64, out: *mut u8, out_len: usize) -> u64;
-    fn t_reverse(xs: *mut u16, xs_len: usize) -> u64;
-    fn t_listed_order(tests: usize, order: *mut u16, order_len: usize) -> u64;
-    fn t_package_order(
+    fn curveplan_group_map(s: u64) -> u64;
+    fn curveplan_set_len(s: u64) -> u64;
+    fn curveplan_put_set(s: u64, out: *mut u8, out_len: usize) -> u64;
+    fn curveplan_reverse(xs: *mut u16, xs_len: usize);
+    fn curveplan_listed_order(tests: usize, order: *mut u16, order_len: usize);
+    fn curveplan_package_order(
         places: usize,
         wants: *const u64,
         wants_len: usize,
         order: *mut u16,
         order_len: usize,
-    ) -> u64;
-    fn t_size(s: u64) -> u64;
-    fn t_lowest(s: u64) -> u64;
-    fn t_union(a: u64, b: u64) -> u64;
-    fn t_common(a: u64, b: u64) -> u64;
-    fn t_without(a: u64, b: u64) -> u64;
-    fn t_single(k: usize) -> u64;
-    fn t_has(s: u64, k: usize) -> u64;
-    fn t_without_lowest(s: u64) -> u64;
-    fn t_inside(a: u64, b: u64) -> u64;
-    fn t_below(n: usize) -> u64;
+    );
+    fn curveplan_size(s: u64) -> u64;
+    fn curveplan_lowest(s: u64) -> u64;
+    fn curveplan_union(a: u64, b: u64) -> u64;
+    fn curveplan_common(a: u64, b: u64) -> u64;
+    fn curveplan_without(a: u64, b: u64) -> u64;
+    fn curveplan_single(k: usize) -> u64;
+    fn curveplan_has(s: u64, k: usize) -> u64;
+    fn curveplan_without_lowest(s: u64) -> u64;
+    fn curveplan_inside(a: u64, b: u64) -> u64;
+    fn curveplan_below(n: usize) -> u64;
 }
 
 // Safety of all calls below: every pointer comes from a live slice and goes with that slice's own
-// length; slices that are lent for writing are borrowed alone.
+// length, or is that of the one number lent to `curveplan_read_group`; what is lent for writing is
+// borrowed alone.
 
-pub fn read_job(job: &[u8], wants: &mut [u64], head: &mut [u64; 4]) -> u64 {
-    unsafe {
-        t_read_job(
-            job.as_ptr(),
-            job.len(),
-            wants.as_mut_ptr(),
-            wants.len(),
-            head.as_mut_ptr(),
-            head.len(),
-        )
-    }
+pub fn read_job(job: &[u8], wants: &mut [u64]) -> JobHead {
+    unsafe { curveplan_read_job(job.as_ptr(), job.len(), wants.as_mut_ptr(), wants.len()) }
 }
 
 pub fn write_job(
@@ -169,7 +175,7 @@ pub fn write_job(
     out: &mut [u8],
 ) -> u64 {
     unsafe {
-        t_write_job(
+        curveplan_write_job(
             places,
             curves,
             method,
@@ -189,7 +195,7 @@ pub fn order_tests(
     order: &mut [u16],
 ) -> u64 {
     unsafe {
-        t_order_tests(
+        curveplan_order_tests(
             places,
             curves,
             method,
@@ -201,7 +207,7 @@ pub fn order_tests(
     }
 }
 
-pub fn plan(
+pub fn plan_order(
     places: usize,
     curves: usize,
     wants: &[u64],
@@ -210,7 +216,7 @@ pub fn plan(
     loads: &mut [u64],
 ) -> u64 {
     unsafe {
-        t_plan(
+        curveplan_plan_order(
             places,
             curves,
             wants.as_ptr(),
@@ -234,7 +240,7 @@ pub fn check_plan(
     loads: &[u64],
 ) -> u64 {
     unsafe {
-        t_check_plan(
+        curveplan_check_plan(
             places,
             curves,
             wants.as_ptr(),
@@ -259,7 +265,7 @@ pub fn write_plan(
     out: &mut [u8],
 ) -> u64 {
     unsafe {
-        t_write_plan(
+        curveplan_write_plan(
             places,
             curves,
             wants.as_ptr(),
@@ -285,7 +291,7 @@ pub fn read_plan(
     loads: &mut [u64],
 ) -> u64 {
     unsafe {
-        t_read_plan(
+        curveplan_read_plan(
             curves,
             tests,
             plan.as_ptr(),
@@ -300,8 +306,8 @@ pub fn read_plan(
     }
 }
 
-pub fn step_bytes(curves: usize, tests: usize, plan: &[u8], position: usize) -> u64 {
-    unsafe { t_step_bytes(curves, tests, plan.as_ptr(), plan.len(), position) }
+pub fn step_bytes(curves: usize, tests: usize, plan: &[u8], position: usize) -> StepPart {
+    unsafe { curveplan_step_bytes(curves, tests, plan.as_ptr(), plan.len(), position) }
 }
 
 pub fn call(job: &[u8], plan: &mut [u8]) -> u64 {
@@ -309,12 +315,12 @@ pub fn call(job: &[u8], plan: &mut [u8]) -> u64 {
 }
 
 pub fn sheet(job: &[u8], out: &mut [u8]) -> u64 {
-    unsafe { t_sheet(job.as_ptr(), job.len(), out.as_mut_ptr(), out.len()) }
+    unsafe { curveplan_sheet(job.as_ptr(), job.len(), out.as_mut_ptr(), out.len()) }
 }
 
 pub fn audit(job: &[u8], plan: &[u8], out: &mut [u8]) -> u64 {
     unsafe {
-        t_audit(
+        curveplan_audit(
             job.as_ptr(),
             job.len(),
             plan.as_ptr(),
@@ -326,58 +332,48 @@ pub fn audit(job: &[u8], plan: &[u8], out: &mut [u8]) -> u64 {
 }
 
 pub fn examine(places: usize, curves: usize, wants: &[u64]) -> u64 {
-    unsafe { t_examine(places, curves, wants.as_ptr(), wants.len()) }
+    unsafe { curveplan_examine(places, curves, wants.as_ptr(), wants.len()) }
 }
 
 pub fn examine_by(places: usize, curves: usize, method: usize, wants: &[u64]) -> u64 {
-    unsafe { t_examine_by(places, curves, method, wants.as_ptr(), wants.len()) }
+    unsafe { curveplan_examine_by(places, curves, method, wants.as_ptr(), wants.len()) }
 }
 
 pub fn examine_counts(curves: usize, tests: usize) -> u64 {
-    unsafe { t_examine_counts(curves, tests) }
+    unsafe { curveplan_examine_counts(curves, tests) }
 }
 
 pub fn examine_sizes(places: usize, wants: &[u64]) -> u64 {
-    unsafe { t_examine_sizes(places, wants.as_ptr(), wants.len()) }
+    unsafe { curveplan_examine_sizes(places, wants.as_ptr(), wants.len()) }
 }
 
-pub fn read_group(rest: &[u8], at: usize, group: usize, curves: usize, set: &mut [u64]) -> u64 {
-    unsafe {
-        t_read_group(
-            rest.as_ptr(),
-            rest.len(),
-            at,
-            group,
-            curves,
-            set.as_mut_ptr(),
-            set.len(),
-        )
-    }
+pub fn read_group(rest: &[u8], at: usize, group: usize, curves: usize, set: &mut u64) -> u64 {
+    unsafe { curveplan_read_group(rest.as_ptr(), rest.len(), at, group, curves, set) }
 }
 
 pub fn group_map(s: u64) -> u64 {
-    unsafe { t_group_map(s) }
+    unsafe { curveplan_group_map(s) }
 }
 
 pub fn set_len(s: u64) -> u64 {
-    unsafe { t_set_len(s) }
+    unsafe { curveplan_set_len(s) }
 }
 
 pub fn put_set(s: u64, out: &mut [u8]) -> u64 {
-    unsafe { t_put_set(s, out.as_mut_ptr(), out.len()) }
+    unsafe { curveplan_put_set(s, out.as_mut_ptr(), out.len()) }
 }
 
-pub fn reverse(xs: &mut [u16]) -> u64 {
-    unsafe { t_reverse(xs.as_mut_ptr(), xs.len()) }
+pub fn reverse(xs: &mut [u16]) {
+    unsafe { curveplan_reverse(xs.as_mut_ptr(), xs.len()) }
 }
 
-pub fn listed_order(tests: usize, order: &mut [u16]) -> u64 {
-    unsafe { t_listed_order(tests, order.as_mut_ptr(), order.len()) }
+pub fn listed_order(tests: usize, order: &mut [u16]) {
+    unsafe { curveplan_listed_order(tests, order.as_mut_ptr(), order.len()) }
 }
 
-pub fn package_order(places: usize, wants: &[u64], order: &mut [u16]) -> u64 {
+pub fn package_order(places: usize, wants: &[u64], order: &mut [u16]) {
     unsafe {
-        t_package_order(
+        curveplan_package_order(
             places,
             wants.as_ptr(),
             wants.len(),
@@ -390,16 +386,16 @@ pub fn package_order(places: usize, wants: &[u64], order: &mut [u16]) -> u64 {
 pub fn sets(function: SetFunction, a: u64, b: u64, k: usize) -> u64 {
     unsafe {
         match function {
-            SetFunction::Size => t_size(a),
-            SetFunction::Lowest => t_lowest(a),
-            SetFunction::Union => t_union(a, b),
-            SetFunction::Common => t_common(a, b),
-            SetFunction::Without => t_without(a, b),
-            SetFunction::Single => t_single(k),
-            SetFunction::Has => t_has(a, k),
-            SetFunction::WithoutLowest => t_without_lowest(a),
-            SetFunction::Inside => t_inside(a, b),
-            SetFunction::Below => t_below(k),
+            SetFunction::Size => curveplan_size(a),
+            SetFunction::Lowest => curveplan_lowest(a),
+            SetFunction::Union => curveplan_union(a, b),
+            SetFunction::Common => curveplan_common(a, b),
+            SetFunction::Without => curveplan_without(a, b),
+            SetFunction::Single => curveplan_single(k),
+            SetFunction::Has => curveplan_has(a, k),
+            SetFunction::WithoutLowest => curveplan_without_lowest(a),
+            SetFunction::Inside => curveplan_inside(a, b),
+            SetFunction::Below => curveplan_below(k),
         }
     }
 }

@@ -774,8 +774,9 @@ fn read_step(plan: &[u8], start: usize, curves: usize, tests: usize) -> Answer<S
     })
 }
 
-/// All steps of a plan, or refusal 11. The counts are in range.
-fn read_steps(plan: &[u8], curves: usize, tests: usize) -> Answer<Vec<Step>> {
+/// All steps of a plan: 5, 10, then 11.
+pub fn read_steps(curves: usize, tests: usize, plan: &[u8]) -> Answer<Vec<Step>> {
+    handed_counts(curves, tests)?;
     let mut steps: Vec<Step> = Vec::new();
     let mut offset = 0;
     while steps.len() < tests {
@@ -810,27 +811,25 @@ pub fn read_plan(
     drops_len: usize,
     loads_len: usize,
 ) -> Answer<Vec<Step>> {
-    handed_counts(curves, tests)?;
-    let steps = read_steps(plan, curves, tests)?;
+    let steps = read_steps(curves, tests, plan)?;
     if order_len < tests || drops_len < tests || loads_len < tests {
         return refuse(9, tests);
     }
     Ok(steps)
 }
 
-/// Start and length of a step's bytes; the empty part at the end where there is no answer.
+/// Start and count of the bytes of one of these steps; the empty part at the plan's end where there
+/// is no such step.
+pub fn part(steps: &[Step], plan: &[u8], position: usize) -> (usize, usize) {
+    match steps.get(position) {
+        None => (plan.len(), 0),
+        Some(step) => (step.start, step.end - step.start),
+    }
+}
+
 pub fn step_bytes(curves: usize, tests: usize, plan: &[u8], position: usize) -> (usize, usize) {
-    let nothing = (plan.len(), 0);
-    if handed_counts(curves, tests).is_err() {
-        return nothing;
-    }
-    match read_steps(plan, curves, tests) {
-        Err(_) => nothing,
-        Ok(steps) => match steps.get(position) {
-            None => nothing,
-            Some(step) => (step.start, step.end - step.start),
-        },
-    }
+    let steps = read_steps(curves, tests, plan).unwrap_or_default();
+    part(&steps, plan, position)
 }
 
 // ---------------------------------------------------------------------------------------------
@@ -923,9 +922,20 @@ pub struct Audit {
     pub tried: bool,
 }
 
+/// Which of the two an audit refuses.
+#[derive(Clone, Copy, Debug, PartialEq, Eq)]
+pub enum Refused {
+    Job(Refusal),
+    Plan(Refusal),
+}
+
 /// The job is read, then the plan's bytes, then the plan is checked.
-pub fn audit(job: &[u8], plan: &[u8]) -> Answer<Audit> {
-    let job = read_job(job, LIST)?;
+pub fn audit(job: &[u8], plan: &[u8]) -> Result<Audit, Refused> {
+    let job = read_job(job, LIST).map_err(Refused::Job)?;
+    audit_of(&job, plan).map_err(Refused::Plan)
+}
+
+fn audit_of(job: &Job, plan: &[u8]) -> Answer<Audit> {
     let steps = read_plan(job.curves, job.tests, plan, LIST, LIST, LIST)?;
     let order: Vec<u16> = steps.iter().map(|step| step.test).collect();
     let drops: Vec<u64> = steps.iter().map(|step| step.drops).collect();
@@ -975,9 +985,10 @@ pub fn fewest_loads(places: usize, wants: &[u64], order: &[u16]) -> u64 {
     loads
 }
 
-pub fn audit_text(answer: &Answer<Audit>) -> String {
+pub fn audit_text(answer: &Result<Audit, Refused>) -> String {
     match answer {
-        Err(no) => refused_text(no),
+        Err(Refused::Job(no)) => refused_text(no),
+        Err(Refused::Plan(no)) => format!("plan {}", refused_text(no)),
         Ok(audit) => format!(
             "loads {}\nfewest {}\nshorter by {}\n",
             audit.loads,
