@@ -15,3 +15,5 @@ pub mod product;
 mod consistency;
 #[cfg(test)]
 mod examples;
+#[cfg(test)]
+mod stored;

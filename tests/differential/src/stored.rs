@@ -1,0 +1,103 @@
+//! The stored cases of the sheet and audit programs, as the paper has them.
+
+use crate::generate::SHEET;
+use crate::reference::*;
+use std::collections::BTreeSet;
+use std::fs;
+use std::path::PathBuf;
+
+/// The cases of a program.
+fn folder(program: &str) -> PathBuf {
+    PathBuf::from(env!("CARGO_MANIFEST_DIR")).join(format!("../{program}/cases"))
+}
+
+/// The stored bytes of a case: its job, its plan or what is printed.
+fn stored(program: &str, name: &str, ending: &str) -> Vec<u8> {
+    let file = folder(program).join(format!("{name}.{ending}"));
+    fs::read(&file).unwrap_or_else(|fault| panic!("{}: {fault}", file.display()))
+}
+
+/// The names of a program's cases; each has all its files, and there are no others.
+fn names(program: &str, endings: &[&str]) -> BTreeSet<String> {
+    let mut names = BTreeSet::new();
+    let mut files = 0;
+    for file in fs::read_dir(folder(program)).unwrap() {
+        let file = file.unwrap().file_name().into_string().unwrap();
+        let (name, ending) = file.split_once('.').unwrap();
+        assert!(endings.contains(&ending), "{file}");
+        names.insert(name.to_string());
+        files += 1;
+    }
+    assert!(files > 0 && files == names.len() * endings.len());
+    names
+}
+
+#[test]
+fn sheets() {
+    for name in names("sheet", &["job", "out"]) {
+        let printed = String::from_utf8(stored("sheet", &name, "out")).unwrap();
+        assert_eq!(sheet(&stored("sheet", &name, "job")), printed, "{name}");
+    }
+}
+
+#[test]
+fn audits() {
+    for name in names("audit", &["job", "plan", "out"]) {
+        let answer = audit(
+            &stored("audit", &name, "job"),
+            &stored("audit", &name, "plan"),
+        );
+        let printed = String::from_utf8(stored("audit", &name, "out")).unwrap();
+        assert_eq!(audit_text(&answer), printed, "{name}");
+    }
+}
+
+/// All fields, 256 tests, and all eight groups in each record.
+#[test]
+fn the_longest_job() {
+    let job = stored("sheet", "longest_job", "job");
+    assert_eq!(job.len(), 1 + 1 + 1 + 2 + 1 + 256 * (1 + 8));
+    assert_eq!(job.len(), 2_310);
+    let mut longer = job.clone();
+    longer.push(0);
+    assert_eq!(stored("sheet", "longest_job_surplus", "job"), longer);
+}
+
+/// A step of our plan names no curve twice: what it drops is not wanted, what it loads is. So a line
+/// is longest if it names all 64, and only with 32 places can all lines but the first do that. The
+/// first then loads 32 curves, at best all with two digits.
+#[test]
+fn the_longest_sheet() {
+    let numbers: usize = (0..256).map(|number: u16| number.to_string().len()).sum();
+    let curves: usize = (0..64).map(|curve: u8| 1 + curve.to_string().len()).sum();
+    let longest = "256 tests, 32 places, method 0\n".len()
+        + 256 * ": test  drop load\n".len()
+        + 2 * numbers
+        + " none".len()
+        + 32 * " 63".len()
+        + 255 * curves
+        + "loads 8192\n".len();
+    assert_eq!(stored("sheet", "longest_sheet", "out").len(), longest);
+    assert_eq!(longest, SHEET);
+}
+
+/// A step's bytes are its map, two sets of at most nine bytes and its test; the first of a plan that
+/// passes drops nothing.
+#[test]
+fn the_longest_plan() {
+    let job = stored("audit", "longest_plan", "job");
+    let plan = stored("audit", "longest_plan", "plan");
+    assert_eq!(plan.len(), (1 + 9 + 1) + 255 * (1 + 9 + 9 + 1));
+    assert_eq!(plan.len(), 5_111);
+    assert_eq!(call_bytes(&job, 5_111), Ok(plan.clone()));
+    for number in [8, 11, 12] {
+        let faulty = stored("audit", &format!("longest_plan_refused_{number}"), "plan");
+        assert_eq!(faulty.len(), 5_111);
+        assert_eq!(faulty[..5_011], plan[..5_011]);
+    }
+    let mut longer = plan;
+    longer.push(0);
+    assert_eq!(stored("audit", "longest_plan_surplus", "plan"), longer);
+    // The longest that reads, but does not pass.
+    assert_eq!(stored("audit", "dropped_from_empty", "plan").len(), 5_120);
+}
