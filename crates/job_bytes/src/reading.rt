@@ -152,7 +152,7 @@ fn read_records(job: &[u8], start: usize, tests: usize, curves: usize, list: &mu
         let mut set: u64 = 0;
         let mut used: usize = 1;
         let mut j: usize = 0;
-        'groups: while j < 8 {
+        while j < 8 {
             if (map >> j) % 2 == 1 {
                 match read_group(rest, used, j, curves) {
                     GroupRead::Curves(group) => {

@@ -21,8 +21,8 @@ use Rattle.job_bytes.proofs.Records.{record-none, record-fault, record-
 use Rattle.job_bytes.proofs.reading.read_records.Statement.{statement}
 use Rattle.job_bytes.proofs.reading.read_records.Tie as tie
 
-abbrev Inv-groups : tie.InvT-groups
-Inv-groups job start tests curves list answer₀ at t rest map set₀ used₀ j₀ answer set used j =
+abbrev Inv-loop : tie.InvT-loop
+Inv-loop job start tests curves list answer₀ at t rest map set₀ used₀ j₀ answer set used j =
     record {
       turns : j ≤ 8;
       fits : used ≤ length rest;
@@ -30,8 +30,8 @@ Inv-groups job start tests curves list answer₀ at t rest map set₀ used₀ j�
       goes : readGroups 1 3 4 curves 8 0 map 0 (at + 1) (drop 1 rest) ≡ readGroups 1 3 4 curves (8 - j) j map set (at + used) (drop used rest);
     }
 
-abbrev μ-groups : tie.MeasureT-groups
-μ-groups job start tests curves list answer₀ at t rest map set₀ used₀ j₀ answer set used j = 8 - j
+abbrev μ-loop : tie.MeasureT-loop
+μ-loop job start tests curves list answer₀ at t rest map set₀ used₀ j₀ answer set used j = 8 - j
 
 abbrev Inv-tests : tie.InvT-tests
 Inv-tests job start tests curves list₀ answer₀ at₀ t₀ list answer at t =
@@ -46,73 +46,73 @@ Inv-tests job start tests curves list₀ answer₀ at₀ t₀ list answer at t =
 abbrev μ-tests : tie.MeasureT-tests
 μ-tests job start tests curves list₀ answer₀ at₀ t₀ list answer at t = tests - t
 
-tests-holds : tie.Need-tests-holds Inv-groups μ-groups Inv-tests μ-tests
+tests-holds : tie.Need-tests-holds Inv-loop μ-loop Inv-tests μ-tests
 tests-holds c = record { turns = search needs; within = search needs; long = refl; fine = refl; goes = rw sub-zero }
 
-sub-rest : tie.Need-sub-rest Inv-groups μ-groups Inv-tests μ-tests
+sub-rest : tie.Need-sub-rest Inv-loop μ-loop Inv-tests μ-tests
 sub-rest c = search needs
 
-part-rest-start : tie.Need-part-rest-start Inv-groups μ-groups Inv-tests μ-tests
+part-rest-start : tie.Need-part-rest-start Inv-loop μ-loop Inv-tests μ-tests
 part-rest-start c = search needs
 
-part-rest-end : tie.Need-part-rest-end Inv-groups μ-groups Inv-tests μ-tests
+part-rest-end : tie.Need-part-rest-end Inv-loop μ-loop Inv-tests μ-tests
 part-rest-end c = search needs
 
-shared-slice-read-map : tie.Need-shared-slice-read-map Inv-groups μ-groups Inv-tests μ-tests
+shared-slice-read-map : tie.Need-shared-slice-read-map Inv-loop μ-loop Inv-tests μ-tests
 shared-slice-read-map c = search needs
 
-groups-holds : tie.Need-groups-holds Inv-groups μ-groups Inv-tests μ-tests
-groups-holds c =
+loop-holds : tie.Need-loop-holds Inv-loop μ-loop Inv-tests μ-tests
+loop-holds c =
     let job = now (c .before .before .before .before .before .before .before .args .job) in
     let at = c .before .before .before .before .tests .at in
     record { turns = search needs; fits = omega (arith, rest-long job at, c .before .if1 .left); same = refl; goes = refl }
 
-cast-if2 : tie.Need-cast-if2 Inv-groups μ-groups Inv-tests μ-tests
+cast-if2 : tie.Need-cast-if2 Inv-loop μ-loop Inv-tests μ-tests
 cast-if2 c = search needs
 
-shr-if2 : tie.Need-shr-if2 Inv-groups μ-groups Inv-tests μ-tests
+shr-if2 : tie.Need-shr-if2 Inv-loop μ-loop Inv-tests μ-tests
 shr-if2 c = search needs
 
-read-group-requires : tie.Need-read-group-requires Inv-groups μ-groups Inv-tests μ-tests
+read-group-requires : tie.Need-read-group-requires Inv-loop μ-loop Inv-tests μ-tests
 read-group-requires c κs = search needs
 
-enum-known-group : tie.Need-enum-known-group Inv-groups μ-groups Inv-tests μ-tests
+enum-known-group : tie.Need-enum-known-group Inv-loop μ-loop Inv-tests μ-tests
 enum-known-group c = search needs
 
-add-used : tie.Need-add-used Inv-groups μ-groups Inv-tests μ-tests
+add-used : tie.Need-add-used Inv-loop μ-loop Inv-tests μ-tests
 add-used c = search needs
 
-enum-told : tie.Need-enum-told Inv-groups μ-groups Inv-tests μ-tests
+enum-told : tie.Need-enum-told Inv-loop μ-loop Inv-tests μ-tests
 enum-told c = search needs
 
-enum-told-2 : tie.Need-enum-told-2 Inv-groups μ-groups Inv-tests μ-tests
+enum-told-2 : tie.Need-enum-told-2 Inv-loop μ-loop Inv-tests μ-tests
 enum-told-2 c = search needs
 
-add-offset : tie.Need-add-offset Inv-groups μ-groups Inv-tests μ-tests
+add-offset : tie.Need-add-offset Inv-loop μ-loop Inv-tests μ-tests
 add-offset c = search needs
 
-enum-told-3 : tie.Need-enum-told-3 Inv-groups μ-groups Inv-tests μ-tests
+enum-told-3 : tie.Need-enum-told-3 Inv-loop μ-loop Inv-tests μ-tests
 enum-told-3 c = search needs
 
-add-offset-2 : tie.Need-add-offset-2 Inv-groups μ-groups Inv-tests μ-tests
+add-offset-2 : tie.Need-add-offset-2 Inv-loop μ-loop Inv-tests μ-tests
 add-offset-2 c = search needs
 
-add-j : tie.Need-add-j Inv-groups μ-groups Inv-tests μ-tests
+add-j : tie.Need-add-j Inv-loop μ-loop Inv-tests μ-tests
 add-j c = search needs
 
-groups-less : tie.Need-groups-less Inv-groups μ-groups Inv-tests μ-tests
-groups-less c = search needs
+loop-less : tie.Need-loop-less Inv-loop μ-loop Inv-tests μ-tests
+loop-less c = search needs
 
-groups-again : tie.Need-groups-again Inv-groups μ-groups Inv-tests μ-tests
-groups-again c =
+loop-again : tie.Need-loop-again Inv-loop μ-loop Inv-tests μ-tests
+loop-again c =
     let k = c .before .before in
     let a = k .before .before .before .before .before .before .before .before .args in
     let pre = k .before .before .before .before .before .before .before .before .pre in
     let job = now (a .job) in
     let at = k .before .before .before .before .before .tests .at in
     let rest = take (length job - at) (drop at job) in
-    let g = k .groups in
-    let h : g .j < 8 = c .before .groups-test .taken in
+    let g = k .loop in
+    let h : g .j < 8 = c .before .loop-test .taken in
     ⊎-elim
     (λ w.
     let x = w .3 .given .0 .0 in
@@ -129,46 +129,46 @@ groups-again c =
     })
     (c .if2 .came)
 
-mul-list : tie.Need-mul-list Inv-groups μ-groups Inv-tests μ-tests
+mul-list : tie.Need-mul-list Inv-loop μ-loop Inv-tests μ-tests
 mul-list c = search needs
 
-slice-write-list : tie.Need-slice-write-list Inv-groups μ-groups Inv-tests μ-tests
+slice-write-list : tie.Need-slice-write-list Inv-loop μ-loop Inv-tests μ-tests
 slice-write-list c = search needs
 
-add-at : tie.Need-add-at Inv-groups μ-groups Inv-tests μ-tests
+add-at : tie.Need-add-at Inv-loop μ-loop Inv-tests μ-tests
 add-at c = search needs
 
-add-t : tie.Need-add-t Inv-groups μ-groups Inv-tests μ-tests
+add-t : tie.Need-add-t Inv-loop μ-loop Inv-tests μ-tests
 add-t c = search needs
 
-tests-less : tie.Need-tests-less Inv-groups μ-groups Inv-tests μ-tests
+tests-less : tie.Need-tests-less Inv-loop μ-loop Inv-tests μ-tests
 tests-less c = search needs
 
-tests-again : tie.Need-tests-again Inv-groups μ-groups Inv-tests μ-tests
+tests-again : tie.Need-tests-again Inv-loop μ-loop Inv-tests μ-tests
 tests-again c =
     let k = c .before .before in
     let a = k .before .before .before .before .before .before .before .args in
     let q = k .before .before .before .before .tests in
     let job = now (a .job) in
     let rest = take (length job - q .at) (drop (q .at) job) in
-    let u = c .before .groups .used in
-    let set = c .before .groups .set in
-    let full : c .before .groups .j ≡ 8 = omega arith in
+    let u = c .before .loop .used in
+    let set = c .before .loop .set in
+    let full : c .before .loop .j ≡ 8 = omega arith in
     let some : 0 < length rest = omega (arith, k .before .if1 .left) in
     let long = rest-long job (q .at) in
-    let read = rw full at (c .before .groups .inv .goes) ∙ groups-end 1 3 4 (a .curves) (getD rest 0 0) set (q .at + u) (drop u rest) in
+    let read = rw full at (c .before .loop .inv .goes) ∙ groups-end 1 3 4 (a .curves) (getD rest 0 0) set (q .at + u) (drop u rest) in
     record {
       turns = search needs;
       within = omega arith;
       long = simp length-set (q .inv .long);
-      fine = c .before .groups .inv .same ∙ q .inv .fine;
+      fine = c .before .loop .inv .same ∙ q .inv .fine;
       goes =
           rw (list-more (q .list) (q .t) set (omega arith))
           (q .inv .goes ∙ record-read job (a .curves) (a .tests) (q .t) (q .at) (take (q .t) (q .list)) (omega arith) rest (rest-is job (q .at)) some set u read);
     }
 
 -- the way out in the middle of a test's groups: the record's fault is the reading's
-module _ (k : tie.At-tests Inv-groups μ-groups Inv-tests μ-tests) (more : k .tests .t < k .before .before .before .args .tests) where
+module _ (k : tie.At-tests Inv-loop μ-loop Inv-tests μ-tests) (more : k .tests .t < k .before .before .before .args .tests) where
   abbrev whole : Outcome (Got (List ℕ))
   whole = readRecords (k .before .before .before .args .curves) (k .before .before .before .args .tests) [] (k .before .before .before .args .start) (drop (k .before .before .before .args .start) (now (k .before .before .before .args .job)))
 
@@ -182,7 +182,7 @@ module _ (k : tie.At-tests Inv-groups μ-groups Inv-tests μ-tests) (more : k .t
       q .inv .goes ∙ record-fault (now (a .job)) (a .curves) (a .tests) (q .t) (q .at) (take (q .t) (q .list)) more rest (rest-is (now (a .job)) (q .at)) some n f e
 
 -- what the ways out of the loops say of the reading
-left : (k : tie.Left-tests Inv-groups μ-groups Inv-tests μ-tests)
+left : (k : tie.Left-tests Inv-loop μ-loop Inv-tests μ-tests)
     → LeftWith (k .tests-test .answer)
     (readRecords (k .before .before .before .before .args .curves) (k .before .before .before .before .args .tests) [] (k .before .before .before .before .args .start) (drop (k .before .before .before .before .args .start) (now (k .before .before .before .before .args .job))))
     (got (take (k .before .before .before .before .args .tests) (k .before .tests .list)) (k .before .tests .at) (drop (k .before .tests .at) (now (k .before .before .before .before .args .job))))
@@ -222,24 +222,24 @@ left k =
     inr (UnknownCurve (q .at + p .used), w .10, fault (k .before) (w .0 .taken) 4 (q .at + p .used) (omega (arith, w .2 .left)) e)))))
     (k .tests-test .came)
 
-enum-known-answer : tie.Need-enum-known-answer Inv-groups μ-groups Inv-tests μ-tests
+enum-known-answer : tie.Need-enum-known-answer Inv-loop μ-loop Inv-tests μ-tests
 enum-known-answer c = search needs
 
-enum-told-4 : tie.Need-enum-told-4 Inv-groups μ-groups Inv-tests μ-tests
+enum-told-4 : tie.Need-enum-told-4 Inv-loop μ-loop Inv-tests μ-tests
 enum-told-4 c = search needs
 
-same-length : tie.Need-same-length Inv-groups μ-groups Inv-tests μ-tests
+same-length : tie.Need-same-length Inv-loop μ-loop Inv-tests μ-tests
 same-length c = c .before .before .before .before .tests .inv .long
 
-returns : tie.Need-returns Inv-groups μ-groups Inv-tests μ-tests
+returns : tie.Need-returns Inv-loop μ-loop Inv-tests μ-tests
 returns c =
     let k = c .before .before .before in
     promise-refused (c .before .answer .given .0 .0) _ _ (left-refused _ _ _ (left k) (c .before .answer .given .0 .0) (c .before .answer .given .1))
 
-same-length-2 : tie.Need-same-length-2 Inv-groups μ-groups Inv-tests μ-tests
+same-length-2 : tie.Need-same-length-2 Inv-loop μ-loop Inv-tests μ-tests
 same-length-2 c = c .before .before .before .tests .inv .long
 
-returns-2 : tie.Need-returns-2 Inv-groups μ-groups Inv-tests μ-tests
+returns-2 : tie.Need-returns-2 Inv-loop μ-loop Inv-tests μ-tests
 returns-2 c =
     let k = c .before .before in
     promise-done _ _ (left-passed _ _ _ (left k) (c .enum-told4 .given .1))
@@ -248,8 +248,8 @@ pub read-records-spec : {M : Type 1} → statement M
 read-records-spec =
     tie.close
     (tie.spec
-    Inv-groups
-    μ-groups
+    Inv-loop
+    μ-loop
     Inv-tests
     μ-tests
     tests-holds
@@ -257,7 +257,7 @@ read-records-spec =
     part-rest-start
     part-rest-end
     shared-slice-read-map
-    groups-holds
+    loop-holds
     cast-if2
     shr-if2
     read-group-requires
@@ -269,8 +269,8 @@ read-records-spec =
     enum-told-3
     add-offset-2
     add-j
-    groups-less
-    groups-again
+    loop-less
+    loop-again
     mul-list
     slice-write-list
     add-at
