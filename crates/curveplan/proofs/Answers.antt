@@ -1,20 +1,21 @@
 -- What the call answers: which refusals come out, that counts and refusals never meet, and that the bytes written are a plan with the fewest loads.
 use mathlib.Core.Path.{_≡_, refl, sym, ap, _∙_}
 use mathlib.Core.Logic.{_⊎_, inl, inr}
-use mathlib.Core.Bool.{Bool, true, false}
 use mathlib.Core.List.{List, map}
 use Prim.Native.Nat.{ℕ, _+_, _*_, _/_, _%_, _≤_, _<_}
 use native.Mathlib.Omega.{arith}
+use native.Mathlib.Nat.{zero-add}
 use lib.Dec.{leb}
-use lib.ListN.{length, getD}
+use lib.ListN.{length}
 use Rattle.bitset.specs.Set.{size}
 use Rattle.job.specs.declared.Refusal.{Refusal}
 use Rattle.job.specs.declared.Counted.{Counted}
 use Rattle.job.specs.Refusal.{Outcome, done, refused, number, figure, countOutcome, _>>=_, _>>_, mapped, demand, room}
 use Rattle.job.specs.Handed.{each, wantsFit}
 use Rattle.job_bytes.specs.JobBytes.{Job, readBytes}
-use Rattle.job.proofs.Laws.{refused≢done, done-same, both-done, each-cases, mapped-done, mapped-refused, count-done, count-refused}
+use Rattle.job.proofs.Laws.{refused≢done, done-same, both-done, mapped-done, mapped-refused, count-done, count-refused}
 use Rattle.job.proofs.Refuses.{Refuses, refuses, refuses-demand, refuses-both}
+use Rattle.job.proofs.Faults.{Examines, faultless, faulty, Fails, each-examines}
 use Rattle.job_bytes.proofs.SetRoundTrip.{Bytes}
 use Rattle.job_bytes.proofs.ReadExact.{ReadJob, read-exact}
 use Rattle.job_bytes.proofs.JobBounds.{figure-short}
@@ -32,13 +33,12 @@ use Rattle.curveplan.proofs.ReadRefuses.{ByReading, read-refuses}
 -- a test that wants more curves than there are places, or none
 sizes : (places : ℕ) (wants : List ℕ) → (wantsFit places wants ≡ done tt) ⊎ ((t : ℕ) × (t < length wants) × (wantsFit places wants ≡ refused 7 t))
 unfolding wantsFit
-sizes places wants = go (each-cases (λ w. leb (size w) places) 7 0 wants)
+sizes places wants = go (each-examines (λ w. leb (size w) places) 7 0 wants)
   where
-    go : (each (λ w. leb (size w) places) 7 0 wants ≡ done tt)
-        ⊎ ((t : ℕ) × (t < length wants) × (leb (size (getD wants t 0)) places ≡ false) × (each (λ w. leb (size w) places) 7 0 wants ≡ refused 7 (0 + t)))
+    go : Examines (Fails (λ w. leb (size w) places) wants) 7 0 (each (λ w. leb (size w) places) 7 0 wants)
         → (each (λ w. leb (size w) places) 7 0 wants ≡ done tt) ⊎ ((t : ℕ) × (t < length wants) × (each (λ w. leb (size w) places) 7 0 wants ≡ refused 7 t))
-    go (inl e) = inl e
-    go (inr x) = let z : 0 + x .0 ≡ x .0 = omega arith in inr (x .0, x .1, x .3 ∙ ap (refused 7) z)
+    go (faultless e none) = inl e
+    go (faulty t e first) = inr (t, first .0 .0, e ∙ ap (refused 7) (zero-add t))
 
 -- 8, 10, 11 and 12 never come out, and a figure takes no more than 16 bits
 abbrev pub CallRefusal : ℕ → ℕ → Type 0

@@ -1,8 +1,7 @@
 -- Laws of outcomes: what a sequence that is done, or refused, says of its parts.
-use mathlib.Core.Path.{_≡_, refl, sym, ap, _∙_, subst}
+use mathlib.Core.Path.{_≡_, refl, sym, _∙_, subst}
 use mathlib.Core.Bool.{Bool, true, false, _&&_, false≢true}
 use mathlib.Core.List.{List, [], _∷_}
-use mathlib.Core.Logic.{_⊎_, inl, inr}
 use Prim.Native.Nat.{ℕ, zero, suc, _+_, _≤_, _<_}
 use lib.Dec.{leb}
 use borrow.Author.Tests.{leb-true, le-leb}
@@ -40,6 +39,9 @@ refused≢done e = subst isDone (sym e) tt
 pub done-same : {A : Type 0} {x y : A} → done x ≡ done y → x ≡ y
 done-same e = cc
 
+pub refused-same : {A : Type 0} {k i l j : ℕ} → _≡_ {A = Outcome A} (refused k i) (refused l j) → i ≡ j
+refused-same e = cc
+
 -- a test that passed, and a sequence that was done
 pub demand-true : (t : Bool) (k i : ℕ) → demand t k i ≡ done tt → t ≡ true
 unfolding demand
@@ -48,6 +50,9 @@ demand-true false k i e = absurd (refused≢done e)
 
 pub demand-done : (t : Bool) (k i : ℕ) → t ≡ true → demand t k i ≡ done tt
 demand-done t k i e = rw e (unfold demand in refl)
+
+pub demand-refused : (t : Bool) (k i : ℕ) → t ≡ false → demand t k i ≡ refused k i
+demand-refused t k i e = rw e (unfold demand in refl)
 
 pub both-done : {B : Type 0} (a : Outcome (Unit {0})) (r : Outcome B) (b : B) → _>>_ a r ≡ done b → (a ≡ done tt) × (r ≡ done b)
 unfolding _>>_
@@ -92,19 +97,6 @@ unfolding each
 true-each ok k i [] h = refl
 true-each ok k i (x ∷ xs) h =
     done-both (demand (ok x) k i) (each ok k (suc i) xs) (demand-done (ok x) k i (h 0 (omega arith))) ∙ true-each ok k (suc i) xs (λ t l. h (suc t) (omega arith))
-
--- or a first one fails
-pub each-cases : (ok : ℕ → Bool) (k i : ℕ) (xs : List ℕ)
-    → (each ok k i xs ≡ done tt) ⊎ ((t : ℕ) × (t < length xs) × (ok (getD xs t 0) ≡ false) × (each ok k i xs ≡ refused k (i + t)))
-unfolding each demand _>>_
-each-cases ok k i [] = inl refl
-each-cases ok k i (x ∷ xs) = go (ok x) refl (each-cases ok k (suc i) xs)
-  where
-    go : (b : Bool) → ok x ≡ b → (each ok k (suc i) xs ≡ done tt) ⊎ ((t : ℕ) × (t < length xs) × (ok (getD xs t 0) ≡ false) × (each ok k (suc i) xs ≡ refused k (suc i + t)))
-        → (_>>_ (demand b k i) (each ok k (suc i) xs) ≡ done tt) ⊎ ((t : ℕ) × (t < suc (length xs)) × (ok (getD (x ∷ xs) t 0) ≡ false) × (_>>_ (demand b k i) (each ok k (suc i) xs) ≡ refused k (i + t)))
-    go false e r = inr (0, omega arith, e, let z : i + 0 ≡ i = omega arith in rw z refl)
-    go true e (inl r) = inl r
-    go true e (inr r) = inr (suc (r .0), omega (arith, r .1), r .2, let z : suc i + r .0 ≡ i + suc (r .0) = omega arith in rw z at (r .3))
 
 -- ---- a loop over the entries: at entry t, one turn; at the end, done
 

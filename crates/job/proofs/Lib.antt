@@ -5,9 +5,11 @@
 --     Chosen        what is chosen by `Choice`
 --     Orders        counting in lists of tests
 --     JobExact      what passes the examination is a job, and a job passes
+--     Faults        a refusal names the first position with a fault
 pub mod Laws
 pub mod Examination
 pub mod Refuses
 pub mod Chosen
 pub mod Orders
 pub mod JobExact
+pub mod Faults

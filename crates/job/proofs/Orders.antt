@@ -5,11 +5,11 @@ use mathlib.Core.List.{List, [], _∷_, _++_, reverse, reverse-cons}
 use Prim.Native.Nat.{ℕ, zero, suc, _+_, _^_, _≤_, _<_}
 use native.Mathlib.Omega.{arith}
 use native.Mathlib.Decide.{ℕ-discrete, decLe}
-use lib.ListN.{length, length-append}
+use lib.ListN.{length, getD, length-append}
 use lib.Dec.{eqb}
 use lib.Pow.{pow-mono, pow-pos}
-use borrow.Author.Tests.{eq-eqb, ne-eqb}
-use Rattle.bitset.specs.Set.{bit, size}
+use borrow.Author.Tests.{eqb-true, eq-eqb, ne-eqb}
+use Rattle.bitset.specs.Set.{bit}
 use Rattle.bitset.proofs.Bits.{bit-single, bit-other}
 use Rattle.bitset.proofs.Element.{size-single, sum, sum-same, sum-add, sum-none, size-sum}
 use Rattle.job.specs.Handed.{listed}
@@ -38,6 +38,27 @@ unlisted t (s ∷ ss) h = go (eqb s t) h (unlisted t ss)
     go : (b : Bool) → digit b + count t ss ≡ 0 → (count t ss ≡ 0 → listed ss t ≡ false) → b || listed ss t ≡ false
     go true h ih = absurd (omega arith)
     go false h ih = ih (omega arith)
+
+-- a test is listed exactly where it stands at some position
+pub listed-position : (t : ℕ) (ss : List ℕ) → listed ss t ≡ true → (q : ℕ) × (q < length ss) × (getD ss q 0 ≡ t)
+unfolding listed
+listed-position t [] h = absurd (false≢true h)
+listed-position t (s ∷ ss) h = go (eqb s t) refl h (listed-position t ss)
+  where
+    go : (b : Bool) → eqb s t ≡ b → b || listed ss t ≡ true → (listed ss t ≡ true → (q : ℕ) × (q < length ss) × (getD ss q 0 ≡ t))
+        → (q : ℕ) × (q < suc (length ss)) × (getD (s ∷ ss) q 0 ≡ t)
+    go true e h ih = (0, omega arith, eqb-true s t e)
+    go false e h ih = let x = ih h in (suc (x .0), omega (arith, x .1), x .2)
+
+pub position-listed : (t : ℕ) (ss : List ℕ) (q : ℕ) → q < length ss → getD ss q 0 ≡ t → listed ss t ≡ true
+unfolding listed
+position-listed t [] q h e = absurd (omega arith)
+position-listed t (s ∷ ss) zero h e = rw (eq-eqb s t e) refl
+position-listed t (s ∷ ss) (suc q) h e = go (eqb s t) (position-listed t ss q (omega arith) e)
+  where
+    go : (b : Bool) → listed ss t ≡ true → b || listed ss t ≡ true
+    go true e = refl
+    go false e = e
 
 -- ---- each of n tests once: n entries
 

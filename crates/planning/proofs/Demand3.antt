@@ -1,7 +1,5 @@
 -- DEMAND 3, proved: of planning and the plan check, for every job and every order of its tests.
 use mathlib.Core.Path.{_≡_, refl, sym, ap, _∙_}
-use mathlib.Core.Logic.{_⊎_, inl, inr}
-use mathlib.Core.Bool.{false}
 use mathlib.Core.List.{List, [], _∷_}
 use Prim.Native.Nat.{ℕ, _+_, _≤_, _<_}
 use native.Mathlib.Omega.{arith}
@@ -9,12 +7,12 @@ use native.Mathlib.Decide.{decLe}
 use lib.Dec.{leb}
 use lib.ListN.{length, getD, take, drop, List·getD-eq-default}
 use lib.Seq.{take-at}
-use borrow.Author.Tests.{leb-true, leb-false, eq-eqb}
+use borrow.Author.Tests.{leb-true, leb-false, lt-leb, eq-eqb}
 use Rattle.bitset.specs.Set.{size, inside}
 use Rattle.bitset.proofs.Bits.{bit-empty, size-empty}
 use Rattle.job.specs.Refusal.{Outcome, done, refused, _>>=_, _>>_, mapped, room, leaves, overwritten}
 use Rattle.job.specs.Handed.{allCurves, each, numbersKnown, wantsKnown, wantsFit, jobKnown}
-use Rattle.job.proofs.Laws.{and, refused≢done, demand-done, both-done, done-both, each-true, each-cases, mapped-done, mapped-refused, leaves-done, leaves-refused, done-room}
+use Rattle.job.proofs.Laws.{and, refused≢done, demand-done, both-done, done-both, each-true, mapped-done, mapped-refused, leaves-done, leaves-refused, done-room}
 use Rattle.planning.specs.Order.{orderKnown}
 use Rattle.planning.specs.Plan.{inOrder, loadCount, checkSteps, furthest, dropSets, loadSets}
 use Rattle.planning.specs.Planning.{Plan, ourPlan, planning, planned, planAnswer, planDrops, planLoads, setsKnown, checking}
@@ -23,6 +21,7 @@ use Rattle.planning.proofs.Best.{furthest-passes, furthest-is-fewest}
 use Rattle.planning.specs.Demand3.{Demand3}
 use Rattle.job.proofs.Orders.{order-length}
 use Rattle.job.proofs.JobExact.{job-exact}
+use Rattle.job.proofs.Faults.{Examines, faultless, faulty, Fails, each-examines}
 use Rattle.planning.proofs.OrderExact.{order-passes, passed-order}
 use Rattle.planning.proofs.Turns.{length-inOrder, length-dropSets, length-loadSets}
 
@@ -146,7 +145,7 @@ module _ (places curves : ℕ) (wants order : List ℕ) where
         → length wants ≤ length (planDrops places curves wants order drops loads) → length wants ≤ length (planLoads places curves wants order drops loads)
         → planAnswer places curves wants order drops loads ≡ refused k i → (t : ℕ) × (t < length wants) × (places < size (getD wants t 0))
     unfolding planAnswer planDrops planLoads wantsFit
-    too-large k i j o hd hl e = go (each-cases (λ w. leb (size w) places) 7 0 wants)
+    too-large k i j o hd hl e = go (each-examines (λ w. leb (size w) places) 7 0 wants)
       where
         r : plan ≡ refused k i
         r = mapped-refused (λ p. loadCount (p .loads)) plan k i e
@@ -154,24 +153,21 @@ module _ (places curves : ℕ) (wants order : List ℕ) where
         kept : (f : Plan → List ℕ) (old : List ℕ) → leaves (mapped f plan) old ≡ old
         kept f old = leaves-refused f plan k i old r
 
-        go : (each (λ w. leb (size w) places) 7 0 wants ≡ done tt)
-            ⊎ ((t : ℕ) × (t < length wants) × (leb (size (getD wants t 0)) places ≡ false) × (each (λ w. leb (size w) places) 7 0 wants ≡ refused 7 (0 + t)))
-            → (t : ℕ) × (t < length wants) × (places < size (getD wants t 0))
-        go (inl f) =
+        go : Examines (Fails (λ w. leb (size w) places) wants) 7 0 (each (λ w. leb (size w) places) 7 0 wants) → (t : ℕ) × (t < length wants) × (places < size (getD wants t 0))
+        go (faultless f none) =
             absurd (refused≢done (sym r ∙ planning-done (length drops) (length loads) j o f
             (omega (arith, ap length (kept (λ p. p .drops) drops))) (omega (arith, ap length (kept (λ p. p .loads) loads)))))
-        go (inr x) = (x .0, x .1, leb-false (size (getD wants (x .0) 0)) places (x .2))
+        go (faulty t f first) = (t, first .0 .0, leb-false (size (getD wants t 0)) places (first .0 .1))
 
     missing-too-large : jobKnown places curves wants ≡ done tt → orderKnown (length wants) order ≡ done tt
         → (t : ℕ) → t < length wants → places < size (getD wants t 0) → (k : ℕ) × (i : ℕ) × (planAnswer places curves wants order drops loads ≡ refused k i)
     unfolding planAnswer wantsFit
-    missing-too-large j o t l h = go (each-cases (λ w. leb (size w) places) 7 0 wants)
+    missing-too-large j o t l h = go (each-examines (λ w. leb (size w) places) 7 0 wants)
       where
-        go : (each (λ w. leb (size w) places) 7 0 wants ≡ done tt)
-            ⊎ ((t : ℕ) × (t < length wants) × (leb (size (getD wants t 0)) places ≡ false) × (each (λ w. leb (size w) places) 7 0 wants ≡ refused 7 (0 + t)))
+        go : Examines (Fails (λ w. leb (size w) places) wants) 7 0 (each (λ w. leb (size w) places) 7 0 wants)
             → (k : ℕ) × (i : ℕ) × (mapped (λ p. loadCount (p .loads)) plan ≡ refused k i)
-        go (inl f) = absurd (omega (arith, leb-true (size (getD wants t 0)) places (each-true (λ w. leb (size w) places) 7 0 wants f t l)))
-        go (inr x) = (7, 0 + x .0, rw (planning-refused (length drops) (length loads) 7 (0 + x .0) j o (x .3)) (unfold mapped in refl))
+        go (faultless f none) = absurd (none t (l, lt-leb (size (getD wants t 0)) places h))
+        go (faulty s f first) = (7, 0 + s, rw (planning-refused (length drops) (length loads) 7 (0 + s) j o f) (unfold mapped in refl))
 
     -- DEMAND 3
     pub demand3 : Demand3 places curves wants order (planAnswer places curves wants order drops loads) (planDrops places curves wants order drops loads) (planLoads places curves wants order drops loads)

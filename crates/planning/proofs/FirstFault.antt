@@ -1,20 +1,19 @@
 -- Refusal 12 names the first step that breaks a rule, or, before that, the first position where the drops or loads do not fit the tests.
-use mathlib.Core.Path.{_≡_, refl, sym, ap, _∙_, subst}
+use mathlib.Core.Path.{_≡_, refl, sym, ap, _∙_}
 use mathlib.Core.Logic.{_↔_, _⊎_, inl, inr, ⊎-elim}
-use mathlib.Core.Bool.{Bool, true, false, _&&_, false≢true}
+use mathlib.Core.Bool.{Bool, true, false, false≢true}
 use mathlib.Core.List.{List, [], _∷_}
-use Prim.Native.Nat.{ℕ, zero, suc, _+_, _≤_, _<_, min}
+use Prim.Native.Nat.{ℕ, zero, suc, _+_, _≤_, _<_}
 use native.Mathlib.Omega.{arith}
-use lib.Dec.{eqb}
 use lib.ListN.{length, getD, take}
-use borrow.Author.Tests.{eqb-true, eq-eqb}
 use Rattle.job.specs.Refusal.{Outcome, done, refused, _>>_, demand}
 use Rattle.job.specs.Handed.{allCurves, jobKnown}
 use Rattle.job.specs.Words.{IsJob, IsOrder}
-use Rattle.job.proofs.Laws.{both, and, refused≢done, demand-done, done-both}
+use Rattle.job.proofs.Laws.{refused≢done, refused-same, done-both}
+use Rattle.job.proofs.Faults.{First}
 use Rattle.job.proofs.Examination.{refused-both}
 use Rattle.job.proofs.Orders.{order-length}
-use Rattle.job.proofs.Refuses.{Refuses, refuses, refuses-demand, refuses-both, HandedRefusal, job-refuses}
+use Rattle.job.proofs.Refuses.{refuses, HandedRefusal, job-refuses}
 use Rattle.job.proofs.JobExact.{job-exact}
 use Rattle.planning.specs.Order.{orderKnown}
 use Rattle.planning.specs.Plan.{inOrder, loadCount, held, stepPasses, checkSteps}
@@ -23,6 +22,7 @@ use Rattle.planning.proofs.OrderExact.{order-exact, order-refuses}
 use Rattle.planning.proofs.Turns.{length-inOrder}
 use Rattle.planning.proofs.Fewest.{StepOk, step-ok, ok-step}
 use Rattle.planning.proofs.CheckExact.{StepsOk}
+use Rattle.planning.proofs.EntryFault.{EntryFault, sets-exact, entries-exact}
 
 -- "What is held follows from those sets alone: step after step, the drops are taken out and the loads put in."
 unfoldable pub heldBy : ℕ → List ℕ → List ℕ → ℕ
@@ -35,9 +35,6 @@ pub record FirstFault (places all h : ℕ) (ws ds ls : List ℕ) (k : ℕ) : Typ
   pub within : k < length ws
   pub kept : StepsOk places all h (take k ws) (take k ds) (take k ls)
   pub broken : StepOk places all (heldBy h (take k ds) (take k ls)) (getD ws k 0) (getD ds k 0) (getD ls k 0) → ⊥
-
-refused-same : {A : Type 0} {k i l j : ℕ} → _≡_ {A = Outcome A} (refused k i) (refused l j) → i ≡ j
-refused-same e = cc
 
 module _ (places all : ℕ) where
   -- no step before the first is named
@@ -94,20 +91,9 @@ module _ (places all : ℕ) where
 pub record Rejected (places curves : ℕ) (wants order drops loads : List ℕ) (i : ℕ) : Type 0 where
   pub is-job : IsJob places curves wants
   pub is-order : IsOrder (length wants) order
-  -- the first missing or surplus position, where the drops or loads have no entry for each test, else the first step that breaks a rule
-  pub fault : (((length drops ≡ length wants) × (length loads ≡ length wants) → ⊥) × (i ≡ min (min (length drops) (length loads)) (length wants)))
+  -- "first step breaking a rule; before that, first missing or surplus position of the drops or loads, the smaller"
+  pub fault : First (EntryFault (length wants) (length drops) (length loads)) i
       ⊎ ((length drops ≡ length wants) × (length loads ≡ length wants) × FirstFault places (allCurves curves) 0 (inOrder wants order) drops loads i)
-
-demand-refused : (t : Bool) (k i : ℕ) → t ≡ false → demand t k i ≡ refused k i
-demand-refused t k i e = rw e (unfold demand in refl)
-
-not-both : (a b n : ℕ) → ((a ≡ n) × (b ≡ n) → ⊥) → eqb a n && eqb b n ≡ false
-not-both a b n h = go (eqb a n) refl (eqb b n) refl
-  where
-    go : (s : Bool) → eqb a n ≡ s → (t : Bool) → eqb b n ≡ t → s && t ≡ false
-    go false p t q = refl
-    go true p false q = refl
-    go true p true q = absurd (h (eqb-true a n p, eqb-true b n q))
 
 -- a sequence that is refused: its first part is, or the rest
 refused-split : {A B : Type 0} (a : Outcome A) (b : Outcome B) (k i : ℕ) → _>>_ a b ≡ refused k i → (a ≡ refused k i) ⊎ ((x : A) × (a ≡ done x) × (b ≡ refused k i))
@@ -122,72 +108,60 @@ module _ (places curves : ℕ) (wants order drops loads : List ℕ) (i : ℕ) wh
   abbrev ws : List ℕ
   ws = inOrder wants order
 
+  abbrev n : ℕ
+  n = length wants
+
+  -- the check of the steps, and the sets before it
+  abbrev step-check : Outcome ℕ
+  step-check = _>>_ (checkSteps places all 0 0 ws drops loads) (done (loadCount loads))
+
+  abbrev set-check : Outcome ℕ
+  set-check = _>>_ (setsKnown n (length drops) (length loads)) step-check
+
+  steps : IsOrder n order → length ws ≡ n
+  steps o = length-inOrder wants order ∙ order-length n order o
+
   rejected : checking places curves wants order drops loads ≡ refused 12 i → Rejected places curves wants order drops loads i
-  unfolding checking setsKnown demand _>>_
+  unfolding checking
   rejected e = by-job (refused-split (jobKnown places curves wants) _ 12 i e)
     where
-      by-sets : jobKnown places curves wants ≡ done tt → orderKnown (length wants) order ≡ done tt
-          → _>>_ (setsKnown (length wants) (length drops) (length loads)) (_>>_ (checkSteps places all 0 0 ws drops loads) (done (loadCount loads))) ≡ refused 12 i → Rejected places curves wants order drops loads i
-      by-sets j o e = go (eqb (length drops) (length wants) && eqb (length loads) (length wants)) refl e
-        where
-          job : IsJob places curves wants
-          job = job-exact places curves wants .0 j
+      by-steps : IsOrder n order → (length drops ≡ n) × (length loads ≡ n) → step-check ≡ refused 12 i → FirstFault places all 0 ws drops loads i
+      by-steps o x e =
+          let f : checkSteps places all 0 0 ws drops loads ≡ refused 12 i =
+          ⊎-elim (λ y. y) (λ y. absurd (refused≢done (sym (y .2)))) (refused-split (checkSteps places all 0 0 ws drops loads) (done (loadCount loads)) 12 i e) in
+          let z : i ≡ 0 + i = omega arith in
+          fault-exact places all 0 0 ws drops loads (x .0 ∙ sym (steps o)) (x .1 ∙ sym (steps o)) i .0 (f ∙ ap (refused 12) z)
 
-          ord : IsOrder (length wants) order
-          ord = order-exact (length wants) order .0 o
+      by-sets : IsOrder n order → (setsKnown n (length drops) (length loads) ≡ refused 12 i) ⊎ ((x : Unit {0}) × (setsKnown n (length drops) (length loads) ≡ done x) × (step-check ≡ refused 12 i))
+          → First (EntryFault n (length drops) (length loads)) i ⊎ ((length drops ≡ n) × (length loads ≡ n) × FirstFault places all 0 ws drops loads i)
+      by-sets o (inl e) = inl (sets-exact n (length drops) (length loads) i .0 e)
+      by-sets o (inr e) =
+          let x = entries-exact n (length drops) (length loads) .0 (e .1) in
+          inr (x .0, x .1, by-steps o x (e .2))
 
-          steps : length ws ≡ length wants
-          steps = length-inOrder wants order ∙ order-length (length wants) order ord
-
-          go : (t : Bool) → eqb (length drops) (length wants) && eqb (length loads) (length wants) ≡ t
-              → _>>_ (demand t 12 (min (min (length drops) (length loads)) (length wants))) (_>>_ (checkSteps places all 0 0 ws drops loads) (done (loadCount loads))) ≡ refused 12 i
-              → Rejected places curves wants order drops loads i
-          go true t e =
-              let q = both (eqb (length drops) (length wants)) (eqb (length loads) (length wants)) t in
-              let d = eqb-true (length drops) (length wants) (q .0) in
-              let l = eqb-true (length loads) (length wants) (q .1) in
-              let f : checkSteps places all 0 0 ws drops loads ≡ refused 12 i =
-              ⊎-elim (λ x. x) (λ x. absurd (refused≢done (sym (x .2)))) (refused-split (checkSteps places all 0 0 ws drops loads) (done (loadCount loads)) 12 i e) in
-              let z : i ≡ 0 + i = omega arith in
-              record { is-job = job; is-order = ord; fault = inr (d, l, fault-exact places all 0 0 ws drops loads (d ∙ sym steps) (l ∙ sym steps) i .0 (f ∙ ap (refused 12) z)) }
-          go false t e =
-              record {
-                is-job = job;
-                is-order = ord;
-                fault = inl (
-                  (λ p. false≢true (sym t ∙ and _ _ (eq-eqb (length drops) (length wants) (p .0)) (eq-eqb (length loads) (length wants) (p .1)))),
-                  sym (refused-same {A = ℕ} e),
-                );
-              }
-
-      by-order : jobKnown places curves wants ≡ done tt
-          → (orderKnown (length wants) order ≡ refused 12 i) ⊎ ((x : Unit {0}) × (orderKnown (length wants) order ≡ done x) × (_>>_ (setsKnown (length wants) (length drops) (length loads)) (_>>_ (checkSteps places all 0 0 ws drops loads) (done (loadCount loads))) ≡ refused 12 i))
+      by-order : jobKnown places curves wants ≡ done tt → (orderKnown n order ≡ refused 12 i) ⊎ ((x : Unit {0}) × (orderKnown n order ≡ done x) × (set-check ≡ refused 12 i))
           → Rejected places curves wants order drops loads i
-      by-order j (inl e) = absurd (omega (arith, refuses (λ k i. k ≡ 8) _ 12 i (order-refuses (length wants) [] order) e))
-      by-order j (inr x) = by-sets j (x .1) (x .2)
+      by-order j (inl e) = absurd (omega (arith, refuses (λ k i. k ≡ 8) _ 12 i (order-refuses n [] order) e))
+      by-order j (inr x) =
+          let o = order-exact n order .0 (x .1) in
+          record { is-job = job-exact places curves wants .0 j; is-order = o; fault = by-sets o (refused-split (setsKnown n (length drops) (length loads)) step-check 12 i (x .2)) }
 
-      by-job : (jobKnown places curves wants ≡ refused 12 i) ⊎ ((x : Unit {0}) × (jobKnown places curves wants ≡ done x) × (_>>_ (orderKnown (length wants) order) (_>>_ (setsKnown (length wants) (length drops) (length loads)) (_>>_ (checkSteps places all 0 0 ws drops loads) (done (loadCount loads)))) ≡ refused 12 i))
+      by-job : (jobKnown places curves wants ≡ refused 12 i) ⊎ ((x : Unit {0}) × (jobKnown places curves wants ≡ done x) × (_>>_ (orderKnown n order) set-check ≡ refused 12 i))
           → Rejected places curves wants order drops loads i
       by-job (inl e) = absurd (⊎-elim (λ q. omega arith) (λ q. omega arith) (refuses HandedRefusal _ 12 i (job-refuses places curves wants) e))
-      by-job (inr x) = by-order (x .1) (refused-split (orderKnown (length wants) order) _ 12 i (x .2))
+      by-job (inr x) = by-order (x .1) (refused-split (orderKnown n order) set-check 12 i (x .2))
 
   rejecting : Rejected places curves wants order drops loads i → checking places curves wants order drops loads ≡ refused 12 i
-  unfolding checking setsKnown
-  rejecting r =
-      done-both _ _ (job-exact places curves wants .1 (r .is-job)) ∙ done-both _ _ (order-exact (length wants) order .1 (r .is-order)) ∙ go (r .fault)
+  unfolding checking
+  rejecting r = done-both _ _ (job-exact places curves wants .1 (r .is-job)) ∙ done-both _ _ (order-exact n order .1 (r .is-order)) ∙ go (r .fault)
     where
-      steps : length ws ≡ length wants
-      steps = length-inOrder wants order ∙ order-length (length wants) order (r .is-order)
-
-      go : (((length drops ≡ length wants) × (length loads ≡ length wants) → ⊥) × (i ≡ min (min (length drops) (length loads)) (length wants)))
-          ⊎ ((length drops ≡ length wants) × (length loads ≡ length wants) × FirstFault places all 0 ws drops loads i)
-          → _>>_ (demand (eqb (length drops) (length wants) && eqb (length loads) (length wants)) 12 (min (min (length drops) (length loads)) (length wants)))
-          (_>>_ (checkSteps places all 0 0 ws drops loads) (done (loadCount loads))) ≡ refused 12 i
-      go (inl x) = refused-both _ _ 12 i (demand-refused _ 12 _ (not-both (length drops) (length loads) (length wants) (x .0)) ∙ ap (refused 12) (sym (x .1)))
+      go : First (EntryFault n (length drops) (length loads)) i ⊎ ((length drops ≡ n) × (length loads ≡ n) × FirstFault places all 0 ws drops loads i) → set-check ≡ refused 12 i
+      go (inl f) = refused-both _ _ 12 i (sets-exact n (length drops) (length loads) i .1 f)
       go (inr x) =
+          let o = steps (r .is-order) in
           let z : 0 + i ≡ i = omega arith in
-          done-both _ _ (demand-done _ 12 _ (and _ _ (eq-eqb (length drops) (length wants) (x .0)) (eq-eqb (length loads) (length wants) (x .1))))
-          ∙ refused-both _ _ 12 i (fault-exact places all 0 0 ws drops loads (x .0 ∙ sym steps) (x .1 ∙ sym steps) i .1 (x .2) ∙ ap (refused 12) z)
+          done-both _ _ (entries-exact n (length drops) (length loads) .1 (x .0, x .1))
+          ∙ refused-both _ _ 12 i (fault-exact places all 0 0 ws drops loads (x .0 ∙ sym o) (x .1 ∙ sym o) i .1 (x .2) ∙ ap (refused 12) z)
 
   -- REFUSAL 12 IS EXACT
   pub rejected-exact : checking places curves wants order drops loads ≡ refused 12 i ↔ Rejected places curves wants order drops loads i

@@ -1,6 +1,8 @@
 -- What the rules of planning mean, and demand 3.
 --     OrderExact  refusal 8 is not given exactly where an order names each test once
+--     OrderFault  refusal 8 names the first position with a fault
 --     CheckExact  the check passes exactly the plans that keep every rule
+--     EntryFault  before that, refusal 12 names the first missing or surplus position of the drops or loads
 --     FirstFault  refusal 12 names the first step that breaks a rule
 --     Fewest      the plan of any good choice of victims passes the check with the fewest loads
 --     Best        the furthest next use is a good choice
@@ -16,7 +18,9 @@
 --     Scan        a walk over the elements of a set, and the best that it finds
 --     Marks       flags of the tests that were met
 pub mod OrderExact
+pub mod OrderFault
 pub mod CheckExact
+pub mod EntryFault
 pub mod FirstFault
 pub mod Fewest
 pub mod Best
