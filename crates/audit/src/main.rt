@@ -1,6 +1,15 @@
 // Says how many loads a plan has, and how many the same list in the same order can be run with: audit JOB PLAN, the names of two files.
-use job::Counted;
 use libc::STDOUT_FILENO;
+ghost use mathlib.Core.List.{List};
+ghost use Prim.Native.Nat.{ℕ};
+ghost use Rattle.io.specs.Counts.{Counts};
+ghost use Rattle.report.specs.Audit.{audit};
+ghost use Rattle.report.specs.Input.{Enough};
+
+// How many bytes of a job and of a plan can matter: one that reads has at most 2,310 and 5,120, and the next byte tells that there are more.
+const JOB_INPUT: usize = 2_311;
+
+const PLAN_INPUT: usize = 5_121;
 
 // Opens the file that an argument names, or says why it cannot and answers -1.
 fn open_argument(i: usize) -> i32 {
@@ -17,18 +26,22 @@ fn open_argument(i: usize) -> i32 {
     fd
 }
 
-// No audit has a longer text than 128 bytes.
-fn print_audit(job: &[u8], plan: &[u8]) {
-    let mut text = [0u8; 128];
-    match report::audit::write_audit(job, plan, &mut text) {
-        Counted::Count(k) => {
-            io::write_all(STDOUT_FILENO, &text[..k]);
-        }
-        Counted::Refused(_) => {}
-    }
+// Reads the job's file, as much as can matter: whatever the whole of it is, and whatever the plan, the audit is that of the bytes read.
+fn read_job(file: i32, job: &mut [u8; JOB_INPUT]) -> usize
+    ensures count { λ n. ⌜ Counts n (now (job .exit)) ⌝ }
+    ensures enough { λ n. ⌜ ((plan : List ℕ) → Enough (λ whole. audit whole plan) n (now (job .exit))) ⌝ }
+{
+    io::read_full(file, job)
 }
 
-// A job that reads has at most 2,310 bytes and its plan at most 5,120: what follows the next byte of either never changes the answer.
+// Reads the plan's file, as much as can matter, whatever the job.
+fn read_plan(file: i32, plan: &mut [u8; PLAN_INPUT]) -> usize
+    ensures count { λ n. ⌜ Counts n (now (plan .exit)) ⌝ }
+    ensures enough { λ n. ⌜ ((job : List ℕ) → Enough (λ whole. audit job whole) n (now (plan .exit))) ⌝ }
+{
+    io::read_full(file, plan)
+}
+
 fn main() {
     let job_file = open_argument(1);
     if job_file < 0 {
@@ -38,9 +51,11 @@ fn main() {
     if plan_file < 0 {
         return;
     }
-    let mut job = [0u8; 2311];
-    let n = io::read_full(job_file, &mut job);
-    let mut plan = [0u8; 5121];
-    let m = io::read_full(plan_file, &mut plan);
-    print_audit(&job[..n], &plan[..m]);
+    let mut job = [0u8; JOB_INPUT];
+    let n = read_job(job_file, &mut job);
+    let mut plan = [0u8; PLAN_INPUT];
+    let m = read_plan(plan_file, &mut plan);
+    let mut text = [0u8; report::audit::AUDIT_BYTES];
+    let k = report::audit::audit_text(&job[..n], &plan[..m], &mut text);
+    io::write_all(STDOUT_FILENO, &text[..k]);
 }

@@ -1,30 +1,31 @@
--- What can matter to an audit, and the longest: so the program's buffers are long enough.
-use mathlib.Core.Path.{_≡_, refl, sym, ap, _∙_, subst}
-use mathlib.Core.Bool.{not, _&&_}
-use mathlib.Core.List.{List, [], _∷_, _++_, map}
+-- Which refusals an audit prints, and the longest: so the program's buffer is long enough.
+use mathlib.Core.Path.{_≡_, refl, ap, subst}
+use mathlib.Core.Logic.{_⊎_, inl, inr}
+use mathlib.Core.List.{List, [], _∷_, _++_}
 use Prim.Native.Nat.{ℕ, suc, _+_, _-_, _*_, _≤_, _<_, min}
 use native.Mathlib.Omega.{arith}
-use lib.Dec.{leb, ltb, eqb}
-use lib.ListN.{length, take, length-append, length-map}
+use lib.ListN.{length, length-append, length-map}
+use borrow.Author.Tests.{le-leb}
 use Rattle.bitset.specs.Set.{_∖_}
 use Rattle.bitset.proofs.Laws.{⊆-∪-r, size-mono}
-use Rattle.job.specs.Refusal.{Outcome, done, refused, _>>=_, _>>_, demand, room}
-use Rattle.job.specs.Handed.{listed, someTests, placesKnown, curvesKnown, testsKnown, numbersKnown, wantsKnown, jobKnown, countsKnown, allCurves}
-use Rattle.job.proofs.Laws.{done-both, done-room, both-done}
-use Rattle.job.proofs.Refuses.{Refuses, refuses, refuses-demand, refuses-both, refuses-bind, refuses-each}
+use Rattle.job.specs.Refusal.{Outcome, done, refused, _>>=_}
+use Rattle.job.specs.Handed.{between, jobKnown, countsKnown, allCurves}
+use Rattle.job.proofs.Laws.{and, done-both, done-room, both-done, mapped-done}
+use Rattle.job.proofs.Refuses.{Refuses, refuses, refuses-demand, refuses-both, refuses-bind, refuses-mapped}
+use Rattle.job.proofs.Examination.{counts-known}
+use Rattle.job.proofs.JobExact.{job-exact}
 use Rattle.job_bytes.specs.JobBytes.{Job, readBytes}
-use Rattle.job_bytes.proofs.JobBounds.{Bounded, read, figure-short, read-bounded, prefix-reads}
+use Rattle.job_bytes.proofs.JobBounds.{figure-short}
 use Rattle.job_bytes.proofs.ReadExact.{ReadJob, read-exact}
 use Rattle.job_bytes.proofs.SetRoundTrip.{Bytes}
 use Rattle.planning.specs.Order.{orderFrom}
-use Rattle.planning.specs.Plan.{inOrder, checkSteps, stepPasses, held}
-use Rattle.planning.specs.Planning.{setsKnown, checking, planning}
-use Rattle.planning.specs.Plan.{loadCount}
+use Rattle.planning.specs.Plan.{inOrder, checkSteps, held, loadCount}
+use Rattle.planning.specs.Planning.{setsKnown, checking}
 use Rattle.planning.proofs.CheckExact.{StepsOk, passed, check-count}
 use Rattle.planning.proofs.Turns.{length-inOrder}
 use Rattle.plan_bytes.specs.PlanBytes.{Placed, readPlanBytes, planSteps}
 use Rattle.plan_bytes.proofs.ReadPlan.{plan-count}
-use Rattle.plan_bytes.proofs.PlanBounds.{plan-figure, plan-eleven, prefix-plan}
+use Rattle.plan_bytes.proofs.PlanBounds.{plan-figure, plan-eleven}
 use Rattle.curveplan.proofs.ReadRefuses.{ByReading, read-refuses}
 use Rattle.report.specs.Report.{text, decimal, printed}
 use Rattle.report.specs.Audit.{Audit, testsOf, dropsOf, loadsOf, auditSteps, auditPlan, audit, auditText, writeAudit}
@@ -32,100 +33,108 @@ use Rattle.report.proofs.Digits.{decimal-length}
 use Rattle.report.proofs.Lines.{refusal-length}
 use Rattle.report.proofs.Auditing.{counts-lines}
 use Rattle.report.proofs.Fewest.{passed-planned, audit-says, audit-fewer}
-
--- a job that reads has at most 256 tests
-few : (bs : List ℕ) (j : Job) → readBytes bs ≡ done j → j .head .tests ≤ 256
-few bs j e = of (subst (Bounded bs) e (read-bounded bs))
-  where
-    of : {j : Job} → Bounded bs (done j) → j .head .tests ≤ 256
-    of (read j l t) = t
-
--- BYTES BEHIND THE JOB'S 2,311TH AND THE PLAN'S 5,121ST never change an audit
-pub audit-prefix : (job plan : List ℕ) → audit (take 2311 job) (take 5121 plan) ≡ audit job plan
-unfolding audit _>>=_
-audit-prefix job plan = rw (prefix-reads job) (go (readBytes job) refl)
-  where
-    go : (o : Outcome Job) → readBytes job ≡ o → _>>=_ o (λ j. auditPlan j (take 5121 plan)) ≡ _>>=_ o (λ j. auditPlan j plan)
-    go (refused k i) e = refl
-    go (done j) e = unfold auditPlan in rw (prefix-plan (j .head .curves) (j .head .tests) 5121 plan (omega (arith, few job j e))) refl
+use Rattle.report.proofs.Inputs.{few}
 
 -- ---- which refusals an audit prints
 
-abbrev Small : ℕ → ℕ → Type 0
-Small k i = (k ≤ 12) × (i ≤ 5120)
+-- of the job: 1 to 6, with an offset or the input length
+abbrev pub OfJob : ℕ → ℕ → Type 0
+OfJob k i = (1 ≤ k) × (k ≤ 6) × (i ≤ 2310)
 
-order-small : (n : ℕ) (before rest : List ℕ) → length before + length rest ≤ 256 → Refuses Small (orderFrom n before rest)
+-- of the plan: 8 with a position, 11 with an offset or the input length, 12 with a step
+abbrev pub OfPlan : ℕ → ℕ → Type 0
+OfPlan k i = ((k ≡ 8) × (i ≤ 256)) ⊎ ((k ≡ 11) × (i ≤ 5120)) ⊎ ((k ≡ 12) × (i ≤ 256))
+
+at-position : (i : ℕ) → i ≤ 256 → OfPlan 8 i
+at-position i l = inl (refl, l)
+
+at-offset : (i : ℕ) → i ≤ 5120 → OfPlan 11 i
+at-offset i l = inr (inl (refl, l))
+
+at-step : (i : ℕ) → i ≤ 256 → OfPlan 12 i
+at-step i l = inr (inr (refl, l))
+
+order-small : (n : ℕ) (before rest : List ℕ) → length before + length rest ≤ 256 → Refuses OfPlan (orderFrom n before rest)
 unfolding orderFrom
-order-small n before [] l = refuses-demand Small _ 8 (length before) (omega arith, omega arith)
+order-small n before [] l = refuses-demand OfPlan _ 8 (length before) (at-position (length before) (omega arith))
 order-small n before (t ∷ ts) l =
-    refuses-both Small _ _ (refuses-demand Small _ 8 (length before) (omega arith, omega arith)) (order-small n (before ++ (t ∷ [])) ts (omega (arith, length-append before (t ∷ []))))
+    refuses-both OfPlan _ _ (refuses-demand OfPlan _ 8 (length before) (at-position (length before) (omega arith))) (order-small n (before ++ (t ∷ [])) ts (omega (arith, length-append before (t ∷ []))))
 
-steps-small : (places all i h : ℕ) (ws ds ls : List ℕ) → i + length ws ≤ 256 → Refuses Small (checkSteps places all i h ws ds ls)
+steps-small : (places all i h : ℕ) (ws ds ls : List ℕ) → i + length ws ≤ 256 → Refuses OfPlan (checkSteps places all i h ws ds ls)
 unfolding checkSteps
 steps-small places all i h [] [] [] l = tt
-steps-small places all i h [] [] (x ∷ ls) l = (omega arith, omega arith)
-steps-small places all i h [] (d ∷ ds) ls l = (omega arith, omega arith)
-steps-small places all i h (w ∷ ws) [] ls l = (omega arith, omega arith)
-steps-small places all i h (w ∷ ws) (d ∷ ds) [] l = (omega arith, omega arith)
+steps-small places all i h [] [] (x ∷ ls) l = at-step i (omega arith)
+steps-small places all i h [] (d ∷ ds) ls l = at-step i (omega arith)
+steps-small places all i h (w ∷ ws) [] ls l = at-step i (omega arith)
+steps-small places all i h (w ∷ ws) (d ∷ ds) [] l = at-step i (omega arith)
 steps-small places all i h (w ∷ ws) (d ∷ ds) (x ∷ ls) l =
-    refuses-both Small _ _ (refuses-demand Small _ 12 i (omega arith, omega arith)) (steps-small places all (suc i) (held h d x) ws ds ls (omega arith))
-
-job-small : (places curves : ℕ) (wants : List ℕ) → length wants ≤ 256 → Refuses Small (jobKnown places curves wants)
-unfolding jobKnown numbersKnown someTests placesKnown curvesKnown testsKnown wantsKnown
-job-small places curves wants l =
-    refuses-both Small _ _
-    (refuses-both Small _ _ (refuses-demand Small _ 5 0 (omega arith, omega arith))
-    (refuses-both Small _ _ (refuses-demand Small _ 10 0 (omega arith, omega arith))
-    (refuses-both Small _ _ (refuses-demand Small _ 10 1 (omega arith, omega arith)) (refuses-demand Small _ 10 2 (omega arith, omega arith)))))
-    (refuses-each Small _ 10 4 wants (λ t m. (omega arith, omega arith)))
-
-check-small : (places curves : ℕ) (wants order drops loads : List ℕ) → length wants ≤ 256 → length order ≤ 256 → Refuses Small (checking places curves wants order drops loads)
-unfolding checking setsKnown
-check-small places curves wants order drops loads l m =
-    refuses-both Small _ _ (job-small places curves wants l)
-    (refuses-both Small _ _ (order-small (length wants) [] order (omega arith))
-    (refuses-both Small _ _ (refuses-demand Small _ 12 (min (min (length drops) (length loads)) (length wants)) (omega arith, omega arith))
-    (refuses-both Small _ _ (steps-small places (allCurves curves) 0 0 (inOrder wants order) drops loads (omega (arith, length-inOrder wants order))) tt)))
+    refuses-both OfPlan _ _ (refuses-demand OfPlan _ 12 i (at-step i (omega arith))) (steps-small places all (suc i) (held h d x) ws ds ls (omega arith))
 
 steps-count : (curves tests : ℕ) (plan : List ℕ) (ss : List Placed) → planSteps curves tests plan ≡ done ss → length ss ≡ tests
 unfolding planSteps
 steps-count curves tests plan ss e = plan-count curves tests plan ss (both-done (countsKnown curves tests) (readPlanBytes curves tests plan) ss e .1)
 
-plan-small : (curves tests : ℕ) (plan : List ℕ) → tests ≤ 256 → Refuses Small (planSteps curves tests plan)
-unfolding planSteps countsKnown someTests curvesKnown testsKnown
-plan-small curves tests plan l =
-    refuses-both Small _ _
-    (refuses-both Small _ _ (refuses-demand Small _ 5 0 (omega arith, omega arith))
-    (refuses-both Small _ _ (refuses-demand Small _ 10 1 (omega arith, omega arith)) (refuses-demand Small _ 10 2 (omega arith, omega arith))))
-    (go (readPlanBytes curves tests plan) refl)
-  where
-    go : (o : Outcome (List Placed)) → readPlanBytes curves tests plan ≡ o → Refuses Small o
-    go (done ss) e = tt
-    go (refused k i) e =
-        let n = refuses (λ (k i : ℕ). k ≡ 11) (readPlanBytes curves tests plan) k i (plan-eleven curves tests plan) e in
-        (omega (arith, n), omega (arith, plan-figure curves tests plan k i e))
+-- of a job that was read, so that the examinations of its numbers refuse nothing
+module _ (j : Job) (r : ReadJob j) where
+  abbrev p : ℕ
+  p = j .head .places
 
-read-small : (job : List ℕ) → Refuses Small (readBytes job)
-read-small job = go (readBytes job) refl
+  abbrev c : ℕ
+  c = j .head .curves
+
+  abbrev t : ℕ
+  t = j .head .tests
+
+  known : countsKnown c t ≡ done tt
+  unfolding between
+  known =
+      let b = r .is-job .curves-bounds in
+      let n = r .is-job .tests-bounds in
+      counts-known c t (omega (arith, r .tests)) (and _ _ (le-leb 1 c (b .0)) (le-leb c 64 (b .1))) (omega (arith, r .tests))
+
+  plan-small : (plan : List ℕ) → Refuses OfPlan (planSteps c t plan)
+  unfolding planSteps
+  plan-small plan = rw (done-both (countsKnown c t) (readPlanBytes c t plan) known) (go (readPlanBytes c t plan) refl)
+    where
+      go : (o : Outcome (List Placed)) → readPlanBytes c t plan ≡ o → Refuses OfPlan o
+      go (done ss) e = tt
+      go (refused k i) e =
+          rw (refuses (λ (k i : ℕ). k ≡ 11) (readPlanBytes c t plan) k i (plan-eleven c t plan) e) (at-offset i (omega (arith, plan-figure c t plan k i e, r .tests, r .is-job .tests-bounds .1)))
+
+  check-small : (order drops loads : List ℕ) → length order ≤ 256 → Refuses OfPlan (checking p c (j .wants) order drops loads)
+  unfolding checking setsKnown
+  check-small order drops loads m =
+      let n = length (j .wants) in
+      let l : n ≤ 256 = r .is-job .tests-bounds .1 in
+      rw (done-both (jobKnown p c (j .wants)) _ (job-exact p c (j .wants) .1 (r .is-job)))
+      (refuses-both OfPlan _ _ (order-small n [] order (omega arith))
+      (refuses-both OfPlan _ _ (refuses-demand OfPlan _ 12 (min (min (length drops) (length loads)) n) (at-step _ (omega arith)))
+      (refuses-both OfPlan _ _ (steps-small p (allCurves c) 0 0 (inOrder (j .wants) order) drops loads (omega (arith, length-inOrder (j .wants) order))) tt)))
+
+  audit-small : (plan : List ℕ) → Refuses OfPlan (auditPlan j plan)
+  unfolding auditPlan auditSteps _>>=_
+  audit-small plan =
+      refuses-bind OfPlan (planSteps c t plan) _ (plan-small plan)
+      (λ ss e.
+      refuses-bind OfPlan (checking p c (j .wants) (testsOf ss) (dropsOf ss) (loadsOf ss)) _
+      (check-small (testsOf ss) (dropsOf ss) (loadsOf ss) (omega (arith, steps-count c t plan ss e, length-map ss (λ s. s .step .test), r .tests, r .is-job .tests-bounds .1)))
+      (λ m f. rw (passed-planned p c (j .wants) (testsOf ss) (dropsOf ss) (loadsOf ss) m f t (omega (arith, r .tests))) tt))
+
+-- A REFUSED JOB has a number from 1 to 6 ..
+pub audit-job-refuses : (job plan : List ℕ) → Refuses OfJob (audit job plan)
+unfolding audit
+audit-job-refuses job plan = refuses-mapped OfJob (λ j. auditPlan j plan) (readBytes job) (go (readBytes job) refl)
   where
-    go : (o : Outcome Job) → readBytes job ≡ o → Refuses Small o
+    go : (o : Outcome Job) → readBytes job ≡ o → Refuses OfJob o
     go (done j) e = tt
-    go (refused k i) e = let n = refuses ByReading (readBytes job) k i (read-refuses job) e in (omega (arith, n .1), omega (arith, figure-short job k i e .0))
+    go (refused k i) e = let n = refuses ByReading (readBytes job) k i (read-refuses job) e in (n .0, n .1, figure-short job k i e .0)
 
--- A REFUSAL OF AN AUDIT has a number up to 12 and a figure up to 5,120
-pub audit-refuses : (job plan : List ℕ) → Bytes job → Refuses (λ k i. (k ≤ 12) × (i ≤ 5120)) (audit job plan)
-unfolding audit auditPlan auditSteps _>>=_
-audit-refuses job plan all =
-    refuses-bind Small (readBytes job) _ (read-small job)
-    (λ j e.
-    let r : ReadJob j = read-exact job j all e in
-    let t = few job j e in
-    refuses-bind Small (planSteps (j .head .curves) (j .head .tests) plan) _ (plan-small (j .head .curves) (j .head .tests) plan t)
-    (λ ss f.
-    let n = steps-count (j .head .curves) (j .head .tests) plan ss f in
-    refuses-bind Small (checking (j .head .places) (j .head .curves) (j .wants) (testsOf ss) (dropsOf ss) (loadsOf ss)) _
-    (check-small (j .head .places) (j .head .curves) (j .wants) (testsOf ss) (dropsOf ss) (loadsOf ss) (omega (arith, r .tests)) (omega (arith, length-map ss (λ s. s .step .test))))
-    (λ m c. rw (passed-planned (j .head .places) (j .head .curves) (j .wants) (testsOf ss) (dropsOf ss) (loadsOf ss) m c (j .head .tests) (omega (arith, r .tests))) tt)))
+-- .. AND A REFUSED PLAN has 8, 11 or 12
+pub audit-plan-refuses : (job plan : List ℕ) (o : Outcome Audit) → Bytes job → audit job plan ≡ done o → Refuses OfPlan o
+unfolding audit
+audit-plan-refuses job plan o all e =
+    let x = mapped-done (λ j. auditPlan j plan) (readBytes job) o e in
+    subst (Refuses OfPlan) (x .2) (audit-small (x .0) (read-exact job (x .0) all (x .1)) plan)
 
 -- ---- how many loads
 
@@ -141,7 +150,7 @@ loads-few p all h (w ∷ ws) (d ∷ ds) (l ∷ ls) m s =
 
 -- ---- the text
 
-refusal-short : (k i : ℕ) → k ≤ 12 → i ≤ 5120 → length (printed (refused k i)) ≤ 128
+refusal-short : (k i : ℕ) → k < 100 → i < 10000 → length (printed (refused k i)) ≤ 20
 unfolding text
 refusal-short k i p q =
     omega (
@@ -153,11 +162,20 @@ refusal-short k i p q =
       decimal-length 3 i (omega arith),
     )
 
-refused-text : (k i : ℕ) → k ≤ 12 → i ≤ 5120 → length (auditText (refused k i)) ≤ 128
+job-short : (k i : ℕ) → OfJob k i → length (auditText (refused k i)) ≤ 128
 unfolding auditText
-refused-text k i p q = refusal-short k i p q
+job-short k i r = omega (arith, refusal-short k i (omega arith) (omega arith))
 
-counts-short : (l f : ℕ) → l < 100000 → f ≤ l → length (auditText (done (record { loads = l; fewest = f }))) ≤ 128
+plan-short : (k i : ℕ) → OfPlan k i → length (auditText (done (refused k i))) ≤ 128
+unfolding auditText text
+plan-short k i r = omega (arith, length-append (text "plan ") (printed (refused k i)), go r)
+  where
+    go : OfPlan k i → length (printed (refused k i)) ≤ 20
+    go (inl (e, l)) = refusal-short k i (omega arith) (omega arith)
+    go (inr (inl (e, l))) = refusal-short k i (omega arith) (omega arith)
+    go (inr (inr (e, l))) = refusal-short k i (omega arith) (omega arith)
+
+counts-short : (l f : ℕ) → l < 100000 → f ≤ l → length (auditText (done (done (record { loads = l; fewest = f })))) ≤ 128
 unfolding text
 counts-short l f m n =
     omega (
@@ -178,9 +196,10 @@ counts-short l f m n =
 pub audit-longest : (job plan : List ℕ) → Bytes job → length (auditText (audit job plan)) ≤ 128
 audit-longest job plan all = go (audit job plan) refl
   where
-    go : (o : Outcome Audit) → audit job plan ≡ o → length (auditText o) ≤ 128
-    go (refused k i) e = let r = refuses (λ (k i : ℕ). (k ≤ 12) × (i ≤ 5120)) (audit job plan) k i (audit-refuses job plan all) e in refused-text k i (r .0) (r .1)
-    go (done a) e =
+    go : (o : Outcome (Outcome Audit)) → audit job plan ≡ o → length (auditText o) ≤ 128
+    go (refused k i) e = job-short k i (refuses OfJob (audit job plan) k i (audit-job-refuses job plan) e)
+    go (done (refused k i)) e = plan-short k i (audit-plan-refuses job plan (refused k i) all e)
+    go (done (done a)) e =
         let s = audit-says job plan a all e in
         let ok = passed (s .j .head .places) (s .j .head .curves) (s .j .wants) (testsOf (s .steps)) (dropsOf (s .steps)) (loadsOf (s .steps)) (a .loads) (s .passes) in
         let c = check-count (s .j .head .places) (s .j .head .curves) (s .j .wants) (testsOf (s .steps)) (dropsOf (s .steps)) (loadsOf (s .steps)) (a .loads) (s .passes) in

@@ -9,7 +9,7 @@ use Rattle.job.specs.declared.Refusal.{Refusal}
 use Rattle.job.specs.Refusal.{Outcome, done, refused, number, figure, countOutcome, _>>=_, _>>_, mapped, overwritten}
 use Rattle.job.specs.Handed.{countsKnown}
 use Rattle.job_bytes.specs.JobBytes.{Job, readBytes}
-use Rattle.job.proofs.Laws.{both-done, done-room, mapped-done, mapped-refused, leaves-done}
+use Rattle.job.proofs.Laws.{both-done, done-room, mapped-done, mapped-refused, done-mapped, refused-mapped, leaves-done}
 use Rattle.planning.specs.Plan.{loadCount}
 use Rattle.planning.specs.Planning.{planning, checking, planAnswer}
 use Rattle.plan_bytes.specs.PlanBytes.{Placed, planSteps, readPlan, readPlanBytes, readPlanAnswer, readPlanOrder, readPlanDrops, readPlanLoads}
@@ -17,7 +17,7 @@ use Rattle.plan_bytes.proofs.ReadPlan.{plan-count}
 use Rattle.curveplan.proofs.Stages.{front, planning-room}
 use Rattle.report.specs.declared.audit.Audited.{Audited}
 use Rattle.report.specs.Audit.{Audit, testsOf, dropsOf, loadsOf, auditSteps, auditPlan, audit, auditedOutcome, auditText, writeAudit, auditAnswer, auditBuffer}
-use Rattle.report.specs.Report.{text, decimal, printed}
+use Rattle.report.specs.Report.{text, decimal}
 use Rattle.report.specs.Text.{fitted, Filled}
 
 -- ---- outcomes
@@ -44,18 +44,18 @@ module _ (p c : ℕ) (ws order ds ls : List ℕ) (k n : ℕ) (fits : length ws �
   counts =
       rw (e, mapped-twice {C = Audit} (λ q. loadCount (q .loads)) (λ m. record { loads = k; fewest = m }) (planning p c ws order (length ds) (length ls)), d, l, planning-room p c ws order 256 n few fits) refl
 
-  pub fewest-refused : (r : Refusal) → x ≡ Counted.Refused r → auditedOutcome (Audited.Refused r) ≡ beside
+  pub fewest-refused : (r : Refusal) → x ≡ Counted.Refused r → auditedOutcome (Audited.PlanRefused r) ≡ done beside
   unfolding auditedOutcome countOutcome mapped
-  fewest-refused r f = rw f at counts
+  fewest-refused r f = ap done (rw f at counts)
 
-  pub fewest-counted : (m : ℕ) → x ≡ Counted.Count m → auditedOutcome (Audited.Counts k m) ≡ beside
+  pub fewest-counted : (m : ℕ) → x ≡ Counted.Count m → auditedOutcome (Audited.Counts k m) ≡ done beside
   unfolding auditedOutcome countOutcome mapped
-  fewest-counted m f = rw f at counts
+  fewest-counted m f = ap done (rw f at counts)
 
 -- ---- the plan check
 
 module _ (j : Job) (order ds ls : List ℕ) (x : Counted) (e : countOutcome x ≡ checking (j .head .places) (j .head .curves) (j .wants) order ds ls) where
-  pub steps-refused : (r : Refusal) → x ≡ Counted.Refused r → auditedOutcome (Audited.Refused r) ≡ auditSteps j order ds ls
+  pub steps-refused : (r : Refusal) → x ≡ Counted.Refused r → auditedOutcome (Audited.PlanRefused r) ≡ done (auditSteps j order ds ls)
   unfolding auditedOutcome auditSteps countOutcome _>>=_
   steps-refused r f = rw (← e, f) refl
 
@@ -105,7 +105,7 @@ module _ (j : Job) (plan O D L : List ℕ) (o : length O ≡ 256) (d : length D 
     unfolding readPlanAnswer
     answered = e ∙ ap (mapped length) whole
 
-    pub plan-refused : (r : Refusal) → x ≡ Counted.Refused r → auditedOutcome (Audited.Refused r) ≡ auditPlan j plan
+    pub plan-refused : (r : Refusal) → x ≡ Counted.Refused r → auditedOutcome (Audited.PlanRefused r) ≡ done (auditPlan j plan)
     unfolding auditedOutcome auditPlan countOutcome _>>=_
     plan-refused r f =
         let m : planSteps c t plan ≡ refused (number r) (figure r) = mapped-refused length (planSteps c t plan) (number r) (figure r) (sym answered ∙ rw f refl) in
@@ -119,39 +119,28 @@ module _ (j : Job) (plan O D L : List ℕ) (o : length O ≡ 256) (d : length D 
 -- ---- the job's bytes
 
 module _ (job plan : List ℕ) where
-  pub job-refused : (r : Refusal) → readBytes job ≡ refused (number r) (figure r) → auditedOutcome (Audited.Refused r) ≡ audit job plan
-  unfolding auditedOutcome audit _>>=_
-  job-refused r e = rw e refl
+  pub job-refused : (r : Refusal) → readBytes job ≡ refused (number r) (figure r) → auditedOutcome (Audited.JobRefused r) ≡ audit job plan
+  unfolding auditedOutcome audit
+  job-refused r e = refused-mapped (λ j. auditPlan j plan) (readBytes job) (number r) (figure r) e
 
-  pub job-done : (j : Job) → readBytes job ≡ done j → auditPlan j plan ≡ audit job plan
-  unfolding audit _>>=_
-  job-done j e = rw e refl
+  pub job-done : (j : Job) → readBytes job ≡ done j → done (auditPlan j plan) ≡ audit job plan
+  unfolding audit
+  job-done j e = done-mapped (λ j. auditPlan j plan) (readBytes job) j e
 
--- ---- the text, grouped as it is put
+-- ---- the text
 
+-- grouped as it is put
 pub counts-lines : (l f : ℕ) →
-    auditText (done (record { loads = l; fewest = f }))
+    auditText (done (done (record { loads = l; fewest = f })))
     ≡ text "loads " ++ (decimal l ++ text "\nfewest ") ++ (decimal f ++ text "\nshorter by ") ++ (decimal (l - f) ++ text "\n")
 unfolding auditText
 counts-lines l f = simp append-assoc
 
-module _ (job plan old : List ℕ) where
-  -- what is written of an audit
-  pub audit-refused : {answer : Outcome ℕ} {new : List ℕ} (r : Refusal) → audit job plan ≡ refused (number r) (figure r) → Filled (printed (refused (number r) (figure r))) old answer new
-      → (answer ≡ auditAnswer job plan old) × (new ≡ auditBuffer job plan old)
-  unfolding auditAnswer auditBuffer writeAudit auditText fitted
-  audit-refused r e f = rw e (f .answers, f .holds)
+-- of what the audit answered
+pub audited : {x : Audited} {o : Outcome (Outcome Audit)} (y : Audited) → x ≡ y → auditedOutcome x ≡ o → o ≡ auditedOutcome y
+audited y p q = sym q ∙ ap auditedOutcome p
 
-  pub audit-counted : {answer : Outcome ℕ} {new : List ℕ} (l f : ℕ) → audit job plan ≡ done (record { loads = l; fewest = f }) → Filled (auditText (done (record { loads = l; fewest = f }))) old answer new
-      → (answer ≡ auditAnswer job plan old) × (new ≡ auditBuffer job plan old)
-  unfolding auditAnswer auditBuffer writeAudit fitted
-  audit-counted l f e w = rw e (w .answers, w .holds)
-
--- what the audit answered
-pub audited-refused : (x : Audited) (r : Refusal) (o : Outcome Audit) → x ≡ Audited.Refused r → auditedOutcome x ≡ o → o ≡ refused (number r) (figure r)
-unfolding auditedOutcome
-audited-refused x r o p q = sym q ∙ rw p refl
-
-pub audited-counts : (x : Audited) (l f : ℕ) (o : Outcome Audit) → x ≡ Audited.Counts l f → auditedOutcome x ≡ o → o ≡ done (record { loads = l; fewest = f })
-unfolding auditedOutcome
-audited-counts x l f o p q = sym q ∙ rw p refl
+pub audit-written : (job plan old : List ℕ) {answer : Outcome ℕ} {new : List ℕ} {o : Outcome (Outcome Audit)} → audit job plan ≡ o → Filled (auditText o) old answer new
+    → (answer ≡ auditAnswer job plan old) × (new ≡ auditBuffer job plan old)
+unfolding auditAnswer auditBuffer writeAudit fitted
+audit-written job plan old e f = rw e (f .answers, f .holds)

@@ -14,7 +14,7 @@ use Rattle.job.specs.Refusal.{Outcome, done, refused, _>>=_}
 use Rattle.job.specs.Words.{digit, count}
 use Rattle.job.specs.Handed.{allCurves, wantsFit}
 use Rattle.job_bytes.specs.JobBytes.{Job, readBytes}
-use Rattle.job.proofs.Laws.{bind-done, true-each, done-same, refused≢done}
+use Rattle.job.proofs.Laws.{bind-done, mapped-done, true-each, done-same, refused≢done}
 use Rattle.job.proofs.JobExact.{job-exact}
 use Rattle.job_bytes.proofs.ReadExact.{read-exact}
 use Rattle.job_bytes.proofs.SetRoundTrip.{Bytes}
@@ -109,10 +109,10 @@ said j order drops loads a l e = go (checking (j .head .places) (j .head .curves
     go (refused k i) h f = absurd (refused≢done f)
 
 -- AN AUDIT THAT IS DONE answers the plan's loads and the fewest
-pub audit-says : (job plan : List ℕ) (a : Audit) → Bytes job → audit job plan ≡ done a → Says job plan a
+pub audit-says : (job plan : List ℕ) (a : Audit) → Bytes job → audit job plan ≡ done (done a) → Says job plan a
 unfolding audit auditPlan
 audit-says job plan a all e =
-    let r = bind-done (readBytes job) (λ j. auditPlan j plan) a e in
+    let r = mapped-done (λ j. auditPlan j plan) (readBytes job) (done a) e in
     let s = bind-done (planSteps (r .0 .head .curves) (r .0 .head .tests) plan) (λ ss. auditSteps (r .0) (testsOf ss) (dropsOf ss) (loadsOf ss)) a (r .2) in
     let is = read-exact job (r .0) all (r .1) in
     let t = said (r .0) (testsOf (s .0)) (dropsOf (s .0)) (loadsOf (s .0)) a (omega (arith, is .tests)) (s .2) in
@@ -132,5 +132,5 @@ audit-says job plan a all e =
       least = λ ds ls m h. omega (arith, ours-least p c (r .0 .wants) (testsOf (s .0)) ds ls m h, t .1);
     }
 
-pub audit-fewer : (job plan : List ℕ) (a : Audit) → Bytes job → audit job plan ≡ done a → a .fewest ≤ a .loads
+pub audit-fewer : (job plan : List ℕ) (a : Audit) → Bytes job → audit job plan ≡ done (done a) → a .fewest ≤ a .loads
 audit-fewer job plan a all e = let s = audit-says job plan a all e in s .least (dropsOf (s .steps)) (loadsOf (s .steps)) (a .loads) (s .passes)

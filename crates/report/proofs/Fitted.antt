@@ -3,15 +3,13 @@ use mathlib.Core.Path.{_≡_, refl, sym, ap, _∙_}
 use mathlib.Core.List.{List}
 use Prim.Native.Nat.{ℕ, _+_, _≤_, _<_}
 use native.Mathlib.Omega.{arith}
-use lib.ListN.{length}
-use lib.Seq.{sets-eq}
+use lib.ListN.{length, take, drop, length-append}
+use lib.Seq.{sets-eq, length-take-le}
 use borrow.Author.Tests.{le-leb, lt-leb}
 use Rattle.job.specs.declared.Counted.{Counted}
 use Rattle.job.specs.declared.Refusal.{Refusal}
 use Rattle.job.specs.Refusal.{Outcome, done, refused, number, figure, countOutcome, _>>_, mapped, demand, room, overwritten, leaves}
-use Rattle.job.proofs.Laws.{mapped-done, both-done, done-same, room-done}
-use Rattle.report.specs.Report.{sheet, writeSheet, sheetAnswer}
-use Rattle.report.specs.Audit.{audit, auditText, writeAudit, auditAnswer}
+use Rattle.job.proofs.Laws.{done-same, refused≢done, done-mapped, count-done, count-refused}
 use Rattle.report.specs.Text.{Wrote, fitted, Filled}
 
 module _ (text old : List ℕ) where
@@ -40,23 +38,18 @@ module _ (text old : List ℕ) where
         let f = fitted-whole l in
         record { answers = rw (f, e) refl; holds = second .written ∙ rw f (rw z at (sets-eq text old 0 (omega arith))) }
 
--- a count that was answered is within the buffer
-counted : (text : List ℕ) (lent k : ℕ) → mapped length (fitted text lent) ≡ done k → k ≤ lent
-unfolding fitted
-counted text lent k e =
-    let m = mapped-done length (_>>_ (room lent (length text)) (done text)) k e in
-    let b = both-done (room lent (length text)) (done text) (m .0) (m .1) in
-    let s = done-same (b .1) in
-    omega (arith, room-done lent (length text) (b .0), ap length s, m .2)
+-- a text for which there is always room: its length is answered, and the buffer begins with it
+module _ (old : List ℕ) {text new : List ℕ} {x : Counted} {o : Outcome (List ℕ)} (fits : o ≡ done text) (answer : countOutcome x ≡ mapped length o) (bytes : new ≡ leaves o old) where
+  pub whole-text : (n : ℕ) → x ≡ Counted.Count n → (n ≡ length text) × (new ≡ overwritten text old)
+  unfolding leaves
+  whole-text n e = (done-same (sym (count-done x (mapped length o) n answer e) ∙ sym (done-mapped length o text fits)), bytes ∙ rw fits refl)
 
-answered : (x : Counted) (k : ℕ) (o : Outcome ℕ) → x ≡ Counted.Count k → countOutcome x ≡ o → o ≡ done k
-unfolding countOutcome
-answered x k o p q = sym q ∙ rw p refl
+  pub never-refused : (r : Refusal) → x ≡ Counted.Refused r → ⊥
+  never-refused r e = refused≢done (sym (count-refused x (mapped length o) r answer e) ∙ sym (done-mapped length o text fits))
 
-pub sheet-count : (job old : List ℕ) (x : Counted) (k : ℕ) → x ≡ Counted.Count k → countOutcome x ≡ sheetAnswer job old → k ≤ length old
-unfolding sheetAnswer writeSheet fitted
-sheet-count job old x k p q = counted (sheet job) (length old) k (answered x k (sheetAnswer job old) p q)
-
-pub audit-count : (job plan old : List ℕ) (x : Counted) (k : ℕ) → x ≡ Counted.Count k → countOutcome x ≡ auditAnswer job plan old → k ≤ length old
-unfolding auditAnswer writeAudit fitted
-audit-count job plan old x k p q = counted (auditText (audit job plan)) (length old) k (answered x k (auditAnswer job plan old) p q)
+-- .. so as many bytes of the buffer can be lent
+pub whole-lent : (text old new : List ℕ) (n : ℕ) → n ≡ length text → new ≡ overwritten text old → (n ≤ length new) × (n ≡ length (take n new))
+unfolding overwritten
+whole-lent text old new n e f =
+    let l : n ≤ length new = omega (arith, ap length f, length-append text (drop (length text) old)) in
+    (l, sym (length-take-le n new l))

@@ -9,7 +9,8 @@
 --     Auditing an audit, stage by stage
 --     Reporting the sheet, stage by stage
 --     Fewest   what an audit says: the loads of a plan, and the fewest
---     AuditLongest what can matter to an audit, and the longest
+--     Inputs   what can matter of an input
+--     AuditLongest which refusals an audit prints, and the longest
 pub mod Decimal
 pub mod Digits
 pub mod Curves
@@ -20,4 +21,5 @@ pub mod Fewest
 pub mod Longest
 pub mod Auditing
 pub mod Reporting
+pub mod Inputs
 pub mod AuditLongest

@@ -38,21 +38,21 @@ auditPlan j plan = do
   ss ← planSteps (j .head .curves) (j .head .tests) plan
   auditSteps j (testsOf ss) (dropsOf ss) (loadsOf ss)
 
--- a job's bytes and a plan's bytes: reading the job before that
-unfoldable pub audit : List ℕ → List ℕ → Outcome Audit
-audit job plan = do
-  j ← readBytes job
-  auditPlan j plan
+-- a job's bytes and a plan's bytes: what comes of reading the job, 1 to 6, and within it what comes of the plan, so that a refusal tells which of the two it is of
+unfoldable pub audit : List ℕ → List ℕ → Outcome (Outcome Audit)
+audit job plan = mapped (λ j. auditPlan j plan) (readBytes job)
 
 -- what the functions answer
-unfoldable pub auditedOutcome : Audited → Outcome Audit
-auditedOutcome (Audited.Counts loads fewest) = done (record { loads = loads; fewest = fewest })
-auditedOutcome (Audited.Refused r) = refused (number r) (figure r)
+unfoldable pub auditedOutcome : Audited → Outcome (Outcome Audit)
+auditedOutcome (Audited.Counts loads fewest) = done (done (record { loads = loads; fewest = fewest }))
+auditedOutcome (Audited.PlanRefused r) = done (refused (number r) (figure r))
+auditedOutcome (Audited.JobRefused r) = refused (number r) (figure r)
 
--- the text: "loads 41", "fewest 40", "shorter by 1"; a refusal as on the sheet
-unfoldable pub auditText : Outcome Audit → List ℕ
-auditText (done a) =
+-- the text: "loads 41", "fewest 40", "shorter by 1"; a refusal of the plan "plan refused 11 at 5", and one of the job as on the sheet, "refused 1 at 0"
+unfoldable pub auditText : Outcome (Outcome Audit) → List ℕ
+auditText (done (done a)) =
     text "loads " ++ decimal (a .loads) ++ text "\nfewest " ++ decimal (a .fewest) ++ text "\nshorter by " ++ decimal (a .loads - a .fewest) ++ text "\n"
+auditText (done (refused k i)) = text "plan " ++ printed (refused k i)
 auditText (refused k i) = printed (refused k i)
 
 -- the same text in a lent buffer: 9 where it is too short

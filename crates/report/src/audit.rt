@@ -9,22 +9,26 @@ use job::Refusal;
 ghost use mathlib.Core.Path.{_≡_};
 ghost use Prim.Native.Nat.{_≤_};
 ghost use lib.ListN.{length};
-ghost use Rattle.job.specs.Refusal.{done, mapped, countOutcome};
+ghost use Rattle.job.specs.Refusal.{done, mapped, countOutcome, overwritten};
 ghost use Rattle.planning.specs.Plan.{loadCount};
 ghost use Rattle.planning.specs.Planning.{planning};
 ghost use Rattle.report.specs.Text.{Wrote, Filled};
 ghost use Rattle.report.specs.Audit.{auditedOutcome, auditSteps, auditPlan, audit, auditText, auditAnswer, auditBuffer};
 
-// What an audit answers: the load count of the plan and the fewest.
+// A buffer that takes every audit.
+pub const AUDIT_BYTES: usize = 128;
+
+// What an audit answers: the load count of the plan and the fewest, or which of the two was refused.
 pub enum Audited {
     Counts(usize, usize),
-    Refused(Refusal),
+    PlanRefused(Refusal),
+    JobRefused(Refusal),
 }
 
 // A load count beside that of our plan for the same order.
 fn beside_fewest(head: Head, wants: &[u64], order: &[u16], count: usize) -> Audited
     requires { ⌜ (length (now wants) ≡ head .tests) × (head .tests ≤ 256) ⌝ }
-    ensures { λ r. ⌜ auditedOutcome r ≡ mapped (λ p. record { loads = count; fewest = loadCount (p .loads) }) (planning (head .places) (head .curves) (now (wants .entry)) (now (order .entry)) (head .tests) (head .tests)) ⌝ }
+    ensures { λ r. ⌜ auditedOutcome r ≡ done (mapped (λ p. record { loads = count; fewest = loadCount (p .loads) }) (planning (head .places) (head .curves) (now (wants .entry)) (now (order .entry)) (head .tests) (head .tests))) ⌝ }
 {
     let mut drops = [0u64; 256];
     let mut loads = [0u64; 256];
@@ -36,7 +40,7 @@ fn beside_fewest(head: Head, wants: &[u64], order: &[u16], count: usize) -> Audi
         &mut drops,
         &mut loads,
     ) {
-        Counted::Refused(r) => Audited::Refused(r),
+        Counted::Refused(r) => Audited::PlanRefused(r),
         Counted::Count(fewest) => Audited::Counts(count, fewest),
     }
 }
@@ -44,10 +48,10 @@ fn beside_fewest(head: Head, wants: &[u64], order: &[u16], count: usize) -> Audi
 // The steps of a plan: the plan check, then the fewest loads.
 fn audit_steps(head: Head, wants: &[u64], order: &[u16], drops: &[u64], loads: &[u64]) -> Audited
     requires { ⌜ (length (now wants) ≡ head .tests) × (head .tests ≤ 256) ⌝ }
-    ensures { λ r. ⌜ auditedOutcome r ≡ auditSteps (record { head = head; wants = now (wants .entry) }) (now (order .entry)) (now (drops .entry)) (now (loads .entry)) ⌝ }
+    ensures { λ r. ⌜ auditedOutcome r ≡ done (auditSteps (record { head = head; wants = now (wants .entry) }) (now (order .entry)) (now (drops .entry)) (now (loads .entry))) ⌝ }
 {
     match planning::check_plan(head.places, head.curves, wants, order, drops, loads) {
-        Counted::Refused(r) => Audited::Refused(r),
+        Counted::Refused(r) => Audited::PlanRefused(r),
         Counted::Count(count) => beside_fewest(head, wants, order, count),
     }
 }
@@ -55,14 +59,14 @@ fn audit_steps(head: Head, wants: &[u64], order: &[u16], drops: &[u64], loads: &
 // A plan's bytes for a job that was read.
 fn audit_plan(head: Head, wants: &[u64], plan: &[u8]) -> Audited
     requires { ⌜ (length (now wants) ≡ head .tests) × (head .tests ≤ 256) ⌝ }
-    ensures { λ r. ⌜ auditedOutcome r ≡ auditPlan (record { head = head; wants = now (wants .entry) }) (now (plan .entry)) ⌝ }
+    ensures { λ r. ⌜ auditedOutcome r ≡ done (auditPlan (record { head = head; wants = now (wants .entry) }) (now (plan .entry))) ⌝ }
 {
     let n = head.tests;
     let mut order = [0u16; 256];
     let mut drops = [0u64; 256];
     let mut loads = [0u64; 256];
     match plan_bytes::read_plan(head.curves, n, plan, &mut order, &mut drops, &mut loads) {
-        Counted::Refused(r) => Audited::Refused(r),
+        Counted::Refused(r) => Audited::PlanRefused(r),
         Counted::Count(_) => audit_steps(head, wants, &order[..n], &drops[..n], &loads[..n]),
     }
 }
@@ -73,7 +77,7 @@ fn audit(job: &[u8], plan: &[u8]) -> Audited
 {
     let mut wants = [0u64; 256];
     match job_bytes::read_job(job, &mut wants) {
-        JobRead::Refused(r) => Audited::Refused(r),
+        JobRead::Refused(r) => Audited::JobRefused(r),
         JobRead::Read(head) => {
             let n = head.tests;
             audit_plan(head, &wants[..n], plan)
@@ -83,7 +87,7 @@ fn audit(job: &[u8], plan: &[u8]) -> Audited
 
 fn put_counts(out: &mut [u8], loads: usize, fewest: usize) -> usize
     requires { ⌜ fewest ≤ loads ⌝ }
-    ensures { λ r. ⌜ Wrote (now (out .entry)) 0 (auditText (done (record { loads = loads; fewest = fewest }))) (now (out .exit)) r ⌝ }
+    ensures { λ r. ⌜ Wrote (now (out .entry)) 0 (auditText (done (done (record { loads = loads; fewest = fewest })))) (now (out .exit)) r ⌝ }
 {
     let mut to = put_text(out, 0, b"loads ");
     to = put_number(out, to, loads, b"\nfewest ");
@@ -94,7 +98,7 @@ fn put_counts(out: &mut [u8], loads: usize, fewest: usize) -> usize
 // The counts as text, where the buffer has room for it.
 fn write_counts(loads: usize, fewest: usize, out: &mut [u8]) -> Counted
     requires { ⌜ fewest ≤ loads ⌝ }
-    ensures { λ r. ⌜ Filled (auditText (done (record { loads = loads; fewest = fewest }))) (now (out .entry)) (countOutcome r) (now (out .exit)) ⌝ }
+    ensures { λ r. ⌜ Filled (auditText (done (done (record { loads = loads; fewest = fewest })))) (now (out .entry)) (countOutcome r) (now (out .exit)) ⌝ }
 {
     let mut none = [0u8; 1];
     let needed = put_counts(&mut none, loads, fewest);
@@ -110,7 +114,19 @@ pub fn write_audit(job: &[u8], plan: &[u8], out: &mut [u8]) -> Counted
     ensures bytes { λ _. ⌜ now (out .exit) ≡ auditBuffer (now (job .entry)) (now (plan .entry)) (now (out .entry)) ⌝ }
 {
     match audit(job, plan) {
-        Audited::Refused(r) => write_refusal(r, out),
+        Audited::JobRefused(r) => write_refusal(b"", r, out),
+        Audited::PlanRefused(r) => write_refusal(b"plan ", r, out),
         Audited::Counts(loads, fewest) => write_counts(loads, fewest, out),
+    }
+}
+
+// The whole audit of a plan's bytes for a job's bytes, for every input, and how many bytes it has.
+pub fn audit_text(job: &[u8], plan: &[u8], text: &mut [u8; AUDIT_BYTES]) -> usize
+    ensures count { λ n. ⌜ n ≡ length (auditText (audit (now (job .entry)) (now (plan .entry)))) ⌝ }
+    ensures bytes { λ _. ⌜ now (text .exit) ≡ overwritten (auditText (audit (now (job .entry)) (now (plan .entry)))) (now (text .entry)) ⌝ }
+{
+    match write_audit(job, plan, text) {
+        Counted::Count(n) => n,
+        Counted::Refused(_) => 0,
     }
 }

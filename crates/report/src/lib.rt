@@ -7,13 +7,16 @@ ghost use mathlib.Core.Path.{_≡_};
 ghost use mathlib.Core.List.{[], _∷_, _++_};
 ghost use Prim.Native.Nat.{_+_, _^_, _≤_, _<_};
 ghost use lib.ListN.{length};
-ghost use Rattle.report.specs.Report.{text, decimal, setText, stepText, stepsText, headText, planText, printed, sheetAnswer, sheetBuffer};
+ghost use Rattle.report.specs.Report.{text, decimal, setText, stepText, stepsText, headText, planText, printed, sheet, sheetAnswer, sheetBuffer};
 ghost use Rattle.report.specs.Text.{Wrote, shown, Filled};
-ghost use Rattle.job.specs.Refusal.{refused, number, figure, countOutcome};
+ghost use Rattle.job.specs.Refusal.{refused, number, figure, countOutcome, overwritten};
 ghost use Rattle.curveplan.specs.Call.{planInOrder, orderAndPlan};
 ghost use Rattle.planning.specs.Plan.{steps, loadCount};
 
 pub mod audit; // audit.rt: a plan beside the fewest loads
+
+// A buffer that takes every sheet.
+pub const SHEET_BYTES: usize = 105_000;
 
 // Each function that puts a text takes the buffer and a position, and answers the position behind the text. It writes the bytes that the buffer has room
 // for: so a first pass over a buffer of one byte tells how long a text is, and a second one writes it.
@@ -152,11 +155,13 @@ fn put_plan(
     put_loads(out, to, count)
 }
 
-// "A refusal prints only `refused 7 at 0` with its own figures."
-fn put_refusal(out: &mut [u8], number: usize, figure: usize) -> usize
-    ensures { λ r. ⌜ Wrote (now (out .entry)) 0 (printed (refused number figure)) (now (out .exit)) r ⌝ }
+// "A refusal prints only `refused 7 at 0` with its own figures", behind the words that say of what: none on the sheet.
+fn put_refusal(out: &mut [u8], of: &[u8], number: usize, figure: usize) -> usize
+    requires { ⌜ length (now of) ≤ 256 ⌝ }
+    ensures { λ r. ⌜ Wrote (now (out .entry)) 0 (now (of .entry) ++ printed (refused number figure)) (now (out .exit)) r ⌝ }
 {
-    let mut to = put_text(out, 0, b"refused ");
+    let mut to = put_text(out, 0, of);
+    to = put_text(out, to, b"refused ");
     to = put_number(out, to, number, b" at ");
     put_number(out, to, figure, b"\n")
 }
@@ -183,18 +188,19 @@ fn write_plan(
     Counted::Count(put_plan(out, head, order, drops, loads, count))
 }
 
-// The sheet of a refusal, where the buffer has room for it.
-fn write_refusal(r: Refusal, out: &mut [u8]) -> Counted
-    ensures { λ c. ⌜ Filled (printed (refused (number r) (figure r))) (now (out .entry)) (countOutcome c) (now (out .exit)) ⌝ }
+// The line of a refusal, where the buffer has room for it.
+fn write_refusal(of: &[u8], r: Refusal, out: &mut [u8]) -> Counted
+    requires { ⌜ length (now of) ≤ 256 ⌝ }
+    ensures { λ c. ⌜ Filled (now (of .entry) ++ printed (refused (number r) (figure r))) (now (out .entry)) (countOutcome c) (now (out .exit)) ⌝ }
 {
     let number = curveplan::number_of(r) as usize;
     let figure = curveplan::figure_of(r) as usize;
     let mut none = [0u8; 1];
-    let bytes = put_refusal(&mut none, number, figure);
+    let bytes = put_refusal(&mut none, of, number, figure);
     if out.len() < bytes {
         return Counted::Refused(Refusal::BufferTooSmall(bytes));
     }
-    Counted::Count(put_refusal(out, number, figure))
+    Counted::Count(put_refusal(out, of, number, figure))
 }
 
 // The sheet of a job in a given order: planning, and its plan or its refusal.
@@ -214,7 +220,7 @@ fn write_ordered(head: Head, wants: &[u64], order: &[u16], out: &mut [u8]) -> Co
         &mut drops,
         &mut loads,
     ) {
-        Counted::Refused(r) => write_refusal(r, out),
+        Counted::Refused(r) => write_refusal(b"", r, out),
         Counted::Count(count) => write_plan(head, order, &drops[..n], &loads[..n], count, out),
     }
 }
@@ -228,7 +234,7 @@ fn write_read(head: Head, wants: &[u64], out: &mut [u8]) -> Counted
     let n = head.tests;
     let mut order = [0u16; 256];
     match ordering::order_tests(head.places, head.curves, head.method, wants, &mut order) {
-        Counted::Refused(r) => write_refusal(r, out),
+        Counted::Refused(r) => write_refusal(b"", r, out),
         Counted::Count(_) => write_ordered(head, wants, &order[..n], out),
     }
 }
@@ -241,10 +247,21 @@ pub fn write_report(job: &[u8], out: &mut [u8]) -> Counted
 {
     let mut wants = [0u64; 256];
     match job_bytes::read_job(job, &mut wants) {
-        JobRead::Refused(r) => write_refusal(r, out),
+        JobRead::Refused(r) => write_refusal(b"", r, out),
         JobRead::Read(head) => {
             let n = head.tests;
             write_read(head, &wants[..n], out)
         }
+    }
+}
+
+// The whole sheet of a job's bytes, for every input, and how many bytes it has.
+pub fn sheet_text(job: &[u8], text: &mut [u8; SHEET_BYTES]) -> usize
+    ensures count { λ n. ⌜ n ≡ length (sheet (now (job .entry))) ⌝ }
+    ensures bytes { λ _. ⌜ now (text .exit) ≡ overwritten (sheet (now (job .entry))) (now (text .entry)) ⌝ }
+{
+    match write_report(job, text) {
+        Counted::Count(n) => n,
+        Counted::Refused(_) => 0,
     }
 }

@@ -1,22 +1,25 @@
 // Prints the sheet of the job on standard input.
-use job::Counted;
 use libc::STDIN_FILENO;
 use libc::STDOUT_FILENO;
+ghost use Rattle.io.specs.Counts.{Counts};
+ghost use Rattle.report.specs.Report.{sheet};
+ghost use Rattle.report.specs.Input.{Enough};
 
-// No sheet is longer than 105,000 bytes.
-fn print_sheet(job: &[u8]) {
-    let mut text = [0u8; 105000];
-    match report::write_report(job, &mut text) {
-        Counted::Count(k) => {
-            io::write_all(STDOUT_FILENO, &text[..k]);
-        }
-        Counted::Refused(_) => {}
-    }
+// How many bytes of a job can matter: one that reads has at most 2,310, and the next byte tells that there are more.
+const JOB_INPUT: usize = 2_311;
+
+// Reads standard input, as much as can matter: whatever the whole of it is, its sheet is that of the bytes read.
+fn read_input(job: &mut [u8; JOB_INPUT]) -> usize
+    ensures count { λ n. ⌜ Counts n (now (job .exit)) ⌝ }
+    ensures enough { λ n. ⌜ Enough sheet n (now (job .exit)) ⌝ }
+{
+    io::read_full(STDIN_FILENO, job)
 }
 
-// A job that reads has at most 2,310 bytes: what follows the next byte never changes the answer.
 fn main() {
-    let mut job = [0u8; 2311];
-    let n = io::read_full(STDIN_FILENO, &mut job);
-    print_sheet(&job[..n]);
+    let mut job = [0u8; JOB_INPUT];
+    let n = read_input(&mut job);
+    let mut text = [0u8; report::SHEET_BYTES];
+    let k = report::sheet_text(&job[..n], &mut text);
+    io::write_all(STDOUT_FILENO, &text[..k]);
 }

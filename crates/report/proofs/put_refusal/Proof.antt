@@ -9,11 +9,14 @@ use borrow.Author.Needs.{needs}
 use Rattle.report.proofs.put_refusal.Statement.{statement}
 use Rattle.report.proofs.put_refusal.Tie as tie
 
+put-text-requires : tie.Need-put-text-requires
+put-text-requires c κs = search needs
+
 slice-aggregate-put-text : tie.Need-slice-aggregate-put-text
 slice-aggregate-put-text c = search needs
 
-put-text-requires : tie.Need-put-text-requires
-put-text-requires c κs = search needs
+put-text-requires-2 : tie.Need-put-text-requires-2
+put-text-requires-2 c κs = search needs
 
 slice-aggregate-put-number : tie.Need-slice-aggregate-put-number
 slice-aggregate-put-number c = search needs
@@ -21,8 +24,8 @@ slice-aggregate-put-number c = search needs
 put-number-requires : tie.Need-put-number-requires
 unfolding text
 put-number-requires c κs =
-    let n = c .before .before .before .before .before .before .before .before .args .number in
-    omega (arith, length-append (decimal n) (text " at "), decimal-word n (omega (arith, c .before .before .before .before .before .before .before .before .fits .number)))
+    let s = c .before .before .before .before .before .before .before .before .before .before .before .before .before in
+    omega (arith, length-append (decimal (s .args .number)) (text " at "), decimal-word (s .args .number) (omega (arith, s .fits .number)))
 
 slice-aggregate-put-number-2 : tie.Need-slice-aggregate-put-number-2
 slice-aggregate-put-number-2 c = search needs
@@ -30,13 +33,13 @@ slice-aggregate-put-number-2 c = search needs
 put-number-requires-2 : tie.Need-put-number-requires-2
 unfolding text
 put-number-requires-2 c κs =
-    let a = c .before .before .before .before .before .before .before .before .before .before .before .before .before .args in
+    let s = c .before .before .before .before .before .before .before .before .before .before .before .before .before .before .before .before .before .before in
     omega (
       arith,
-      length-append (decimal (a .number)) (text " at "),
-      decimal-word (a .number) (omega (arith, c .before .before .before .before .before .before .before .before .before .before .before .before .before .fits .number)),
-      length-append (decimal (a .figure)) (text "\n"),
-      decimal-word (a .figure) (omega (arith, c .before .before .before .before .before .before .before .before .before .before .before .before .before .fits .figure)),
+      length-append (decimal (s .args .number)) (text " at "),
+      decimal-word (s .args .number) (omega (arith, s .fits .number)),
+      length-append (decimal (s .args .figure)) (text "\n"),
+      decimal-word (s .args .figure) (omega (arith, s .fits .figure)),
     )
 
 same-length : tie.Need-same-length
@@ -45,15 +48,18 @@ same-length c = search needs
 returns : tie.Need-returns
 unfolding text
 returns c =
-    let a = c .before .before .before .before .before .before .before .before .before .before .before .before .before .before .before .before .args in
-    rw (refusal-line (a .number) (a .figure)) (wrote-append (wrote-append (c .before .before .before .before .before .before .before .before .before .before .before .before .put-text .ensures) (c .before .before .before .before .before .before .before .put-number .ensures)) (c .before .before .put-number2 .ensures))
+    let a = c .before .before .before .before .before .before .before .before .before .before .before .before .before .before .before .before .before .before .before .before .before .args in
+    let of = c .before .before .before .before .before .before .before .before .before .before .before .before .before .before .before .before .before .put-text .ensures in
+    let line = wrote-append (wrote-append (c .before .before .before .before .before .before .before .before .before .before .before .before .put-text2 .ensures) (c .before .before .before .before .before .before .before .put-number .ensures)) (c .before .before .put-number2 .ensures) in
+    rw (refusal-line (a .number) (a .figure)) (wrote-append of line)
 
 pub put-refusal-spec : {M : Type 1} → statement M
 put-refusal-spec =
     tie.close
     (tie.spec
-    slice-aggregate-put-text
     put-text-requires
+    slice-aggregate-put-text
+    put-text-requires-2
     slice-aggregate-put-number
     put-number-requires
     slice-aggregate-put-number-2

@@ -21,6 +21,9 @@ plan-requires c κs = search needs
 enum-known-r : tie.Need-enum-known-r
 enum-known-r c = search needs
 
+slice-aggregate-write-refusal : tie.Need-slice-aggregate-write-refusal
+slice-aggregate-write-refusal c = search needs
+
 write-refusal-requires : tie.Need-write-refusal-requires
 write-refusal-requires c κs = search needs
 
@@ -60,9 +63,9 @@ same-length c = search needs
 
 returns : tie.Need-returns
 returns c =
-    let a = c .before .before .before .before .before .before .before .before .before .before .before .before .before .before .before .args in
-    let p = c .before .before .before .before .before .before .before .before .before .before .before .before .before .before .before .pre in
-    refusal-printed _ _ (plan-refused (a .head) (now (a .wants)) (now (a .order)) _ _ (p .1 .0) (p .0 .0) refl refl _ _ (count-refused _ _ _ (c .before .before .before .before .before .before .before .before .before .plan .ensures .0) (c .before .before .before .before .before .r .given .1))) (c .before .before .write-refusal .ensures)
+    let a = c .before .before .before .before .before .before .before .before .before .before .before .before .before .before .before .before .args in
+    let p = c .before .before .before .before .before .before .before .before .before .before .before .before .before .before .before .before .pre in
+    refusal-printed _ _ (plan-refused (a .head) (now (a .wants)) (now (a .order)) _ _ (p .1 .0) (p .0 .0) refl refl _ _ (count-refused _ _ _ (c .before .before .before .before .before .before .before .before .before .before .plan .ensures .0) (c .before .before .before .before .before .before .r .given .1))) (c .before .before .write-refusal .ensures)
 
 same-length-2 : tie.Need-same-length-2
 same-length-2 c = search needs
@@ -80,6 +83,7 @@ write-ordered-spec =
     slice-aggregate-plan-2
     plan-requires
     enum-known-r
+    slice-aggregate-write-refusal
     write-refusal-requires
     enum-known-count
     array-share-prefix-drops

@@ -17,6 +17,9 @@ order-tests-requires c κs = search needs
 enum-known-r : tie.Need-enum-known-r
 enum-known-r c = search needs
 
+slice-aggregate-write-refusal : tie.Need-slice-aggregate-write-refusal
+slice-aggregate-write-refusal c = search needs
+
 write-refusal-requires : tie.Need-write-refusal-requires
 write-refusal-requires c κs = search needs
 
@@ -43,7 +46,9 @@ same-length c = search needs
 
 returns : tie.Need-returns
 returns c =
-    refusal-printed _ _ (order-refused (record { head = c .before .before .before .before .before .before .before .before .before .before .before .before .args .head; wants = now (c .before .before .before .before .before .before .before .before .before .before .before .before .args .wants) }) _ (c .before .before .before .before .before .before .before .before .before .before .before .before .pre .1) (c .before .before .before .before .before .before .before .before .before .before .before .before .pre .0 .0) refl _ _ (count-refused _ _ _ (c .before .before .before .before .before .before .before .before .order-tests .ensures .0) (c .before .before .before .before .before .r .given .1))) (c .before .before .write-refusal .ensures)
+    let s = c .before .before .before .before .before .before .before .before .before .before .before .before .before in
+    let e = count-refused _ _ _ (c .before .before .before .before .before .before .before .before .before .order-tests .ensures .0) (c .before .before .before .before .before .before .r .given .1) in
+    refusal-printed _ _ (order-refused (record { head = s .args .head; wants = now (s .args .wants) }) _ (s .pre .1) (s .pre .0 .0) refl _ _ e) (c .before .before .write-refusal .ensures)
 
 same-length-2 : tie.Need-same-length-2
 same-length-2 c = search needs
@@ -58,6 +63,7 @@ write-read-spec =
     slice-aggregate-order-tests
     order-tests-requires
     enum-known-r
+    slice-aggregate-write-refusal
     write-refusal-requires
     enum-told
     array-share-prefix-order

@@ -1,4 +1,5 @@
 -- `report::write_refusal` meets its contract: the first pass measures the text, the second writes it.
+use mathlib.Core.List.{_++_}
 use denote.Ref.{now}
 use Rattle.job.specs.Refusal.{refused}
 use Rattle.report.specs.Report.{printed}
@@ -23,9 +24,9 @@ returns : tie.Need-returns
 returns c =
     let k = c .before .before .before .before .before .number-of in
     let i = c .before .before .before .before .figure-of in
-    let t = printed (refused (k .result) (i .result)) in
-    let o = now (c .before .before .before .before .before .before .before .args .out) in
-    rw (← k .ensures, ← i .ensures) (fill-short t o (c .before .before .put-refusal .ensures) (c .if1 .taken))
+    let a = c .before .before .before .before .before .before .before .before .args in
+    let t = now (a .of) ++ printed (refused (k .result) (i .result)) in
+    rw (← k .ensures, ← i .ensures) (fill-short t (now (a .out)) (c .before .before .put-refusal .ensures) (c .if1 .taken))
 
 put-refusal-requires-2 : tie.Need-put-refusal-requires-2
 put-refusal-requires-2 c κs = search needs
@@ -37,9 +38,9 @@ returns-2 : tie.Need-returns-2
 returns-2 c =
     let k = c .before .before .before .before .before .before .before .before .before .number-of in
     let i = c .before .before .before .before .before .before .before .before .figure-of in
-    let t = printed (refused (k .result) (i .result)) in
-    let o = now (c .before .before .before .before .before .before .before .before .before .before .before .args .out) in
-    rw (← k .ensures, ← i .ensures) (fill-whole t o (c .before .before .before .before .before .before .put-refusal .ensures) (c .before .before .before .before .if1 .left) (c .before .before .put-refusal2 .ensures))
+    let a = c .before .before .before .before .before .before .before .before .before .before .before .before .args in
+    let t = now (a .of) ++ printed (refused (k .result) (i .result)) in
+    rw (← k .ensures, ← i .ensures) (fill-whole t (now (a .out)) (c .before .before .before .before .before .before .put-refusal .ensures) (c .before .before .before .before .if1 .left) (c .before .before .put-refusal2 .ensures))
 
 pub write-refusal-spec : {M : Type 1} → statement M
 write-refusal-spec =

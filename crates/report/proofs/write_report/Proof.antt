@@ -24,6 +24,9 @@ read-job-requires c κs = search needs
 enum-known-r : tie.Need-enum-known-r
 enum-known-r c = search needs
 
+slice-aggregate-write-refusal : tie.Need-slice-aggregate-write-refusal
+slice-aggregate-write-refusal c = search needs
+
 write-refusal-requires : tie.Need-write-refusal-requires
 write-refusal-requires c κs = search needs
 
@@ -61,9 +64,9 @@ same-length c = search needs
 
 returns : tie.Need-returns
 returns c =
-    let a = c .before .before .before .before .before .before .before .before .before .before .before .before .args in
-    let r = c .before .before .before .before .before .before .before .before .read-job in
-    sheet-unread (now (a .job)) (now (a .out)) _ _ (answer-refused (now (a .job)) _ (bytes (c .before .before .before .before .before .before .before .before .before .before .before)) refl _ _ (read-refused _ _ _ (r .ensures .0) (c .before .before .before .before .before .r .given .1))) (c .before .before .write-refusal .ensures)
+    let a = c .before .before .before .before .before .before .before .before .before .before .before .before .before .args in
+    let r = c .before .before .before .before .before .before .before .before .before .read-job in
+    sheet-unread (now (a .job)) (now (a .out)) _ _ (answer-refused (now (a .job)) _ (bytes (c .before .before .before .before .before .before .before .before .before .before .before .before)) refl _ _ (read-refused _ _ _ (r .ensures .0) (c .before .before .before .before .before .before .r .given .1))) (c .before .before .write-refusal .ensures)
 
 same-length-2 : tie.Need-same-length-2
 same-length-2 c = search needs
@@ -78,6 +81,7 @@ write-report-spec =
     slice-aggregate-read-job
     read-job-requires
     enum-known-r
+    slice-aggregate-write-refusal
     write-refusal-requires
     enum-known-head
     array-share-prefix-wants

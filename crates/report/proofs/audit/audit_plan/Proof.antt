@@ -1,9 +1,9 @@
 -- `report::audit::audit_plan` meets its contract.
-use mathlib.Core.Path.{refl, _∙_}
+use mathlib.Core.Path.{refl, sym, ap, _∙_}
 use native.Mathlib.Omega.{arith}
 use lib.Seq.{length-take-le}
-use mathlib.Core.Path.{sym}
 use denote.Ref.{now}
+use Rattle.job.specs.Refusal.{done}
 use Rattle.report.proofs.Auditing.{plan-refused, plan-counted}
 use borrow.Author.Needs.{needs}
 use Rattle.report.proofs.audit.audit_plan.Statement.{statement}
@@ -58,7 +58,7 @@ returns-2 c =
     let a = c .before .before .before .before .before .before .before .before .before .before .before .before .before .before .before .args in
     let r = c .before .before .before .before .before .before .before .before .before .read-plan in
     c .audit-steps .ensures
-    ∙ plan-counted (record { head = a .head; wants = now (a .wants) }) (now (a .plan)) _ _ _ refl refl refl (c .before .before .before .before .before .before .before .before .before .before .before .before .before .before .before .pre .1) (r .result) (r .ensures .0) _ (c .before .before .before .before .enum-told .given .1) _ _ _ (r .ensures .1 .0) (r .ensures .1 .1 .0) (r .ensures .1 .1 .1)
+    ∙ ap done (plan-counted (record { head = a .head; wants = now (a .wants) }) (now (a .plan)) _ _ _ refl refl refl (c .before .before .before .before .before .before .before .before .before .before .before .before .before .before .before .pre .1) (r .result) (r .ensures .0) _ (c .before .before .before .before .enum-told .given .1) _ _ _ (r .ensures .1 .0) (r .ensures .1 .1 .0) (r .ensures .1 .1 .1))
 
 pub audit-plan-spec : {M : Type 1} → statement M
 audit-plan-spec =

@@ -1,6 +1,7 @@
 -- `report::audit::audit_steps` meets its contract.
-use mathlib.Core.Path.{_∙_}
+use mathlib.Core.Path.{ap, _∙_}
 use denote.Ref.{now}
+use Rattle.job.specs.Refusal.{done}
 use Rattle.report.proofs.Auditing.{steps-refused, steps-counted}
 use borrow.Author.Needs.{needs}
 use Rattle.report.proofs.audit.audit_steps.Statement.{statement}
@@ -27,7 +28,7 @@ returns-2 : tie.Need-returns-2
 returns-2 c =
     let a = c .before .before .before .before .before .before .before .before .before .args in
     c .beside-fewest .ensures
-    ∙ steps-counted (record { head = a .head; wants = now (a .wants) }) (now (a .order)) (now (a .drops)) (now (a .loads)) (c .before .before .before .before .check-plan .result) (c .before .before .before .before .check-plan .ensures) _ (c .before .before .count .given .1)
+    ∙ ap done (steps-counted (record { head = a .head; wants = now (a .wants) }) (now (a .order)) (now (a .drops)) (now (a .loads)) (c .before .before .before .before .check-plan .result) (c .before .before .before .before .check-plan .ensures) _ (c .before .before .count .given .1))
 
 pub audit-steps-spec : {M : Type 1} → statement M
 audit-steps-spec =

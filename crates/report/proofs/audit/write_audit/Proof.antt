@@ -2,8 +2,10 @@
 use native.Mathlib.Omega.{arith}
 use denote.Ref.{now}
 use Rattle.curveplan.proofs.Reading.{bytes-of}
-use Rattle.report.specs.Audit.{audit}
-use Rattle.report.proofs.Auditing.{audit-refused, audit-counted, audited-refused, audited-counts}
+use Rattle.report.specs.declared.audit.Audited.{Audited}
+use Rattle.report.specs.Report.{text}
+use Rattle.report.specs.Audit.{auditedOutcome, auditText}
+use Rattle.report.proofs.Auditing.{audited, audit-written}
 use Rattle.report.proofs.Fewest.{audit-fewer}
 use borrow.Author.Needs.{needs}
 use Rattle.report.proofs.audit.write_audit.Statement.{statement}
@@ -15,32 +17,57 @@ audit-requires c κs = search needs
 enum-known-r : tie.Need-enum-known-r
 enum-known-r c = search needs
 
+slice-aggregate-write-refusal : tie.Need-slice-aggregate-write-refusal
+slice-aggregate-write-refusal c = search needs
+
 write-refusal-requires : tie.Need-write-refusal-requires
 write-refusal-requires c κs = search needs
+
+enum-known-r-2 : tie.Need-enum-known-r-2
+enum-known-r-2 c = search needs
+
+slice-aggregate-write-refusal-2 : tie.Need-slice-aggregate-write-refusal-2
+slice-aggregate-write-refusal-2 c = search needs
+
+write-refusal-requires-2 : tie.Need-write-refusal-requires-2
+write-refusal-requires-2 c κs = search needs
 
 enum-known-loads : tie.Need-enum-known-loads
 enum-known-loads c = search needs
 
 write-counts-requires : tie.Need-write-counts-requires
+unfolding auditedOutcome
 write-counts-requires c κs =
     let a = c .before .before .before .before .before .before .before .before .args in
-    audit-fewer (now (a .job)) (now (a .plan)) _ (bytes-of (now (a .job)) (λ k l. omega (arith, c .before .before .before .before .before .before .before .shared-slice-known .given k))) (audited-counts _ _ _ _ (c .before .before .loads .given .1) (c .before .before .before .before .audit .ensures))
+    let bytes = bytes-of (now (a .job)) (λ k l. omega (arith, c .before .before .before .before .before .before .before .shared-slice-known .given k)) in
+    audit-fewer (now (a .job)) (now (a .plan)) _ bytes (audited (Audited.Counts _ _) (c .before .before .loads .given .1) (c .before .before .before .before .audit .ensures))
 
 same-length : tie.Need-same-length
 same-length c = search needs
 
 returns : tie.Need-returns
+unfolding auditedOutcome auditText
 returns c =
-    let a = c .before .before .before .before .before .before .before .before .before .before .before .args in
-    audit-refused (now (a .job)) (now (a .plan)) (now (a .out)) _ (audited-refused _ _ _ (c .before .before .before .before .before .r .given .1) (c .before .before .before .before .before .before .before .audit .ensures)) (c .before .before .write-refusal .ensures)
+    let a = c .before .before .before .before .before .before .before .before .before .before .before .before .args in
+    audit-written (now (a .job)) (now (a .plan)) (now (a .out)) (audited (Audited.JobRefused _) (c .before .before .before .before .before .before .r .given .1) (c .before .before .before .before .before .before .before .before .audit .ensures)) (c .before .before .write-refusal .ensures)
 
 same-length-2 : tie.Need-same-length-2
 same-length-2 c = search needs
 
 returns-2 : tie.Need-returns-2
+unfolding auditedOutcome auditText text
 returns-2 c =
+    let a = c .before .before .before .before .before .before .before .before .before .before .before .before .args in
+    audit-written (now (a .job)) (now (a .plan)) (now (a .out)) (audited (Audited.PlanRefused _) (c .before .before .before .before .before .before .r2 .given .1) (c .before .before .before .before .before .before .before .before .audit .ensures)) (c .before .before .write-refusal2 .ensures)
+
+same-length-3 : tie.Need-same-length-3
+same-length-3 c = search needs
+
+returns-3 : tie.Need-returns-3
+unfolding auditedOutcome
+returns-3 c =
     let a = c .before .before .before .before .before .before .before .before .before .before .before .args in
-    audit-counted (now (a .job)) (now (a .plan)) (now (a .out)) _ _ (audited-counts _ _ _ _ (c .before .before .before .before .before .loads .given .1) (c .before .before .before .before .before .before .before .audit .ensures)) (c .before .before .write-counts .ensures)
+    audit-written (now (a .job)) (now (a .plan)) (now (a .out)) (audited (Audited.Counts _ _) (c .before .before .before .before .before .loads .given .1) (c .before .before .before .before .before .before .before .audit .ensures)) (c .before .before .write-counts .ensures)
 
 pub write-audit-spec : {M : Type 1} → statement M
 write-audit-spec =
@@ -48,10 +75,16 @@ write-audit-spec =
     (tie.spec
     audit-requires
     enum-known-r
+    slice-aggregate-write-refusal
     write-refusal-requires
+    enum-known-r-2
+    slice-aggregate-write-refusal-2
+    write-refusal-requires-2
     enum-known-loads
     write-counts-requires
     same-length
     returns
     same-length-2
-    returns-2)
+    returns-2
+    same-length-3
+    returns-3)

@@ -16,7 +16,7 @@ put-counts-requires c κs = search needs
 returns : tie.Need-returns
 returns c =
     let a = c .before .before .before .before .before .args in
-    let t = auditText (done (record { loads = a .loads; fewest = a .fewest })) in
+    let t = auditText (done (done (record { loads = a .loads; fewest = a .fewest }))) in
     let w = c .before .before .put-counts .ensures in
     (fill-short t (now (a .out)) w (c .if1 .taken))
 
@@ -29,7 +29,7 @@ same-length c = search needs
 returns-2 : tie.Need-returns-2
 returns-2 c =
     let a = c .before .before .before .before .before .before .before .before .before .args in
-    let t = auditText (done (record { loads = a .loads; fewest = a .fewest })) in
+    let t = auditText (done (done (record { loads = a .loads; fewest = a .fewest }))) in
     let w = c .before .before .before .before .before .before .put-counts .ensures in
     let v = c .before .before .put-counts2 .ensures in
     (fill-whole t (now (a .out)) w (c .before .before .before .before .if1 .left) v)

@@ -1,0 +1,20 @@
+-- `sheet::read_input` meets its contract: no byte behind the buffer changes a sheet (`sheet-prefix`).
+use native.Mathlib.Omega.{arith}
+use lib.ListN.{length}
+use Rattle.report.specs.Report.{sheet}
+use Rattle.report.proofs.Inputs.{enough, sheet-prefix}
+use borrow.Author.Needs.{needs}
+use Rattle.sheet.proofs.read_input.Statement.{statement}
+use Rattle.sheet.proofs.read_input.Tie as tie
+
+read-full-requires : tie.Need-read-full-requires
+read-full-requires c κs = search needs
+
+returns : tie.Need-returns
+returns c =
+    let r = c .read-full in
+    let b = r .last .1 .0 in
+    (r .ensures, enough sheet (r .result) b (λ whole. sheet-prefix (length b) whole (omega (arith, r .kept .1 .0, c .before .read-full-arg .given))))
+
+pub read-input-spec : {M : Type 1} → statement M
+read-input-spec = tie.close (tie.spec read-full-requires returns)
