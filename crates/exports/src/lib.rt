@@ -1,90 +1,168 @@
-// The functions of the library for tests in other languages: numbers and slices in, one number out. Each calls the function of its name and promises nothing of
-// its own; what the library promises is in the contracts of the functions called.
+// The functions of the library for C, and for tests in other languages. Each calls the function of its name, and answers numbers; one rule makes an outcome
+// one number.
 use job::Counted;
 use job::Examined;
 use job::JobRead;
+use job::Refusal;
 use job_bytes::set_bytes::GroupRead;
+use plan_bytes::StepPart;
+ghost use mathlib.Core.Path.{_≡_};
+ghost use mathlib.Core.List.{reverse};
+ghost use Prim.Native.Nat.{_%_, _^_, min};
+ghost use lib.ListN.{length};
+ghost use lib.Dec.{eqb};
+ghost use lib.Count.{trailingZeros};
+ghost use Rattle.bitset.specs.Set.{_∩_, _∪_, _∖_, size, bit, inside, below};
+ghost use Rattle.job.specs.Refusal.{refused, number, figure, readOutcome, countOutcome, examinedOutcome, mapped, room, leaves};
+ghost use Rattle.job.specs.Handed.{jobKnown, jobKnownBy, countsKnown, wantsFit};
+ghost use Rattle.job.specs.Words.{digit};
+ghost use Rattle.job_bytes.specs.SetBytes.{groupMap, setBytes};
+ghost use Rattle.job_bytes.specs.JobBytes.{readJobAnswer, readJobWants, writeJobAnswer, writeJobBuffer};
+ghost use Rattle.packages.specs.Tests.{upTo, entered};
+ghost use Rattle.packages.specs.Packages.{packages};
+ghost use Rattle.ordering.specs.Ordering.{orderAnswer, orderList};
+ghost use Rattle.planning.specs.Planning.{checking, planAnswer, planDrops, planLoads};
+ghost use Rattle.plan_bytes.specs.PlanBytes.{writePlanAnswer, writePlanBuffer, readPlanAnswer, readPlanOrder, readPlanDrops, readPlanLoads, stepPart};
+ghost use Rattle.report.specs.Report.{sheetAnswer, sheetBuffer};
+ghost use Rattle.report.specs.Audit.{auditAnswer, auditBuffer};
+ghost use Rattle.exports.specs.Numbers.{numbered, passing, headOf, groupAt, leavesOne};
 
-// A count, or number × 2^48 + figure.
-fn packed(c: Counted) -> u64 {
+// ---- outcomes as numbers
+
+// A refusal: its number × 2^48 plus its figure.
+fn refusal(r: Refusal) -> u64
+    ensures { λ n. ⌜ n ≡ numbered (refused (number r) (figure r)) ⌝ }
+{
+    curveplan::number_of(r) * 281_474_976_710_656 + curveplan::figure_of(r) % 281_474_976_710_656
+}
+
+// A count is itself.
+fn counted(c: Counted) -> u64
+    ensures { λ n. ⌜ n ≡ numbered (countOutcome c) ⌝ }
+{
     match c {
         Counted::Count(n) => n as u64,
-        Counted::Refused(r) => {
-            (curveplan::number_of(r) % 16) * 281474976710656
-                + curveplan::figure_of(r) % 281474976710656
-        }
+        Counted::Refused(r) => refusal(r),
     }
 }
 
-fn put(list: &mut [u64], at: usize, n: usize) {
-    if at < list.len() {
-        list[at] = n as u64;
+// 0 where the examination is passed.
+fn examined(e: Examined) -> u64
+    ensures { λ n. ⌜ n ≡ passing (examinedOutcome e) ⌝ }
+{
+    match e {
+        Examined::Passed => 0,
+        Examined::Refused(r) => refusal(r),
     }
 }
 
-// The four numbers of the head go to `head`.
+fn truth(b: bool) -> u64
+    ensures { λ n. ⌜ n ≡ digit b ⌝ }
+{
+    if b { 1 } else { 0 }
+}
+
+// ---- jobs, orders, plans, texts
+
+// What reading a job answers: its number of tests or the refusal, and the four numbers of its head.
+#[repr(C)]
+pub struct JobHead {
+    pub answer: u64,
+    pub places: usize,
+    pub curves: usize,
+    pub tests: usize,
+    pub method: usize,
+}
+
+fn head_of(r: JobRead) -> JobHead
+    ensures { λ h. ⌜ h ≡ headOf (readOutcome r) ⌝ }
+{
+    match r {
+        JobRead::Read(h) => JobHead {
+            answer: h.tests as u64,
+            places: h.places,
+            curves: h.curves,
+            tests: h.tests,
+            method: h.method,
+        },
+        JobRead::Refused(r) => JobHead {
+            answer: refusal(r),
+            places: 0,
+            curves: 0,
+            tests: 0,
+            method: 0,
+        },
+    }
+}
+
 #[no_mangle]
-pub extern "C" fn t_read_job(job: &[u8], wants: &mut [u64], head: &mut [u64]) -> u64 {
-    match job_bytes::read_job(job, wants) {
-        JobRead::Refused(r) => packed(Counted::Refused(r)),
-        JobRead::Read(h) => {
-            put(head, 0, h.places);
-            put(head, 1, h.curves);
-            put(head, 2, h.tests);
-            put(head, 3, h.method);
-            h.tests as u64
-        }
-    }
+pub extern "C" fn curveplan_read_job(job: &[u8], wants: &mut [u64]) -> JobHead
+    ensures answer { λ r. ⌜ r ≡ headOf (readJobAnswer (now (job .entry)) (now (wants .entry))) ⌝ }
+    ensures wants { λ _. ⌜ now (wants .exit) ≡ readJobWants (now (job .entry)) (now (wants .entry)) ⌝ }
+{
+    head_of(job_bytes::read_job(job, wants))
 }
 
 #[no_mangle]
-pub extern "C" fn t_write_job(
+pub extern "C" fn curveplan_write_job(
     places: usize,
     curves: usize,
     method: usize,
     wants: &[u64],
     out: &mut [u8],
-) -> u64 {
-    packed(job_bytes::write_job(places, curves, method, wants, out))
+) -> u64
+    ensures answer { λ r. ⌜ r ≡ numbered (writeJobAnswer places curves method (now (wants .entry)) (now (out .entry))) ⌝ }
+    ensures bytes { λ _. ⌜ now (out .exit) ≡ writeJobBuffer places curves method (now (wants .entry)) (now (out .entry)) ⌝ }
+{
+    counted(job_bytes::write_job(places, curves, method, wants, out))
 }
 
 #[no_mangle]
-pub extern "C" fn t_order_tests(
+pub extern "C" fn curveplan_order_tests(
     places: usize,
     curves: usize,
     method: usize,
     wants: &[u64],
     order: &mut [u16],
-) -> u64 {
-    packed(ordering::order_tests(places, curves, method, wants, order))
+) -> u64
+    ensures answer { λ r. ⌜ r ≡ numbered (orderAnswer places curves method (now (wants .entry)) (now (order .entry))) ⌝ }
+    ensures order { λ _. ⌜ now (order .exit) ≡ orderList places curves method (now (wants .entry)) (now (order .entry)) ⌝ }
+{
+    counted(ordering::order_tests(places, curves, method, wants, order))
 }
 
 #[no_mangle]
-pub extern "C" fn t_plan(
+pub extern "C" fn curveplan_plan_order(
     places: usize,
     curves: usize,
     wants: &[u64],
     order: &[u16],
     drops: &mut [u64],
     loads: &mut [u64],
-) -> u64 {
-    packed(planning::plan(places, curves, wants, order, drops, loads))
+) -> u64
+    ensures answer { λ r. ⌜ r ≡ numbered (planAnswer places curves (now (wants .entry)) (now (order .entry)) (now (drops .entry)) (now (loads .entry))) ⌝ }
+    ensures drops { λ _. ⌜ now (drops .exit) ≡ planDrops places curves (now (wants .entry)) (now (order .entry)) (now (drops .entry)) (now (loads .entry)) ⌝ }
+    ensures loads { λ _. ⌜ now (loads .exit) ≡ planLoads places curves (now (wants .entry)) (now (order .entry)) (now (drops .entry)) (now (loads .entry)) ⌝ }
+{
+    counted(planning::plan(places, curves, wants, order, drops, loads))
 }
 
 #[no_mangle]
-pub extern "C" fn t_check_plan(
+pub extern "C" fn curveplan_check_plan(
     places: usize,
     curves: usize,
     wants: &[u64],
     order: &[u16],
     drops: &[u64],
     loads: &[u64],
-) -> u64 {
-    packed(planning::check_plan(places, curves, wants, order, drops, loads))
+) -> u64
+    ensures { λ r. ⌜ r ≡ numbered (checking places curves (now (wants .entry)) (now (order .entry)) (now (drops .entry)) (now (loads .entry))) ⌝ }
+{
+    counted(planning::check_plan(places, curves, wants, order, drops, loads))
 }
 
 #[no_mangle]
-pub extern "C" fn t_write_plan(
+pub extern "C" fn curveplan_write_plan(
     places: usize,
     curves: usize,
     wants: &[u64],
@@ -92,189 +170,232 @@ pub extern "C" fn t_write_plan(
     drops: &[u64],
     loads: &[u64],
     out: &mut [u8],
-) -> u64 {
-    packed(plan_bytes::write_plan(places, curves, wants, order, drops, loads, out))
+) -> u64
+    ensures answer { λ r. ⌜ r ≡ numbered (writePlanAnswer places curves (now (wants .entry)) (now (order .entry)) (now (drops .entry)) (now (loads .entry)) (now (out .entry))) ⌝ }
+    ensures bytes { λ _. ⌜ now (out .exit) ≡ writePlanBuffer places curves (now (wants .entry)) (now (order .entry)) (now (drops .entry)) (now (loads .entry)) (now (out .entry)) ⌝ }
+{
+    counted(plan_bytes::write_plan(places, curves, wants, order, drops, loads, out))
 }
 
 #[no_mangle]
-pub extern "C" fn t_read_plan(
+pub extern "C" fn curveplan_read_plan(
     curves: usize,
     tests: usize,
     plan: &[u8],
     order: &mut [u16],
     drops: &mut [u64],
     loads: &mut [u64],
-) -> u64 {
-    packed(plan_bytes::read_plan(curves, tests, plan, order, drops, loads))
+) -> u64
+    ensures answer { λ r. ⌜ r ≡ numbered (readPlanAnswer curves tests (now (plan .entry)) (now (order .entry)) (now (drops .entry)) (now (loads .entry))) ⌝ }
+    ensures order { λ _. ⌜ now (order .exit) ≡ readPlanOrder curves tests (now (plan .entry)) (now (order .entry)) (now (drops .entry)) (now (loads .entry)) ⌝ }
+    ensures drops { λ _. ⌜ now (drops .exit) ≡ readPlanDrops curves tests (now (plan .entry)) (now (order .entry)) (now (drops .entry)) (now (loads .entry)) ⌝ }
+    ensures loads { λ _. ⌜ now (loads .exit) ≡ readPlanLoads curves tests (now (plan .entry)) (now (order .entry)) (now (drops .entry)) (now (loads .entry)) ⌝ }
+{
+    counted(plan_bytes::read_plan(curves, tests, plan, order, drops, loads))
 }
 
-// How many bytes the steps before a position have together.
-fn front_len(curves: usize, tests: usize, plan: &[u8], position: usize) -> usize {
-    let mut start: usize = 0;
-    for k in 0..position {
-        start = (start % 65536) + plan_bytes::step_bytes(curves, tests, plan, k).len() % 65536;
-    }
-    start
-}
-
-// Where the step at a position begins and how many bytes it has, as start × 65,536 + count: it begins where the parts of the steps before it end.
+// Where the step's bytes lie in the caller's plan.
 #[no_mangle]
-pub extern "C" fn t_step_bytes(curves: usize, tests: usize, plan: &[u8], position: usize) -> u64 {
-    let count = plan_bytes::step_bytes(curves, tests, plan, position).len();
-    if count == 0 {
-        return (plan.len() % 65536) as u64 * 65536;
-    }
-    let start = front_len(curves, tests, plan, position);
-    (start % 65536) as u64 * 65536 + (count % 65536) as u64
+pub extern "C" fn curveplan_step_bytes(
+    curves: usize,
+    tests: usize,
+    plan: &[u8],
+    position: usize,
+) -> StepPart
+    ensures { λ r. ⌜ r ≡ stepPart curves tests (now (plan .entry)) position ⌝ }
+{
+    plan_bytes::step_part(curves, tests, plan, position)
 }
 
 #[no_mangle]
-pub extern "C" fn t_sheet(job: &[u8], out: &mut [u8]) -> u64 {
-    packed(report::write_report(job, out))
+pub extern "C" fn curveplan_sheet(job: &[u8], out: &mut [u8]) -> u64
+    ensures answer { λ r. ⌜ r ≡ numbered (sheetAnswer (now (job .entry)) (now (out .entry))) ⌝ }
+    ensures text { λ _. ⌜ now (out .exit) ≡ sheetBuffer (now (job .entry)) (now (out .entry)) ⌝ }
+{
+    counted(report::write_report(job, out))
 }
 
 #[no_mangle]
-pub extern "C" fn t_audit(job: &[u8], plan: &[u8], out: &mut [u8]) -> u64 {
-    packed(report::audit::write_audit(job, plan, out))
+pub extern "C" fn curveplan_audit(job: &[u8], plan: &[u8], out: &mut [u8]) -> u64
+    ensures answer { λ r. ⌜ r ≡ numbered (auditAnswer (now (job .entry)) (now (plan .entry)) (now (out .entry))) ⌝ }
+    ensures text { λ _. ⌜ now (out .exit) ≡ auditBuffer (now (job .entry)) (now (plan .entry)) (now (out .entry)) ⌝ }
+{
+    counted(report::audit::write_audit(job, plan, out))
 }
 
-// ---- the examinations, the sets in bytes, and the sets
-
-// 0 where the examination is passed.
-fn examined(e: Examined) -> u64 {
-    match e {
-        Examined::Passed => 0,
-        Examined::Refused(r) => packed(Counted::Refused(r)),
-    }
-}
-
-fn digit(b: bool) -> u64 {
-    if b { 1 } else { 0 }
-}
+// ---- the examinations
 
 #[no_mangle]
-pub extern "C" fn t_examine(places: usize, curves: usize, wants: &[u64]) -> u64 {
+pub extern "C" fn curveplan_examine(places: usize, curves: usize, wants: &[u64]) -> u64
+    ensures { λ r. ⌜ r ≡ passing (jobKnown places curves (now (wants .entry))) ⌝ }
+{
     examined(job::examine(places, curves, wants))
 }
 
 #[no_mangle]
-pub extern "C" fn t_examine_by(places: usize, curves: usize, method: usize, wants: &[u64]) -> u64 {
+pub extern "C" fn curveplan_examine_by(
+    places: usize,
+    curves: usize,
+    method: usize,
+    wants: &[u64],
+) -> u64
+    ensures { λ r. ⌜ r ≡ passing (jobKnownBy places curves method (now (wants .entry))) ⌝ }
+{
     examined(job::examine_by(places, curves, method, wants))
 }
 
 #[no_mangle]
-pub extern "C" fn t_examine_counts(curves: usize, tests: usize) -> u64 {
+pub extern "C" fn curveplan_examine_counts(curves: usize, tests: usize) -> u64
+    ensures { λ r. ⌜ r ≡ passing (countsKnown curves tests) ⌝ }
+{
     examined(job::examine_counts(curves, tests))
 }
 
 #[no_mangle]
-pub extern "C" fn t_examine_sizes(places: usize, wants: &[u64]) -> u64 {
+pub extern "C" fn curveplan_examine_sizes(places: usize, wants: &[u64]) -> u64
+    ensures { λ r. ⌜ r ≡ passing (wantsFit places (now (wants .entry))) ⌝ }
+{
     examined(job::examine_sizes(places, wants))
 }
 
-// The answer's case: 0 curves, which go to `set`; 1 owed, 2 empty, 3 unknown.
+// ---- sets in bytes
+
+// The curves of the group go to `set`.
 #[no_mangle]
-pub extern "C" fn t_read_group(
+pub extern "C" fn curveplan_read_group(
     rest: &[u8],
     at: usize,
     group: usize,
     curves: usize,
-    set: &mut [u64],
-) -> u64 {
+    set: &mut u64,
+) -> u64
+    ensures answer { λ r. ⌜ r ≡ passing (groupAt (now (rest .entry)) at group curves) ⌝ }
+    ensures set { λ _. ⌜ now (set .exit) ≡ leavesOne (groupAt (now (rest .entry)) at group curves) (now (set .entry)) ⌝ }
+{
     match job_bytes::set_bytes::read_group(rest, at, group, curves) {
-        GroupRead::Owed => 1,
-        GroupRead::Empty => 2,
-        GroupRead::Unknown => 3,
+        GroupRead::Owed => 281_474_976_710_656,
+        GroupRead::Empty => 562_949_953_421_312,
+        GroupRead::Unknown => 844_424_930_131_968,
         GroupRead::Curves(s) => {
-            if 0 < set.len() {
-                set[0] = s;
-            }
+            *set = s;
             0
         }
     }
 }
 
 #[no_mangle]
-pub extern "C" fn t_group_map(s: u64) -> u64 {
+pub extern "C" fn curveplan_group_map(s: u64) -> u64
+    ensures { λ r. ⌜ r ≡ groupMap 8 s ⌝ }
+{
     job_bytes::set_bytes::group_map(s) as u64
 }
 
 #[no_mangle]
-pub extern "C" fn t_set_len(s: u64) -> u64 {
+pub extern "C" fn curveplan_set_len(s: u64) -> u64
+    ensures { λ r. ⌜ r ≡ length (setBytes s) ⌝ }
+{
     job_bytes::set_bytes::set_len(s) as u64
 }
 
 #[no_mangle]
-pub extern "C" fn t_put_set(s: u64, out: &mut [u8]) -> u64 {
+pub extern "C" fn curveplan_put_set(s: u64, out: &mut [u8]) -> u64
+    ensures count { λ r. ⌜ r ≡ length (setBytes s) ⌝ }
+    ensures bytes { λ _. ⌜ now (out .exit) ≡ leaves (mapped (λ _. setBytes s) (room (length (now (out .entry))) (length (setBytes s)))) (now (out .entry)) ⌝ }
+{
     job_bytes::set_bytes::put_set(s, out) as u64
 }
 
+// ---- sets
+
 #[no_mangle]
-pub extern "C" fn t_size(s: u64) -> u64 {
+pub extern "C" fn curveplan_size(s: u64) -> u64
+    ensures { λ r. ⌜ r ≡ size s ⌝ }
+{
     bitset::size(s) as u64
 }
 
 #[no_mangle]
-pub extern "C" fn t_lowest(s: u64) -> u64 {
+pub extern "C" fn curveplan_lowest(s: u64) -> u64
+    ensures { λ r. ⌜ r ≡ trailingZeros 64 s ⌝ }
+{
     bitset::lowest(s) as u64
 }
 
 #[no_mangle]
-pub extern "C" fn t_union(a: u64, b: u64) -> u64 {
+pub extern "C" fn curveplan_union(a: u64, b: u64) -> u64
+    ensures { λ r. ⌜ r ≡ a ∪ b ⌝ }
+{
     bitset::union(a, b)
 }
 
 #[no_mangle]
-pub extern "C" fn t_common(a: u64, b: u64) -> u64 {
+pub extern "C" fn curveplan_common(a: u64, b: u64) -> u64
+    ensures { λ r. ⌜ r ≡ a ∩ b ⌝ }
+{
     bitset::common(a, b)
 }
 
 #[no_mangle]
-pub extern "C" fn t_without(a: u64, b: u64) -> u64 {
+pub extern "C" fn curveplan_without(a: u64, b: u64) -> u64
+    ensures { λ r. ⌜ r ≡ a ∖ b ⌝ }
+{
     bitset::without(a, b)
 }
 
 #[no_mangle]
-pub extern "C" fn t_single(k: usize) -> u64 {
+pub extern "C" fn curveplan_single(k: usize) -> u64
+    ensures { λ r. ⌜ r ≡ 2 ^ k % 2 ^ 64 ⌝ }
+{
     bitset::single(k)
 }
 
 #[no_mangle]
-pub extern "C" fn t_has(s: u64, k: usize) -> u64 {
-    digit(bitset::has(s, k))
+pub extern "C" fn curveplan_has(s: u64, k: usize) -> u64
+    ensures { λ r. ⌜ r ≡ digit (eqb (bit k s) 1) ⌝ }
+{
+    truth(bitset::has(s, k))
 }
 
 #[no_mangle]
-pub extern "C" fn t_without_lowest(s: u64) -> u64 {
+pub extern "C" fn curveplan_without_lowest(s: u64) -> u64
+    ensures { λ r. ⌜ r ≡ s ∖ 2 ^ trailingZeros 64 s ⌝ }
+{
     bitset::without_lowest(s)
 }
 
 #[no_mangle]
-pub extern "C" fn t_inside(a: u64, b: u64) -> u64 {
-    digit(bitset::inside(a, b))
+pub extern "C" fn curveplan_inside(a: u64, b: u64) -> u64
+    ensures { λ r. ⌜ r ≡ digit (inside a b) ⌝ }
+{
+    truth(bitset::inside(a, b))
 }
 
 #[no_mangle]
-pub extern "C" fn t_below(n: usize) -> u64 {
+pub extern "C" fn curveplan_below(n: usize) -> u64
+    ensures { λ r. ⌜ r ≡ below (min n 64) ⌝ }
+{
     bitset::below(n)
 }
 
-// ---- lists of tests; each answers 0
+// ---- lists of tests
 
 #[no_mangle]
-pub extern "C" fn t_reverse(xs: &mut [u16]) -> u64 {
+pub extern "C" fn curveplan_reverse(xs: &mut [u16])
+    ensures { λ _. ⌜ now (xs .exit) ≡ reverse (now (xs .entry)) ⌝ }
+{
     packages::reverse(xs);
-    0
 }
 
 #[no_mangle]
-pub extern "C" fn t_listed_order(tests: usize, order: &mut [u16]) -> u64 {
+pub extern "C" fn curveplan_listed_order(tests: usize, order: &mut [u16])
+    ensures { λ _. ⌜ now (order .exit) ≡ entered (upTo tests) (now (order .entry)) ⌝ }
+{
     packages::listed_order(tests, order);
-    0
 }
 
 #[no_mangle]
-pub extern "C" fn t_package_order(places: usize, wants: &[u64], order: &mut [u16]) -> u64 {
+pub extern "C" fn curveplan_package_order(places: usize, wants: &[u64], order: &mut [u16])
+    ensures { λ _. ⌜ now (order .exit) ≡ entered (packages places (now (wants .entry))) (now (order .entry)) ⌝ }
+{
     packages::package_order(places, wants, order);
-    0
 }

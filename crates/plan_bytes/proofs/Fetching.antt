@@ -12,7 +12,7 @@ use Rattle.job.specs.Handed.{between, allCurves, countsKnown}
 use Rattle.job_bytes.specs.SetBytes.{Got, got, byteAt, readGroup, readGroups}
 use Rattle.job.proofs.Laws.{done-same, refused≢done, both-done, bind-done}
 use Rattle.plan_bytes.specs.declared.StepRead.{StepRead}
-use Rattle.plan_bytes.specs.PlanBytes.{Placed, Part, readSet, readStep, readPlanBytes, planSteps, placedAt, fetched, partOf, stepPart}
+use Rattle.plan_bytes.specs.PlanBytes.{Placed, readSet, readStep, readPlanBytes, planSteps, placedAt, fetched, partOf, stepPart}
 use Rattle.plan_bytes.specs.Answers.{stepOutcome}
 use Rattle.plan_bytes.proofs.Steps.{placed, counts-refused, counts-passed}
 
@@ -97,46 +97,38 @@ module _ (curves tests : ℕ) where
   placed-other zero (x ∷ acc) s e = refl
   placed-other (suc p) (x ∷ acc) s e = placed-other p acc s (λ n. e (omega arith))
 
-  -- a part of the bytes bs
-  abbrev spanned : ℕ → ℕ → Part
-  spanned start end = record { start = start; count = end - start }
-
   -- the part of the step at position p among the steps acc, within the bytes bs
-  pub record PartIs (bs : List ℕ) (p : ℕ) (acc : List Placed) (start end : ℕ) : Type 0 where
-    pub part : partOf curves tests bs (placedAt curves tests p acc) ≡ spanned start end
-    pub low : start ≤ end
-    pub high : end ≤ length bs
+  pub record PartIs (bs : List ℕ) (p : ℕ) (acc : List Placed) (start count : ℕ) : Type 0 where
+    pub part : partOf curves tests bs (placedAt curves tests p acc) ≡ record { start = start; count = count }
+    pub inside : start + count ≤ length bs
 
   module _ (bs : List ℕ) (p : ℕ) where
-    at-end : partOf curves tests bs nobody ≡ spanned (length bs) (length bs)
+    pub part-none : PartIs bs p [] (length bs) 0
+    unfolding placedAt partOf
+    part-none = record { part = refl; inside = omega arith }
+
+    pub part-here : (acc : List Placed) (s : Placed) → length acc ≡ p → s .from ≤ s .until → s .until ≤ length bs → PartIs bs p (acc ++ (s ∷ [])) (s .from) (s .until - s .from)
     unfolding partOf
-    at-end = let z : length bs - length bs ≡ 0 = omega arith in rw z refl
+    part-here acc s e l h = record { part = rw (placed-here p acc s e) refl; inside = omega arith }
 
-    pub part-none : PartIs bs p [] (length bs) (length bs)
-    unfolding placedAt
-    part-none = record { part = at-end; low = omega arith; high = omega arith }
-
-    pub part-here : (acc : List Placed) (s : Placed) → length acc ≡ p → s .from ≤ s .until → s .until ≤ length bs → PartIs bs p (acc ++ (s ∷ [])) (s .from) (s .until)
-    unfolding partOf
-    part-here acc s e l h = record { part = rw (placed-here p acc s e) refl; low = l; high = h }
-
-    pub part-other : (acc : List Placed) (s : Placed) (start end : ℕ) → (length acc ≡ p → ⊥) → PartIs bs p acc start end → PartIs bs p (acc ++ (s ∷ [])) start end
-    part-other acc s start end e q = record { part = rw (placed-other p acc s e) (q .part); low = q .low; high = q .high }
+    pub part-other : (acc : List Placed) (s : Placed) (start count : ℕ) → (length acc ≡ p → ⊥) → PartIs bs p acc start count → PartIs bs p (acc ++ (s ∷ [])) start count
+    part-other acc s start count e q = record { part = rw (placed-other p acc s e) (q .part); inside = q .inside }
 
     -- the plan bytes that are refused, and those that read
-    pub part-refused : (o : Outcome (List Placed)) (k i : ℕ) → o ≡ refused k i → partOf curves tests bs (fetched curves tests p o) ≡ spanned (length bs) (length bs)
-    unfolding fetched
-    part-refused o k i e = rw e at-end
+    pub part-refused : (o : Outcome (List Placed)) (k i : ℕ) → o ≡ refused k i → record { start = length bs; count = 0 } ≡ partOf curves tests bs (fetched curves tests p o)
+    unfolding fetched partOf
+    part-refused o k i e = rw e refl
 
-    pub part-read : (o : Outcome (List Placed)) (acc : List Placed) (start end : ℕ) → o ≡ done acc → PartIs bs p acc start end → partOf curves tests bs (fetched curves tests p o) ≡ spanned start end
+    pub part-read : (o : Outcome (List Placed)) (acc : List Placed) (start count : ℕ) → o ≡ done acc → PartIs bs p acc start count
+        → record { start = start; count = count } ≡ partOf curves tests bs (fetched curves tests p o)
     unfolding fetched
-    part-read o acc start end e q = rw e (q .part)
+    part-read o acc start count e q = rw e (sym (q .part))
 
     -- the counts come first
-    pub part-uncounted : (k i : ℕ) → countsKnown curves tests ≡ refused k i → stepPart curves tests bs p ≡ spanned (length bs) (length bs)
+    pub part-uncounted : (k i : ℕ) → countsKnown curves tests ≡ refused k i → record { start = length bs; count = 0 } ≡ stepPart curves tests bs p
     unfolding stepPart
     part-uncounted k i e = part-refused (planSteps curves tests bs) k i (counts-refused curves tests bs k i e)
 
-    pub part-counted : countsKnown curves tests ≡ done tt → stepPart curves tests bs p ≡ partOf curves tests bs (fetched curves tests p (readPlanBytes curves tests bs))
+    pub part-counted : countsKnown curves tests ≡ done tt → partOf curves tests bs (fetched curves tests p (readPlanBytes curves tests bs)) ≡ stepPart curves tests bs p
     unfolding stepPart
-    part-counted e = ap (λ (o : Outcome (List Placed)). partOf curves tests bs (fetched curves tests p o)) (counts-passed curves tests bs e)
+    part-counted e = ap (λ (o : Outcome (List Placed)). partOf curves tests bs (fetched curves tests p o)) (sym (counts-passed curves tests bs e))

@@ -11,6 +11,7 @@ use Rattle.job_bytes.specs.SetBytes.{stands, setBytes, Got, got, byteAt, readGr
 use Rattle.job_bytes.specs.JobBytes.{atEnd}
 use Rattle.planning.specs.Plan.{Step, steps}
 use Rattle.planning.specs.Planning.{checking}
+use Rattle.plan_bytes.specs.declared.StepPart.{StepPart}
 
 -- ---- written
 
@@ -53,11 +54,6 @@ pub record Placed : Type 0 where
   pub step : Step
   pub from : ℕ
   pub until : ℕ
-
--- a part of some bytes: where it begins, and how many bytes it has
-pub record Part : Type 0 where
-  pub start : ℕ
-  pub count : ℕ
 
 -- "11, offset: first malformed or surplus byte; the input length if cut": a job with so many curves and tests
 module _ (curves tests : ℕ) where
@@ -139,17 +135,17 @@ module _ (curves tests : ℕ) where
   fetched p (refused k i) = nobody
 
   -- a part of the plan bytes bs: that of a step, or "the empty part at their end"
-  unfoldable pub partOf : List ℕ → Found Placed → Part
+  unfoldable pub partOf : List ℕ → Found Placed → StepPart
   partOf bs (found s) = record { start = s .from; count = s .until - s .from }
   partOf bs nobody = record { start = length bs; count = 0 }
 
   -- "the answer is that part of the caller's plan bytes, or the empty part at their end if the plan has no such step, its bytes would get refusal 11, or the
   -- handed counts are out of range"
-  unfoldable pub stepPart : List ℕ → ℕ → Part
+  unfoldable pub stepPart : List ℕ → ℕ → StepPart
   stepPart bs p = partOf bs (fetched p (planSteps bs))
 
 -- the bytes of a part
-abbrev pub inPart : List ℕ → Part → List ℕ
+abbrev pub inPart : List ℕ → StepPart → List ℕ
 inPart bs q = take (q .count) (drop (q .start) bs)
 
 abbrev pub stepAt : ℕ → ℕ → List ℕ → ℕ → List ℕ

@@ -208,35 +208,36 @@ pub fn read_plan(
     }
 }
 
-// A part of the plan bytes: from `start` to before `end`.
-struct Span {
-    start: usize,
-    end: usize,
+// A part of the plan bytes: where it begins, and how many bytes it has.
+#[repr(C)]
+pub struct StepPart {
+    pub start: usize,
+    pub count: usize,
 }
 
 // Where the step at a position lies in the bytes of a plan that reads; else at their end, and empty.
-fn find_step(curves: usize, tests: usize, plan: &[u8], position: usize) -> Span
+fn find_step(curves: usize, tests: usize, plan: &[u8], position: usize) -> StepPart
     requires { ⌜ curves ≤ 64 ⌝ }
-    ensures part { λ r. ⌜ partOf curves tests (now (plan .entry)) (fetched curves tests position (readPlanBytes curves tests (now (plan .entry)))) ≡ record { start = r .start; count = r .end - r .start } ⌝ }
-    ensures bounds { λ r. ⌜ (r .start ≤ r .end) × (r .end ≤ length (now (plan .entry))) ⌝ }
+    ensures part { λ r. ⌜ r ≡ partOf curves tests (now (plan .entry)) (fetched curves tests position (readPlanBytes curves tests (now (plan .entry)))) ⌝ }
+    ensures inside { λ r. ⌜ r .start + r .count ≤ length (now (plan .entry)) ⌝ }
 {
     let size = plan.len();
     let mut start = size;
-    let mut end = size;
+    let mut count: usize = 0;
     let mut at: usize = 0;
     let mut i: usize = 0;
     while i < tests {
         match read_step(plan, at, curves, tests) {
             StepRead::Fault(_) => {
-                return Span {
+                return StepPart {
                     start: size,
-                    end: size,
+                    count: 0,
                 };
             }
             StepRead::Step(_, _, _, next) => {
                 if i == position {
                     start = at;
-                    end = next;
+                    count = next - at;
                 }
                 at = next;
             }
@@ -244,24 +245,24 @@ fn find_step(curves: usize, tests: usize, plan: &[u8], position: usize) -> Span
         i += 1;
     }
     if at < size {
-        return Span {
+        return StepPart {
             start: size,
-            end: size,
+            count: 0,
         };
     }
-    Span { start, end }
+    StepPart { start, count }
 }
 
 // Where the step at a position lies, or the end of the bytes: "the plan has no such step, its bytes would get refusal 11, or the handed counts are out of
 // range".
-fn step_span(curves: usize, tests: usize, plan: &[u8], position: usize) -> Span
-    ensures part { λ r. ⌜ stepPart curves tests (now (plan .entry)) position ≡ record { start = r .start; count = r .end - r .start } ⌝ }
-    ensures bounds { λ r. ⌜ (r .start ≤ r .end) × (r .end ≤ length (now (plan .entry))) ⌝ }
+pub fn step_part(curves: usize, tests: usize, plan: &[u8], position: usize) -> StepPart
+    ensures part { λ r. ⌜ r ≡ stepPart curves tests (now (plan .entry)) position ⌝ }
+    ensures inside { λ r. ⌜ r .start + r .count ≤ length (now (plan .entry)) ⌝ }
 {
     match examine_counts(curves, tests) {
-        Examined::Refused(_) => Span {
+        Examined::Refused(_) => StepPart {
             start: plan.len(),
-            end: plan.len(),
+            count: 0,
         },
         Examined::Passed => find_step(curves, tests, plan, position),
     }
@@ -273,9 +274,9 @@ pub fn step_bytes(curves: usize, tests: usize, plan: &[u8], position: usize) -> 
     ensures block { λ r. ⌜ r .ptr .0 ≡ plan .entry .ptr .0 ⌝ }
     ensures place { λ r. ⌜ r .ptr .1 ≡ stepPart curves tests (now (plan .entry)) position .start + plan .entry .ptr .1 ⌝ }
 {
-    let span = step_span(curves, tests, plan, position);
-    let start = span.start;
-    let end = span.end;
+    let part = step_part(curves, tests, plan, position);
+    let start = part.start;
+    let end = start + part.count;
     &plan[start..end]
 }
 

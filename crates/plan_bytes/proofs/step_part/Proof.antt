@@ -1,4 +1,4 @@
--- `plan_bytes::step_span` meets its contract.
+-- `plan_bytes::step_part` meets its contract.
 use mathlib.Core.Path.{_∙_}
 use native.Mathlib.Omega.{arith}
 use denote.Ref.{now}
@@ -6,8 +6,8 @@ use Rattle.job.proofs.Examination.{examined-refused, examined-passed}
 use Rattle.plan_bytes.proofs.Steps.{counts-bounds}
 use Rattle.plan_bytes.proofs.Fetching.{part-uncounted, part-counted}
 use borrow.Author.Needs.{needs}
-use Rattle.plan_bytes.proofs.step_span.Statement.{statement}
-use Rattle.plan_bytes.proofs.step_span.Tie as tie
+use Rattle.plan_bytes.proofs.step_part.Statement.{statement}
+use Rattle.plan_bytes.proofs.step_part.Tie as tie
 
 examine-counts-requires : tie.Need-examine-counts-requires
 examine-counts-requires c κs = search needs
@@ -24,15 +24,15 @@ find-step-requires c κs = counts-bounds _ _ (examined-passed _ _ (c .enum-told2
 returns : tie.Need-returns
 returns c =
     let a = c .before .before .before .before .args in
-    (part-uncounted (a .curves) (a .tests) (now (a .plan)) (a .position) _ _ (examined-refused _ _ _ (c .enum-told .given .1) (c .before .before .examine-counts .ensures)), (omega arith, omega arith))
+    (part-uncounted (a .curves) (a .tests) (now (a .plan)) (a .position) _ _ (examined-refused _ _ _ (c .enum-told .given .1) (c .before .before .examine-counts .ensures)), omega arith)
 
 returns-2 : tie.Need-returns-2
 returns-2 c =
     let a = c .before .before .before .before .before .args in
     let f = c .find-step .ensures in
-    (part-counted (a .curves) (a .tests) (now (a .plan)) (a .position) (examined-passed _ _ (c .before .enum-told2 .given .1) (c .before .before .before .examine-counts .ensures)) ∙ f .0, f .1)
+    (f .0 ∙ part-counted (a .curves) (a .tests) (now (a .plan)) (a .position) (examined-passed _ _ (c .before .enum-told2 .given .1) (c .before .before .before .examine-counts .ensures)), f .1)
 
-pub step-span-spec : {M : Type 1} → statement M
-step-span-spec =
+pub step-part-spec : {M : Type 1} → statement M
+step-part-spec =
     tie.close
     (tie.spec examine-counts-requires enum-told enum-told-2 find-step-requires returns returns-2)

@@ -1,0 +1,30 @@
+-- Outcomes as numbers: they fit, and tell what they stand for.
+use mathlib.Core.Path.{_≡_, refl}
+use Prim.Native.Nat.{ℕ, _+_, _*_, _/_, _%_, _^_, _≤_, _<_}
+use native.Mathlib.Omega.{arith}
+use Rattle.job.specs.declared.Refusal.{Refusal}
+use Rattle.job.specs.declared.Refusal.the-variants.{Truncated, BadHeader, EmptyGroup, UnknownCurve, NoTests, TrailingBytes, TestTooLarge, BadOrder, BufferTooSmall, BadArgument, BadPlanBytes, PlanRejected}
+use Rattle.job.specs.Refusal.{done, refused, number}
+use Rattle.exports.specs.Numbers.{numbered}
+
+-- a refusal's number takes five bits
+pub number-small : (r : Refusal) → number r ≤ 31
+unfolding number
+number-small (Truncated i) = omega arith
+number-small (BadHeader i) = omega arith
+number-small (EmptyGroup i) = omega arith
+number-small (UnknownCurve i) = omega arith
+number-small NoTests = omega arith
+number-small (TrailingBytes i) = omega arith
+number-small (TestTooLarge i) = omega arith
+number-small (BadOrder i) = omega arith
+number-small (BufferTooSmall i) = omega arith
+number-small (BadArgument i) = omega arith
+number-small (BadPlanBytes i) = omega arith
+number-small (PlanRejected i) = omega arith
+
+-- COUNTS AND REFUSALS NEVER MEET: a count below 2^48 is its own answer, with 0 for a refusal's number; a refusal with a figure below 2^48 tells both
+pub numbered-tells : ((n : ℕ) → n < 2 ^ 48 → (numbered (done n) ≡ n) × (numbered (done n) / 2 ^ 48 ≡ 0))
+    × ((k i : ℕ) → 1 ≤ k → i < 2 ^ 48 → (2 ^ 48 ≤ numbered (refused k i)) × (numbered (refused k i) / 2 ^ 48 ≡ k) × (numbered (refused k i) % 2 ^ 48 ≡ i))
+unfolding numbered
+numbered-tells = ((λ n l. (refl, omega arith)), (λ k i p l. (omega arith, omega arith, omega arith)))

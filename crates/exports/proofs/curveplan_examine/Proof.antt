@@ -1,0 +1,18 @@
+-- `exports::curveplan_examine` meets its contract.
+use mathlib.Core.Path.{ap, _∙_}
+use borrow.Author.Needs.{needs}
+use Rattle.exports.specs.Numbers.{passing}
+use Rattle.exports.proofs.curveplan_examine.Statement.{statement}
+use Rattle.exports.proofs.curveplan_examine.Tie as tie
+
+examine-requires : tie.Need-examine-requires
+examine-requires c κs = search needs
+
+examined-requires : tie.Need-examined-requires
+examined-requires c κs = search needs
+
+returns : tie.Need-returns
+returns c = c .examined .ensures ∙ ap passing (c .before .examine .ensures)
+
+pub curveplan-examine-spec : {M : Type 1} → statement M
+curveplan-examine-spec = tie.close (tie.spec examine-requires examined-requires returns)

@@ -1,0 +1,18 @@
+-- `exports::curveplan_examine_by` meets its contract.
+use mathlib.Core.Path.{ap, _∙_}
+use borrow.Author.Needs.{needs}
+use Rattle.exports.specs.Numbers.{passing}
+use Rattle.exports.proofs.curveplan_examine_by.Statement.{statement}
+use Rattle.exports.proofs.curveplan_examine_by.Tie as tie
+
+examine-by-requires : tie.Need-examine-by-requires
+examine-by-requires c κs = search needs
+
+examined-requires : tie.Need-examined-requires
+examined-requires c κs = search needs
+
+returns : tie.Need-returns
+returns c = c .examined .ensures ∙ ap passing (c .before .examine-by .ensures)
+
+pub curveplan-examine-by-spec : {M : Type 1} → statement M
+curveplan-examine-by-spec = tie.close (tie.spec examine-by-requires examined-requires returns)

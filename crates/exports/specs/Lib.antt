@@ -1,0 +1,3 @@
+-- What the functions for C answer.
+--     Numbers  outcomes as numbers
+pub mod Numbers

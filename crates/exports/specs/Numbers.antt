@@ -1,0 +1,31 @@
+-- How the functions for C answer: outcomes as numbers.
+use mathlib.Core.List.{List}
+use Prim.Native.Nat.{ℕ, _+_, _*_, _%_, _^_, min}
+use lib.ListN.{drop}
+use Rattle.job.specs.declared.Head.{Head}
+use Rattle.job.specs.Refusal.{Outcome, done, refused, mapped}
+use Rattle.job_bytes.specs.SetBytes.{readGroup}
+use Rattle.exports.specs.declared.JobHead.{JobHead}
+
+-- an outcome as one number: a count is itself, a refusal its number × 2^48 plus its figure (modulo 2^48)
+unfoldable pub numbered : Outcome ℕ → ℕ
+numbered (done n) = n
+numbered (refused number figure) = number * 2 ^ 48 + figure % 2 ^ 48
+
+-- .. where only the refusal is of interest: else 0
+abbrev pub passing : {A : Type 0} → Outcome A → ℕ
+passing o = numbered (mapped (λ _. 0) o)
+
+-- a job's head: answered is the number of tests. Under a refusal the four numbers are 0
+unfoldable pub headOf : Outcome Head → JobHead
+headOf (done h) = record { answer = numbered (done (h .tests)); places = h .places; curves = h .curves; tests = h .tests; method = h .method }
+headOf (refused k i) = record { answer = numbered (refused k i); places = 0; curves = 0; tests = 0; method = 0 }
+
+-- one group byte of a set, at an offset of some bytes: 1 where it is owed, 2 where it is zero, 3 where it names a curve that the job lacks
+unfoldable pub groupAt : List ℕ → ℕ → ℕ → ℕ → Outcome ℕ
+groupAt bs at group curves = mapped (λ g. g .value) (readGroup 1 2 3 (min curves 64) 1 group 0 (drop at bs))
+
+-- what a lent number holds afterwards: "Nothing lent changes under a refusal"
+unfoldable pub leavesOne : Outcome ℕ → ℕ → ℕ
+leavesOne (done new) old = new
+leavesOne (refused k i) old = old
