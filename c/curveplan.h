@@ -1,4 +1,20 @@
-/* The rig's curve planner: one call from a job's bytes to its plan's bytes. The formats are those of document 01, "Job bytes" and "Plan bytes". */
+/*
+ * The rig's curve planner. The formats, the orders, the plan and the refusals are those of document 01.
+ *
+ * One call goes from a job's bytes to its plan's bytes: curveplan_plan, in the archive libcurveplan.a. The other functions take the steps between one by one,
+ * and are in libexports.a; the smaller parts of these are declared in curveplan_parts.h.
+ *
+ * For every function here:
+ * - A set of curves is a 64-bit number, with bit k for curve k. Tests and curves are numbered from 0. A list of wants has an entry for each test; drops and
+ *   loads have an entry for each step, and an order names each step's test.
+ * - All lists and buffers belong to the caller. Nothing is kept of them after the call, and what is `const` is only read.
+ * - Under a refusal nothing lent changes. On success the entries behind the result keep their contents.
+ * - The first condition that is met is the one that is answered; the refusals of a function are listed in the order in which they are asked.
+ * - Nothing is allocated, no state is kept, and nothing outside the library is called but memcpy and memset: the functions may run in several threads at once
+ *   on lists of their own.
+ * - Outside the contract: null pointers (for no entries hand over any valid address with length 0), lists that overlap, lengths beyond what stands at the
+ *   addresses.
+ */
 #ifndef CURVEPLAN_H
 #define CURVEPLAN_H
 
@@ -9,46 +25,144 @@
 extern "C" {
 #endif
 
-/* No job that is planned has more bytes: 6 of the head, and 9 for each of 256 tests. */
-#define CURVEPLAN_JOB_BYTES 2310
+/* Lists and buffers of these sizes are never refused as too short. */
+#define CURVEPLAN_TESTS 256          /* entries of a list with one for each test */
+#define CURVEPLAN_JOB_BYTES 2310     /* a job: 6 bytes of the head, and 9 for each of 256 tests */
+#define CURVEPLAN_PLAN_BYTES 5120    /* a plan: 20 bytes for each of 256 steps */
+#define CURVEPLAN_SHEET_BYTES 105000 /* a sheet */
+#define CURVEPLAN_AUDIT_BYTES 128    /* an audit */
 
-/* No plan has more bytes, so a buffer of this size is never refused: 20 for each of 256 steps. */
-#define CURVEPLAN_PLAN_BYTES 5120
-
-/* The refusals that the call answers. 8, 10, 11 and 12 of document 01 never come out of it. */
+/* The refusals. Behind each stand the calls that can answer it; `plan` alone is curveplan_plan. */
 enum curveplan_refusal {
-    CURVEPLAN_TRUNCATED = 1,      /* the job ends where a byte is still owed; figure: the job's length */
-    CURVEPLAN_BAD_HEADER = 2,     /* a bit 4 to 7 of the map stands, or a field is out of range or at its absent value; figure: its offset */
-    CURVEPLAN_EMPTY_GROUP = 3,    /* a group byte is zero; figure: its offset */
-    CURVEPLAN_UNKNOWN_CURVE = 4,  /* a group byte names a curve that the job lacks; figure: its offset */
-    CURVEPLAN_NO_TESTS = 5,       /* the list of tests is empty; figure: 0 */
-    CURVEPLAN_TRAILING_BYTES = 6, /* bytes behind the last record; figure: the offset of the first */
-    CURVEPLAN_TEST_TOO_LARGE = 7, /* a test wants more curves than there are places; figure: the lowest such test */
-    CURVEPLAN_PLAN_TOO_SMALL = 9  /* the plan does not fit into `plan_len` bytes; figure: the bytes that it has */
+    CURVEPLAN_TRUNCATED = 1,        /* the job ends where a byte is still owed; figure: its length (plan, read_job) */
+    CURVEPLAN_BAD_HEADER = 2,       /* bit 4 to 7 of the map stands, or a field is out of range or at its absent value; figure: its offset (plan, read_job) */
+    CURVEPLAN_EMPTY_GROUP = 3,      /* a group byte is zero; figure: its offset (plan, read_job) */
+    CURVEPLAN_UNKNOWN_CURVE = 4,    /* a group byte names a curve that the job lacks; figure: its offset (plan, read_job) */
+    CURVEPLAN_NO_TESTS = 5,         /* there are no tests; figure: 0 (plan, read_job, write_job, order_tests, plan_order, check_plan, write_plan, read_plan) */
+    CURVEPLAN_TRAILING_BYTES = 6,   /* bytes behind the last record; figure: the offset of the first (plan, read_job) */
+    CURVEPLAN_TEST_TOO_LARGE = 7,   /* a test wants more curves than there are places; figure: the lowest such test (plan, order_tests, plan_order) */
+    CURVEPLAN_BAD_ORDER = 8,        /* figure: the first position with a number out of range or seen before, or the first missing or surplus position, the
+                                       smaller (plan_order, check_plan, write_plan) */
+    CURVEPLAN_BUFFER_TOO_SMALL = 9, /* a lent list or buffer cannot take the result; figure: the entries that it needs (every call that fills one) */
+    CURVEPLAN_BAD_ARGUMENT = 10,    /* a handed number; figure: 0 places (not 1 to 64), 1 curves (not 1 to 64), 2 more than 256 tests, 3 method (above 3),
+                                       4 + t: the wants of test t name a curve that the job lacks; asked in this order (write_job, order_tests; without the
+                                       method plan_order, check_plan, write_plan; curves and tests only read_plan) */
+    CURVEPLAN_BAD_PLAN_BYTES = 11,  /* figure: the offset of the first malformed or surplus byte; the length if a byte is owed (read_plan) */
+    CURVEPLAN_PLAN_REJECTED = 12    /* figure: the first missing or surplus position of the drops or loads, the smaller; else the first step that breaks a
+                                       rule of the check (check_plan, write_plan) */
 };
 
+/* ---- the one call: archive libcurveplan.a */
+
 /*
- * Reads the `job_len` bytes of a job at `job`, orders its tests by the job's method, plans the drops and loads, and writes the plan's bytes to `plan`, which
- * has room for `plan_len` bytes.
+ * Reads a job, orders its tests by the job's method, plans the drops and loads, and writes the plan's bytes to `plan`, which has room for `plan_len` bytes.
+ *
+ * The plan is one with the fewest loads for its order of the tests.
  *
  * Answers
- *   below 65,536      the count of plan bytes written, at most 5,120; the bytes of `plan` behind them keep their contents
- *   65,536 and above  a refusal: its number is the answer / 65,536, its figure the answer % 65,536; nothing in `plan` changes
+ *   below 65,536      the count of plan bytes written, at most 5,120
+ *   65,536 and above  a refusal: its number × 65,536 plus its figure. Take it apart by the three functions below
  *
- * The plan is the one with the fewest loads for its order of the tests.
- *
- * Both buffers belong to the caller; neither is kept, and `job` is only read. The call allocates nothing, keeps no state and calls nothing outside the
- * library but memcpy and memset: it may run in several threads at once, on different plan buffers. It takes less than 12 kB of stack.
- *
- * Outside the contract: null pointers (for no bytes hand over any valid address with length 0), `job` and `plan` that overlap, lengths beyond what stands
- * at the addresses.
+ * Refusals: those of curveplan_read_job but 9; 7; 9 with the count of the bytes. It takes less than 12 kB of stack.
  */
 uint64_t curveplan_plan(const uint8_t *job, size_t job_len, uint8_t *plan, size_t plan_len);
 
-/* An answer's parts. */
-static inline int curveplan_is_refusal(uint64_t answer) { return answer >= 65536; }
-static inline unsigned curveplan_number(uint64_t answer) { return (unsigned)(answer / 65536); }
-static inline unsigned curveplan_figure(uint64_t answer) { return (unsigned)(answer % 65536); }
+/* What curveplan_plan answers, and no other function: the figure in the low 16 bits. */
+static inline int curveplan_refused_16(uint64_t answer) { return answer >= 65536; }
+static inline unsigned curveplan_number_16(uint64_t answer) { return (unsigned)(answer / 65536); }
+static inline unsigned curveplan_figure_16(uint64_t answer) { return (unsigned)(answer % 65536); }
+
+/* ---- step by step: archive libexports.a */
+
+/*
+ * What all functions below answer: a count, below 2^48, or a refusal, which is its number × 2^48 plus its figure. (A sheet can have more than 65,536 bytes.)
+ */
+static inline int curveplan_refused_48(uint64_t answer) { return (answer >> 48) != 0; }
+static inline unsigned curveplan_number_48(uint64_t answer) { return (unsigned)(answer >> 48); }
+static inline uint64_t curveplan_figure_48(uint64_t answer) { return answer & 0xffffffffffffu; }
+
+/* The head of a job. */
+struct curveplan_job {
+    uint64_t answer; /* the number of tests, or the refusal; under a refusal the four numbers are 0 */
+    size_t places;
+    size_t curves;
+    size_t tests;
+    size_t method;
+};
+
+/*
+ * Reads a job's bytes. The wants of its tests go to `wants`.
+ * Refusals: in byte order of the head 1 and 2; 5; in byte order of the records 1, 3 and 4; 6; 9 with the number of tests.
+ */
+struct curveplan_job curveplan_read_job(const uint8_t *job, size_t job_len, uint64_t *wants, size_t wants_len);
+
+/*
+ * Writes a job's bytes to `out`, and answers their count.
+ * Refusals: 5; 10; 9 with the count of the bytes.
+ */
+uint64_t curveplan_write_job(size_t places, size_t curves, size_t method, const uint64_t *wants, size_t tests, uint8_t *out, size_t out_len);
+
+/*
+ * Orders the tests: method 0 as listed, 1 reverse Cuthill-McKee, 2 spanning tree, 3 packages. The tests' numbers go to `order`; answers how many they are.
+ * Refusals: 5; 10; 7; 9 with the number of tests.
+ */
+uint64_t curveplan_order_tests(size_t places, size_t curves, size_t method, const uint64_t *wants, size_t tests, uint16_t *order, size_t order_len);
+
+/*
+ * Plans an order of the tests. The drops and loads of each step go to `drops` and `loads`; answers the load count. No plan for this order has fewer loads.
+ * Refusals: 5; 10; 8; 7; 9 with the number of tests.
+ */
+uint64_t curveplan_plan_order(size_t places, size_t curves, const uint64_t *wants, size_t tests, const uint16_t *order, size_t order_len, uint64_t *drops,
+                              size_t drops_len, uint64_t *loads, size_t loads_len);
+
+/*
+ * Checks a plan from anywhere, and answers its load count.
+ * Refusals: 5; 10; 8; 12.
+ */
+uint64_t curveplan_check_plan(size_t places, size_t curves, const uint64_t *wants, size_t tests, const uint16_t *order, size_t order_len,
+                              const uint64_t *drops, size_t drops_len, const uint64_t *loads, size_t loads_len);
+
+/*
+ * Writes a plan that passes the check to `out` as plan bytes, and answers their count.
+ * Refusals: 5; 10; 8; 12; 9 with the count of the bytes.
+ */
+uint64_t curveplan_write_plan(size_t places, size_t curves, const uint64_t *wants, size_t tests, const uint16_t *order, size_t order_len,
+                              const uint64_t *drops, size_t drops_len, const uint64_t *loads, size_t loads_len, uint8_t *out, size_t out_len);
+
+/*
+ * Reads the plan bytes of a job with so many curves and tests. Each step's test, drops and loads go to the three lists; answers how many steps they are. That
+ * the plan passes the check is not asked.
+ * Refusals: 5; 10; 11; 9 with the number of tests.
+ */
+uint64_t curveplan_read_plan(size_t curves, size_t tests, const uint8_t *plan, size_t plan_len, uint16_t *order, size_t order_len, uint64_t *drops,
+                             size_t drops_len, uint64_t *loads, size_t loads_len);
+
+/* A part of the caller's bytes: `count` bytes from offset `start` on. */
+struct curveplan_part {
+    size_t start;
+    size_t count;
+};
+
+/*
+ * Where the bytes of the step at a position lie in `plan`. Where the plan has no such step, does not read, or is handed with counts out of range, it is the
+ * empty part at the end: start `plan_len`, count 0. It refuses nothing.
+ */
+struct curveplan_part curveplan_step_bytes(size_t curves, size_t tests, const uint8_t *plan, size_t plan_len, size_t position);
+
+/*
+ * Writes the sheet of a job to `out`, and answers how many bytes it has: test count, places and method, a line for each step, the load count. A job that is
+ * refused has the sheet `refused N at F`, which is no refusal of this call.
+ * Refusals: 9 with the count of the bytes.
+ */
+uint64_t curveplan_sheet(const uint8_t *job, size_t job_len, uint8_t *out, size_t out_len);
+
+/*
+ * Writes the audit of a plan for a job to `out`, and answers how many bytes it has: the plan's loads, the fewest for the same order of the tests, and by how
+ * many the plan can be shortened. A job that is refused has the audit `refused N at F`, and a plan that is refused has `plan refused N at F`; neither is a
+ * refusal of this call.
+ * Refusals: 9 with the count of the bytes.
+ */
+uint64_t curveplan_audit(const uint8_t *job, size_t job_len, const uint8_t *plan, size_t plan_len, uint8_t *out, size_t out_len);
 
 #ifdef __cplusplus
 }

@@ -10,11 +10,11 @@ static void plan(const char *what, const uint8_t *job, size_t len, size_t room)
     uint8_t bytes[CURVEPLAN_PLAN_BYTES + 1];
     memset(bytes, 0xee, sizeof bytes);
     uint64_t answer = curveplan_plan(job, len, bytes, room);
-    size_t written = curveplan_is_refusal(answer) ? 0 : (size_t)answer;
+    size_t written = curveplan_refused_16(answer) ? 0 : (size_t)answer;
 
     printf("%s: ", what);
-    if (curveplan_is_refusal(answer)) {
-        printf("refused %u at %u\n", curveplan_number(answer), curveplan_figure(answer));
+    if (curveplan_refused_16(answer)) {
+        printf("refused %u at %u\n", curveplan_number_16(answer), curveplan_figure_16(answer));
     } else {
         printf("%zu bytes", written);
         for (size_t i = 0; i < written && i < 32; i++) {
