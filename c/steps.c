@@ -1,4 +1,4 @@
-/* A host that goes step by step: reads job A of document 01, orders, plans, checks, writes and reads bytes, fetches steps, and prints a sheet and two audits. */
+/* A host that goes step by step: reads job A of document 01, orders, plans, checks, writes and reads bytes, fetches steps, and prints audits and a sheet. */
 #include <stdio.h>
 #include <string.h>
 

@@ -1,3 +1,5 @@
--- What the numbers that C is answered tell.
---     Numbers  a refusal's number fits, and tells the refusal
+-- What the numbers tell that C is answered.
+--     Numbers  a refusal's number fits, and counts and refusals never meet
+--     Told     .. of what each function answers
 pub mod Numbers
+pub mod Told

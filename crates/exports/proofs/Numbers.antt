@@ -1,27 +1,26 @@
 -- Outcomes as numbers: they fit, and tell what they stand for.
 use mathlib.Core.Path.{_≡_, refl}
-use Prim.Native.Nat.{ℕ, _+_, _*_, _/_, _%_, _^_, _≤_, _<_}
+use Prim.Native.Nat.{ℕ, _/_, _%_, _^_, _≤_, _<_}
 use native.Mathlib.Omega.{arith}
 use Rattle.job.specs.declared.Refusal.{Refusal}
-use Rattle.job.specs.declared.Refusal.the-variants.{Truncated, BadHeader, EmptyGroup, UnknownCurve, NoTests, TrailingBytes, TestTooLarge, BadOrder, BufferTooSmall, BadArgument, BadPlanBytes, PlanRejected}
 use Rattle.job.specs.Refusal.{done, refused, number}
 use Rattle.exports.specs.Numbers.{numbered}
 
 -- a refusal's number takes five bits
 pub number-small : (r : Refusal) → number r ≤ 31
 unfolding number
-number-small (Truncated i) = omega arith
-number-small (BadHeader i) = omega arith
-number-small (EmptyGroup i) = omega arith
-number-small (UnknownCurve i) = omega arith
-number-small NoTests = omega arith
-number-small (TrailingBytes i) = omega arith
-number-small (TestTooLarge i) = omega arith
-number-small (BadOrder i) = omega arith
-number-small (BufferTooSmall i) = omega arith
-number-small (BadArgument i) = omega arith
-number-small (BadPlanBytes i) = omega arith
-number-small (PlanRejected i) = omega arith
+number-small (Refusal.Truncated i) = omega arith
+number-small (Refusal.BadHeader i) = omega arith
+number-small (Refusal.EmptyGroup i) = omega arith
+number-small (Refusal.UnknownCurve i) = omega arith
+number-small Refusal.NoTests = omega arith
+number-small (Refusal.TrailingBytes i) = omega arith
+number-small (Refusal.TestTooLarge i) = omega arith
+number-small (Refusal.BadOrder i) = omega arith
+number-small (Refusal.BufferTooSmall i) = omega arith
+number-small (Refusal.BadArgument i) = omega arith
+number-small (Refusal.BadPlanBytes i) = omega arith
+number-small (Refusal.PlanRejected i) = omega arith
 
 -- COUNTS AND REFUSALS NEVER MEET: a count below 2^48 is its own answer, with 0 for a refusal's number; a refusal with a figure below 2^48 tells both
 pub numbered-tells : ((n : ℕ) → n < 2 ^ 48 → (numbered (done n) ≡ n) × (numbered (done n) / 2 ^ 48 ≡ 0))

@@ -1,0 +1,310 @@
+-- WHAT C IS ANSWERED TELLS THE OUTCOME, of each function of `curveplan.h` that answers a count or a refusal, whatever it is handed: no count and no figure
+-- reaches 2^48.
+use mathlib.Core.Path.{_≡_, refl, ap, _∙_, subst}
+use mathlib.Core.Bool.{not, _&&_}
+use mathlib.Core.List.{List, [], _∷_, _++_}
+use Prim.Native.Nat.{ℕ, suc, _+_, _*_, _/_, _%_, _^_, _≤_, _<_, min}
+use native.Mathlib.Omega.{arith}
+use borrow.Author.Tests.{ltb-true}
+use lib.Dec.{ltb}
+use lib.ListN.{length, length-append}
+use Rattle.bitset.specs.Set.{_∖_}
+use Rattle.bitset.proofs.Laws.{⊆-∪-r, size-mono}
+use Rattle.job.specs.declared.Head.{Head}
+use Rattle.job.specs.Refusal.{Outcome, done, refused, _>>_, mapped, demand, room}
+use Rattle.job.specs.Handed.{listed, someTests, placesKnown, curvesKnown, testsKnown, methodKnown, wantsKnown, wantsFit, numbersKnown, jobKnown, jobKnownBy, countsKnown, allCurves}
+use Rattle.job.proofs.Laws.{both, demand-true, both-done, bind-done, mapped-done, done-same, done-both, done-room}
+use Rattle.job.proofs.Examination.{known-bounds}
+use Rattle.job.proofs.Orders.{order-length}
+use Rattle.job.proofs.Refuses.{Refuses, refuses, refuses-demand, refuses-both, refuses-bind, refuses-mapped, refuses-each}
+use Rattle.job_bytes.specs.JobBytes.{Job, readBytes, readJob, readJobAnswer, jobBytes, jobOf, writeJob, writeJobAnswer}
+use Rattle.job_bytes.proofs.JobBounds.{Bounded, read, read-bounded, figure-short, written-short}
+use Rattle.job_bytes.proofs.SetRoundTrip.{Bytes}
+use Rattle.ordering.specs.Methods.{orderBy}
+use Rattle.ordering.specs.Ordering.{ordering, orderAnswer}
+use Rattle.ordering.proofs.Complete.{order-complete}
+use Rattle.planning.specs.Order.{orderFrom, orderKnown}
+use Rattle.planning.specs.Plan.{inOrder, held, checkSteps, loadCount}
+use Rattle.planning.specs.Planning.{setsKnown, checking, planning, planAnswer}
+use Rattle.planning.proofs.CheckExact.{StepsOk, passed, check-count}
+use Rattle.planning.proofs.Demand3.{demand3}
+use Rattle.planning.proofs.Sequence.{order-long}
+use Rattle.planning.proofs.Turns.{length-inOrder}
+use Rattle.plan_bytes.specs.PlanBytes.{Placed, planBytes, writePlan, writePlanAnswer, readPlanBytes, planSteps, readPlan, readPlanAnswer}
+use Rattle.plan_bytes.proofs.PlanBounds.{plan-figure, plan-eleven}
+use Rattle.plan_bytes.proofs.PlanLength.{passed-length, written-length}
+use Rattle.plan_bytes.proofs.ReadPlan.{plan-count}
+use Rattle.plan_bytes.proofs.Steps.{counts-bounds}
+use Rattle.curveplan.proofs.ReadRefuses.{ByReading, read-refuses}
+use Rattle.report.specs.Report.{sheet, writeSheet, sheetAnswer}
+use Rattle.report.specs.Audit.{audit, auditText, writeAudit, auditAnswer}
+use Rattle.report.proofs.Longest.{sheet-longest}
+use Rattle.report.proofs.AuditLongest.{audit-longest}
+use Rattle.exports.specs.Numbers.{numbered}
+use Rattle.exports.proofs.Numbers.{numbered-tells}
+
+-- the number that stands for an outcome tells it
+pub record Told (o : Outcome ℕ) : Type 0 where
+  pub count : (n : ℕ) → o ≡ done n → (numbered o ≡ n) × (n < 2 ^ 48)
+  pub refusal : (k i : ℕ) → o ≡ refused k i → (2 ^ 48 ≤ numbered o) × (numbered o / 2 ^ 48 ≡ k) × (numbered o % 2 ^ 48 ≡ i)
+
+-- .. where counts and figures are small
+abbrev Figures : ℕ → ℕ → Type 0
+Figures k i = (1 ≤ k) × (i < 2 ^ 48)
+
+told : (o : Outcome ℕ) → ((n : ℕ) → o ≡ done n → n < 2 ^ 48) → Refuses Figures o → Told o
+told o few r =
+    record {
+      count = λ n e. (ap numbered e ∙ numbered-tells .0 n (few n e) .0, few n e);
+      refusal = λ k i e. let f = refuses Figures o k i r e in rw e (numbered-tells .1 k i (f .0) (f .1));
+    }
+
+-- ---- the examinations
+
+-- what is asked later is asked behind what was passed
+then : {A : Type 0} (a : Outcome (Unit {0})) (b : Outcome A) → Refuses Figures a → (a ≡ done tt → Refuses Figures b) → Refuses Figures (_>>_ a b)
+unfolding _>>_
+then (done tt) b p q = q refl
+then (refused k i) b p q = p
+
+asked : {A : Type 0} (lent needed : ℕ) (b : Outcome A) → needed < 2 ^ 48 → Refuses Figures b → Refuses Figures (_>>_ (room lent needed) b)
+unfolding room
+asked lent needed b l q = refuses-both Figures _ b (refuses-demand Figures _ 9 needed (omega arith, l)) q
+
+counts-told : (curves tests : ℕ) → Refuses Figures (countsKnown curves tests)
+unfolding countsKnown someTests curvesKnown testsKnown
+counts-told curves tests =
+    refuses-both Figures _ _ (refuses-demand Figures _ 5 0 (omega arith, omega arith))
+    (refuses-both Figures _ _ (refuses-demand Figures _ 10 1 (omega arith, omega arith)) (refuses-demand Figures _ 10 2 (omega arith, omega arith)))
+
+numbers-told : (places curves tests : ℕ) → Refuses Figures (numbersKnown places curves tests)
+unfolding numbersKnown someTests placesKnown curvesKnown testsKnown
+numbers-told places curves tests =
+    refuses-both Figures _ _ (refuses-demand Figures _ 5 0 (omega arith, omega arith))
+    (refuses-both Figures _ _ (refuses-demand Figures _ 10 0 (omega arith, omega arith))
+    (refuses-both Figures _ _ (refuses-demand Figures _ 10 1 (omega arith, omega arith)) (refuses-demand Figures _ 10 2 (omega arith, omega arith))))
+
+wants-told : (curves : ℕ) (wants : List ℕ) → length wants ≤ 256 → Refuses Figures (wantsKnown curves wants)
+unfolding wantsKnown
+wants-told curves wants l = refuses-each Figures _ 10 4 wants (λ t h. (omega arith, omega arith))
+
+fit-told : (places : ℕ) (wants : List ℕ) → length wants ≤ 256 → Refuses Figures (wantsFit places wants)
+unfolding wantsFit
+fit-told places wants l = refuses-each Figures _ 7 0 wants (λ t h. (omega arith, omega arith))
+
+module _ (places curves : ℕ) (wants : List ℕ) where
+  few : jobKnown places curves wants ≡ done tt → length wants ≤ 256
+  unfolding jobKnown
+  few e = known-bounds places curves (length wants) (both-done (numbersKnown places curves (length wants)) _ tt e .0) .1
+
+  few-by : (method : ℕ) → jobKnownBy places curves method wants ≡ done tt → length wants ≤ 256
+  unfolding jobKnownBy
+  few-by method e = known-bounds places curves (length wants) (both-done (numbersKnown places curves (length wants)) _ tt e .0) .1
+
+  job-told : Refuses Figures (jobKnown places curves wants)
+  unfolding jobKnown
+  job-told = then _ _ (numbers-told places curves (length wants)) (λ e. wants-told curves wants (known-bounds places curves (length wants) e .1))
+
+  job-by-told : (method : ℕ) → Refuses Figures (jobKnownBy places curves method wants)
+  unfolding jobKnownBy methodKnown
+  job-by-told method =
+      then _ _ (numbers-told places curves (length wants))
+      (λ e. refuses-both Figures _ _ (refuses-demand Figures _ 10 3 (omega arith, omega arith)) (wants-told curves wants (known-bounds places curves (length wants) e .1)))
+
+-- 8 names one of the positions, or the one behind them
+order-told : (n : ℕ) (before rest : List ℕ) → n ≤ 256 → length before ≤ n → Refuses Figures (orderFrom n before rest)
+unfolding orderFrom
+order-told n before [] l m = refuses-demand Figures _ 8 (length before) (omega arith, omega arith)
+order-told n before (t ∷ ts) l m =
+    then (demand (ltb (length before) n && ltb t n && not (listed before t)) 8 (length before)) _ (refuses-demand Figures _ 8 (length before) (omega arith, omega arith))
+    (λ e.
+    let a = both (ltb (length before) n && ltb t n) (not (listed before t)) (demand-true _ 8 (length before) e) in
+    let b = both (ltb (length before) n) (ltb t n) (a .0) in
+    order-told n (before ++ (t ∷ [])) ts l (omega (arith, length-append before (t ∷ []), ltb-true (length before) n (b .0))))
+
+steps-told : (places all i h : ℕ) (ws ds ls : List ℕ) → i + length ws ≤ 256 → Refuses Figures (checkSteps places all i h ws ds ls)
+unfolding checkSteps
+steps-told places all i h [] [] [] l = tt
+steps-told places all i h [] [] (x ∷ ls) l = (omega arith, omega arith)
+steps-told places all i h [] (d ∷ ds) ls l = (omega arith, omega arith)
+steps-told places all i h (w ∷ ws) [] ls l = (omega arith, omega arith)
+steps-told places all i h (w ∷ ws) (d ∷ ds) [] l = (omega arith, omega arith)
+steps-told places all i h (w ∷ ws) (d ∷ ds) (x ∷ ls) l =
+    refuses-both Figures _ _ (refuses-demand Figures _ 12 i (omega arith, omega arith)) (steps-told places all (suc i) (held h d x) ws ds ls (omega arith))
+
+loads-few : (p all h : ℕ) (ws ds ls : List ℕ) → p ≤ 64 → StepsOk p all h ws ds ls → loadCount ls ≤ 64 * length ws
+unfolding loadCount
+loads-few p all h [] [] [] m s = omega arith
+loads-few p all h [] [] (l ∷ ls) m s = absurd s
+loads-few p all h [] (d ∷ ds) ls m s = absurd s
+loads-few p all h (w ∷ ws) [] ls m s = absurd s
+loads-few p all h (w ∷ ws) (d ∷ ds) [] m s = absurd s
+loads-few p all h (w ∷ ws) (d ∷ ds) (l ∷ ls) m s =
+    omega (arith, size-mono l (held h d l) (⊆-∪-r (h ∖ d) l), s .0 .room, loads-few p all (held h d l) ws ds ls m (s .1))
+
+-- ---- jobs and orders
+
+module _ (bs old : List ℕ) where
+  read-few : (j : Job) → readBytes bs ≡ done j → j .head .tests ≤ 256
+  read-few j e = of (subst (Bounded bs) e (read-bounded bs))
+    where
+      of : {j : Job} → Bounded bs (done j) → j .head .tests ≤ 256
+      of (read j l t) = t
+
+  read-told : Refuses Figures (readBytes bs)
+  read-told = go (readBytes bs) refl
+    where
+      go : (o : Outcome Job) → readBytes bs ≡ o → Refuses Figures o
+      go (done j) e = tt
+      go (refused k i) e = (refuses ByReading (readBytes bs) k i (read-refuses bs) e .0, omega (arith, figure-short bs k i e .0))
+
+  pub read-job-told : Told (mapped (λ h. h .tests) (readJobAnswer bs old))
+  unfolding readJobAnswer readJob
+  read-job-told =
+      told _
+      (λ n e.
+      let h = mapped-done (λ (h : Head). h .tests) (readJobAnswer bs old) n e in
+      let j = mapped-done (λ (j : Job). j .head) (readJob bs (length old)) (h .0) (h .1) in
+      let b = bind-done (readBytes bs) _ (j .0) (j .1) in
+      let r = both-done (room (length old) (b .0 .head .tests)) (done (b .0)) (j .0) (b .2) in
+      omega (arith, read-few (b .0) (b .1), ap (λ (j : Job). j .head .tests) (done-same (r .1)), ap (λ (h : Head). h .tests) (j .2), h .2))
+      (refuses-mapped Figures _ _ (refuses-mapped Figures _ _
+      (refuses-bind Figures (readBytes bs) _ read-told (λ j e. asked (length old) (j .head .tests) (done j) (omega (arith, read-few j e)) tt))))
+
+module _ (places curves method : ℕ) (wants old : List ℕ) where
+  pub write-job-told : Told (writeJobAnswer places curves method wants old)
+  unfolding writeJobAnswer
+  write-job-told =
+      told _
+      (λ n e. let b = mapped-done length (writeJob places curves method wants (length old)) n e in
+      omega (arith, b .2, written-short places curves method wants (length old) (b .0) (b .1)))
+      (refuses-mapped Figures _ _ writing)
+    where
+      bytes : List ℕ
+      bytes = jobBytes (jobOf places curves method wants)
+
+      short : jobKnownBy places curves method wants ≡ done tt → length bytes ≤ 2310
+      short e =
+          written-short places curves method wants (length bytes) bytes
+          (unfold writeJob in (done-both _ _ e ∙ done-both _ _ (done-room (length bytes) (length bytes) (omega arith))))
+
+      writing : Refuses Figures (writeJob places curves method wants (length old))
+      writing =
+          unfold writeJob in then _ _ (job-by-told places curves wants method) (λ e. asked (length old) (length bytes) (done bytes) (omega (arith, short e)) tt)
+
+  pub order-tests-told : Told (orderAnswer places curves method wants old)
+  unfolding orderAnswer ordering
+  order-tests-told = told _ (λ n e. counted n (mapped-done length (ordering places curves method wants (length old)) n e)) (refuses-mapped Figures _ _ refusing)
+    where
+      counted : (n : ℕ) → (order : List ℕ) × (ordering places curves method wants (length old) ≡ done order) × (length order ≡ n) → n < 2 ^ 48
+      counted n x =
+          let a = both-done (jobKnownBy places curves method wants) _ (x .0) (x .1) in
+          let b = both-done (wantsFit places wants) _ (x .0) (a .1) in
+          let c = bind-done (room (length old) (length wants)) (λ _. done (orderBy method places wants)) (x .0) (b .1) in
+          omega (arith, x .2, ap length (done-same (c .2)), order-length (length wants) (orderBy method places wants) (order-complete method places wants), few-by places curves wants method (a .0))
+
+      refusing : Refuses Figures (ordering places curves method wants (length old))
+      refusing =
+          unfold ordering room in then _ _ (job-by-told places curves wants method)
+          (λ e. let l = few-by places curves wants method e in
+          refuses-both Figures _ _ (fit-told places wants l) (refuses-bind Figures _ _ (refuses-demand Figures _ 9 (length wants) (omega arith, omega arith)) (λ _ e. tt)))
+
+-- ---- plans
+
+module _ (places curves : ℕ) (wants order drops loads : List ℕ) where
+  check-few : (n : ℕ) → checking places curves wants order drops loads ≡ done n → n < 2 ^ 48
+  check-few n e =
+      let p = passed places curves wants order drops loads n e in
+      omega (
+        arith,
+        check-count places curves wants order drops loads n e,
+        loads-few places (allCurves curves) 0 (inOrder wants order) drops loads (p .is-job .places-bounds .1) (p .steps),
+        length-inOrder wants order,
+        order-length (length wants) order (p .is-order),
+        p .is-job .tests-bounds .1,
+      )
+
+  check-refuses : Refuses Figures (checking places curves wants order drops loads)
+  unfolding checking setsKnown
+  check-refuses =
+      then _ _ (job-told places curves wants)
+      (λ j. let l = few places curves wants j in
+      then (orderKnown (length wants) order) _ (order-told (length wants) [] order l (omega arith))
+      (λ o. refuses-both Figures _ _ (refuses-demand Figures _ 12 (min (min (length drops) (length loads)) (length wants)) (omega arith, omega arith))
+      (refuses-both Figures _ _ (steps-told places (allCurves curves) 0 0 (inOrder wants order) drops loads (omega (arith, length-inOrder wants order, order-long (length wants) order o))) tt)))
+
+  pub check-told : Told (checking places curves wants order drops loads)
+  check-told = told _ check-few check-refuses
+
+  pub write-plan-told : (old : List ℕ) → Told (writePlanAnswer places curves wants order drops loads old)
+  unfolding writePlanAnswer
+  write-plan-told old =
+      told _
+      (λ n e. let b = mapped-done length (writePlan places curves wants order drops loads (length old)) n e in
+      omega (arith, b .2, written-length places curves wants order drops loads (length old) (b .0) (b .1)))
+      (refuses-mapped Figures _ _ (unfold writePlan in refuses-bind Figures (checking places curves wants order drops loads) _ check-refuses
+      (λ m e. asked (length old) (length (planBytes order drops loads)) _ (omega (arith, passed-length places curves wants order drops loads m e)) tt)))
+
+module _ (places curves : ℕ) (wants order drops loads : List ℕ) where
+  -- a plan that was made passes the check
+  pub plan-told : Told (planAnswer places curves wants order drops loads)
+  plan-told =
+      told _
+      (λ n e. check-few places curves wants order _ _ n (demand3 places curves wants order drops loads .passes n e))
+      (unfold planAnswer planning room in refuses-mapped Figures _ _
+      (then _ _ (job-told places curves wants)
+      (λ j. let l = few places curves wants j in
+      refuses-both Figures _ _ (order-told (length wants) [] order l (omega arith))
+      (refuses-both Figures _ _ (fit-told places wants l)
+      (refuses-both Figures _ _ (refuses-demand Figures _ 9 (length wants) (omega arith, omega arith))
+      (refuses-bind Figures _ _ (refuses-demand Figures _ 9 (length wants) (omega arith, omega arith)) (λ _ e. tt)))))))
+
+module _ (curves tests : ℕ) (bs order drops loads : List ℕ) where
+  bytes-told : tests ≤ 256 → Refuses Figures (readPlanBytes curves tests bs)
+  bytes-told l = go (readPlanBytes curves tests bs) refl
+    where
+      go : (o : Outcome (List Placed)) → readPlanBytes curves tests bs ≡ o → Refuses Figures o
+      go (done ss) e = tt
+      go (refused k i) e =
+          (omega (arith, refuses (λ (k i : ℕ). k ≡ 11) (readPlanBytes curves tests bs) k i (plan-eleven curves tests bs) e), omega (arith, plan-figure curves tests bs k i e))
+
+  steps-few : (ss : List Placed) → planSteps curves tests bs ≡ done ss → (length ss ≡ tests) × (tests ≤ 256)
+  unfolding planSteps
+  steps-few ss e = let c = both-done (countsKnown curves tests) _ ss e in (plan-count curves tests bs ss (c .1), counts-bounds curves tests (c .0) .1)
+
+  pub read-plan-told : Told (readPlanAnswer curves tests bs order drops loads)
+  unfolding readPlanAnswer readPlan
+  read-plan-told =
+      told _
+      (λ n e.
+      let x = mapped-done length (readPlan curves tests bs (length order) (length drops) (length loads)) n e in
+      let s = bind-done (planSteps curves tests bs) _ (x .0) (x .1) in
+      let a = both-done (room (length order) tests) _ (x .0) (s .2) in
+      let b = both-done (room (length drops) tests) _ (x .0) (a .1) in
+      let c = both-done (room (length loads) tests) (done (s .0)) (x .0) (b .1) in
+      let f = steps-few (s .0) (s .1) in
+      omega (arith, x .2, ap length (done-same (c .1)), f .0, f .1))
+      (refuses-mapped Figures _ _ (refuses-bind Figures (planSteps curves tests bs) _ steps-refuse
+      (λ ss e. let l : tests < 2 ^ 48 = omega (arith, steps-few ss e .1) in
+      asked (length order) tests _ l (asked (length drops) tests _ l (asked (length loads) tests (done ss) l tt)))))
+    where
+      steps-refuse : Refuses Figures (planSteps curves tests bs)
+      steps-refuse = unfold planSteps in then _ _ (counts-told curves tests) (λ e. bytes-told (counts-bounds curves tests e .1))
+
+-- ---- texts
+
+text-told : (text : List ℕ) (lent : ℕ) → length text < 2 ^ 48 → Told (mapped length (_>>_ (room lent (length text)) (done text)))
+text-told text lent l =
+    told _
+    (λ n e.
+    let x = mapped-done length (_>>_ (room lent (length text)) (done text)) n e in
+    omega (arith, x .2, ap length (done-same (both-done (room lent (length text)) (done text) (x .0) (x .1) .1))))
+    (refuses-mapped Figures _ _ (asked lent (length text) (done text) l tt))
+
+pub sheet-told : (job old : List ℕ) → Bytes job → Told (sheetAnswer job old)
+unfolding sheetAnswer writeSheet
+sheet-told job old all = text-told (sheet job) (length old) (omega (arith, sheet-longest job all))
+
+pub audit-told : (job plan old : List ℕ) → Bytes job → Told (auditAnswer job plan old)
+unfolding auditAnswer writeAudit
+audit-told job plan old all = text-told (auditText (audit job plan)) (length old) (omega (arith, audit-longest job plan all))
