@@ -58,7 +58,8 @@ order-small : (n : ℕ) (before rest : List ℕ) → length before + length rest
 unfolding orderFrom
 order-small n before [] l = refuses-demand OfPlan _ 8 (length before) (at-position (length before) (omega arith))
 order-small n before (t ∷ ts) l =
-    refuses-both OfPlan _ _ (refuses-demand OfPlan _ 8 (length before) (at-position (length before) (omega arith))) (order-small n (before ++ (t ∷ [])) ts (omega (arith, length-append before (t ∷ []))))
+    refuses-both OfPlan _ _ (refuses-demand OfPlan _ 8 (length before) (at-position (length before) (omega arith)))
+    (order-small n (before ++ (t ∷ [])) ts (omega (arith, length-append before (t ∷ []))))
 
 steps-small : (places all i h : ℕ) (ws ds ls : List ℕ) → i + length ws ≤ 256 → Refuses OfPlan (checkSteps places all i h ws ds ls)
 unfolding checkSteps

@@ -49,7 +49,8 @@ returns : tie.Need-returns
 unfolding auditedOutcome auditText
 returns c =
     let a = c .before .before .before .before .before .before .before .before .before .before .before .before .args in
-    audit-written (now (a .job)) (now (a .plan)) (now (a .out)) (audited (Audited.JobRefused _) (c .before .before .before .before .before .before .r .given .1) (c .before .before .before .before .before .before .before .before .audit .ensures)) (c .before .before .write-refusal .ensures)
+    let e = audited (Audited.JobRefused _) (c .before .before .before .before .before .before .r .given .1) (c .before .before .before .before .before .before .before .before .audit .ensures) in
+    audit-written (now (a .job)) (now (a .plan)) (now (a .out)) e (c .before .before .write-refusal .ensures)
 
 same-length-2 : tie.Need-same-length-2
 same-length-2 c = search needs
@@ -58,7 +59,8 @@ returns-2 : tie.Need-returns-2
 unfolding auditedOutcome auditText text
 returns-2 c =
     let a = c .before .before .before .before .before .before .before .before .before .before .before .before .args in
-    audit-written (now (a .job)) (now (a .plan)) (now (a .out)) (audited (Audited.PlanRefused _) (c .before .before .before .before .before .before .r2 .given .1) (c .before .before .before .before .before .before .before .before .audit .ensures)) (c .before .before .write-refusal2 .ensures)
+    let e = audited (Audited.PlanRefused _) (c .before .before .before .before .before .before .r2 .given .1) (c .before .before .before .before .before .before .before .before .audit .ensures) in
+    audit-written (now (a .job)) (now (a .plan)) (now (a .out)) e (c .before .before .write-refusal2 .ensures)
 
 same-length-3 : tie.Need-same-length-3
 same-length-3 c = search needs
@@ -67,7 +69,8 @@ returns-3 : tie.Need-returns-3
 unfolding auditedOutcome
 returns-3 c =
     let a = c .before .before .before .before .before .before .before .before .before .before .before .args in
-    audit-written (now (a .job)) (now (a .plan)) (now (a .out)) (audited (Audited.Counts _ _) (c .before .before .before .before .before .loads .given .1) (c .before .before .before .before .before .before .before .audit .ensures)) (c .before .before .write-counts .ensures)
+    let e = audited (Audited.Counts _ _) (c .before .before .before .before .before .loads .given .1) (c .before .before .before .before .before .before .before .audit .ensures) in
+    audit-written (now (a .job)) (now (a .plan)) (now (a .out)) e (c .before .before .write-counts .ensures)
 
 pub write-audit-spec : {M : Type 1} → statement M
 write-audit-spec =
