@@ -29,11 +29,14 @@ ghost use Rattle.exports.specs.Numbers.{numbered, passing, headOf, group
 
 // ---- outcomes as numbers
 
+// 2^48
+const SCALE: u64 = 281_474_976_710_656;
+
 // A refusal: its number × 2^48 plus its figure.
 fn refusal(r: Refusal) -> u64
     ensures { λ n. ⌜ n ≡ numbered (refused (number r) (figure r)) ⌝ }
 {
-    curveplan::number_of(r) * 281_474_976_710_656 + curveplan::figure_of(r) % 281_474_976_710_656
+    curveplan::number_of(r) * SCALE + curveplan::figure_of(r) % SCALE
 }
 
 // A count is itself.
@@ -56,6 +59,7 @@ fn examined(e: Examined) -> u64
     }
 }
 
+// Truth is 1.
 fn truth(b: bool) -> u64
     ensures { λ n. ⌜ n ≡ digit b ⌝ }
 {
@@ -273,9 +277,9 @@ pub extern "C" fn curveplan_read_group(
     ensures set { λ _. ⌜ now (set .exit) ≡ leavesOne (groupAt (now (rest .entry)) at group curves) (now (set .entry)) ⌝ }
 {
     match job_bytes::set_bytes::read_group(rest, at, group, curves) {
-        GroupRead::Owed => 281_474_976_710_656,
-        GroupRead::Empty => 562_949_953_421_312,
-        GroupRead::Unknown => 844_424_930_131_968,
+        GroupRead::Owed => SCALE,
+        GroupRead::Empty => 2 * SCALE,
+        GroupRead::Unknown => 3 * SCALE,
         GroupRead::Curves(s) => {
             *set = s;
             0

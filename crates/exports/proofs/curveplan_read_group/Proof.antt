@@ -1,4 +1,4 @@
--- `exports::curveplan_read_group` meets its contract.
+-- `exports::curveplan_read_group` meets its contract, case by case.
 use mathlib.Core.Path.{refl}
 use borrow.Author.Needs.{needs}
 use Rattle.job.specs.Refusal.{mapped}
@@ -16,8 +16,14 @@ enum-told c = search needs
 enum-told-2 : tie.Need-enum-told-2
 enum-told-2 c = search needs
 
+mul-result : tie.Need-mul-result
+mul-result c = search needs
+
 enum-told-3 : tie.Need-enum-told-3
 enum-told-3 c = search needs
+
+mul-result-2 : tie.Need-mul-result-2
+mul-result-2 c = search needs
 
 enum-known-s : tie.Need-enum-known-s
 enum-known-s c = search needs
@@ -45,7 +51,9 @@ curveplan-read-group-spec =
     read-group-requires
     enum-told
     enum-told-2
+    mul-result
     enum-told-3
+    mul-result-2
     enum-known-s
     returns
     returns-2
