@@ -75,7 +75,7 @@ static inline unsigned curveplan_figure_16(uint64_t answer) { return (unsigned)(
 /* ---- step by step: archive libexports.a */
 
 /*
- * What the functions below answer: a count, below 2^48, or a refusal, which is its number × 2^48 plus its figure. (A sheet can have more than 65,536 bytes.)
+ * What the functions below answer: a count, below 2^48, or a refusal, which is its number × 2^48 plus its figure. It is not the rule of curveplan_plan.
  * They take less than 20 kB of stack.
  */
 static inline int curveplan_refused_48(uint64_t answer) { return (answer >> 48) != 0; }
