@@ -43,9 +43,10 @@ static void print_answer(const char *what, uint64_t answer, const char *of)
     }
 }
 
-/* What is lent is filled with this before a call that is refused; whether all of it still stands there. */
-static void fill(void *lent, size_t bytes) { memset(lent, 0xee, bytes); }
+/* Marks what is lent to a call that is refused .. */
+static void mark(void *lent, size_t bytes) { memset(lent, 0xee, bytes); }
 
+/* .. and says so if a byte changed. */
 static void print_change(const void *lent, size_t bytes)
 {
     for (size_t i = 0; i < bytes; i++) {
@@ -127,14 +128,14 @@ int main(void)
 
     print_text("sheet", curveplan_sheet(job_a, sizeof job_a, text, sizeof text), text);
 
-    fill(drops_back, sizeof drops_back);
-    fill(loads_back, sizeof loads_back);
+    mark(drops_back, sizeof drops_back);
+    mark(loads_back, sizeof loads_back);
     print_answer("a byte of the job missing", curveplan_read_job(job_a, sizeof job_a - 1, drops_back, TESTS).answer, "tests");
     answer = curveplan_plan_order(PLACES, CURVES, wants, TESTS, twice, TESTS, drops_back, TESTS, loads_back, TESTS);
     print_answer("a test twice in the order", answer, "loads");
     print_change(drops_back, sizeof drops_back);
     print_change(loads_back, sizeof loads_back);
-    fill(worse, sizeof worse);
+    mark(worse, sizeof worse);
     answer = curveplan_write_plan(PLACES, CURVES, wants, TESTS, order, TESTS, drops, TESTS, loads, TESTS, worse, plan_len - 1);
     print_answer("a byte of room missing", answer, "bytes");
     print_change(worse, sizeof worse);

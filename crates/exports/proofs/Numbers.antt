@@ -3,8 +3,9 @@ use mathlib.Core.Path.{_≡_, refl}
 use Prim.Native.Nat.{ℕ, _/_, _%_, _^_, _≤_, _<_}
 use native.Mathlib.Omega.{arith}
 use Rattle.job.specs.declared.Refusal.{Refusal}
-use Rattle.job.specs.Refusal.{done, refused, number}
-use Rattle.exports.specs.Numbers.{numbered}
+use Rattle.job.specs.declared.Head.{Head}
+use Rattle.job.specs.Refusal.{Outcome, done, refused, number, mapped}
+use Rattle.exports.specs.Numbers.{numbered, headOf}
 
 -- a refusal's number takes five bits
 pub number-small : (r : Refusal) → number r ≤ 31
@@ -27,3 +28,9 @@ pub numbered-tells : ((n : ℕ) → n < 2 ^ 48 → (numbered (done n) ≡ n) × 
     × ((k i : ℕ) → 1 ≤ k → i < 2 ^ 48 → (2 ^ 48 ≤ numbered (refused k i)) × (numbered (refused k i) / 2 ^ 48 ≡ k) × (numbered (refused k i) % 2 ^ 48 ≡ i))
 unfolding numbered
 numbered-tells = ((λ n l. (refl, omega arith)), (λ k i p l. (omega arith, omega arith, omega arith)))
+
+-- what is answered in a job's head is its number of tests by the same rule
+pub head-answer : (o : Outcome Head) → headOf o .answer ≡ numbered (mapped (λ h. h .tests) o)
+unfolding headOf mapped
+head-answer (done h) = refl
+head-answer (refused k i) = refl

@@ -7,16 +7,17 @@ use Rattle.job.specs.Refusal.{Outcome, done, refused, mapped}
 use Rattle.job_bytes.specs.SetBytes.{readGroup}
 use Rattle.exports.specs.declared.JobHead.{JobHead}
 
--- an outcome as one number: a count is itself, a refusal its number × 2^48 plus its figure (modulo 2^48)
+-- an outcome as one number: a count is itself, a refusal its number × 2^48 plus its figure (modulo 2^48, which none of `curveplan.h` reaches: `Told`).
+-- Document 01's own rule, × 65,536, is that of the one call (`curveplan`, `numberOf`); a sheet can have more bytes than that.
 unfoldable pub numbered : Outcome ℕ → ℕ
 numbered (done n) = n
 numbered (refused number figure) = number * 2 ^ 48 + figure % 2 ^ 48
 
--- .. where only the refusal is of interest: else 0
+-- 0 where nothing is refused, else the refusal
 abbrev pub passing : {A : Type 0} → Outcome A → ℕ
 passing o = numbered (mapped (λ _. 0) o)
 
--- a job's head: answered is the number of tests. Under a refusal the four numbers are 0
+-- a job's head, answered with its number of tests; under a refusal its four numbers are 0
 unfoldable pub headOf : Outcome Head → JobHead
 headOf (done h) = record { answer = numbered (done (h .tests)); places = h .places; curves = h .curves; tests = h .tests; method = h .method }
 headOf (refused k i) = record { answer = numbered (refused k i); places = 0; curves = 0; tests = 0; method = 0 }
