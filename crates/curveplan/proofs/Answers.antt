@@ -19,8 +19,8 @@ use Rattle.job.proofs.Faults.{Examines, faultless, faulty, Fails, each-examines
 use Rattle.job_bytes.proofs.SetRoundTrip.{Bytes}
 use Rattle.job_bytes.proofs.ReadExact.{ReadJob, read-exact}
 use Rattle.job_bytes.proofs.JobBounds.{figure-short}
-use Rattle.planning.specs.Plan.{loadCount}
-use Rattle.planning.specs.Planning.{ourPlan, checking}
+use Rattle.drive.specs.Steps.{dropsOf, loadsOf, curveCount, loadCount}
+use Rattle.planning.specs.Planning.{checking}
 use Rattle.planning.proofs.Demand3.{our-least}
 use Rattle.plan_bytes.specs.PlanBytes.{Placed, planSteps, writePlan}
 use Rattle.plan_bytes.proofs.PlanRoundTrip.{plan-back}
@@ -100,10 +100,9 @@ module _ (bs : List ℕ) (all : Bytes bs) (lent : ℕ) where
     pub in-order : map (λ s. s .step .test) steps ≡ orderOf job
     pub count : ℕ
     pub passes : checking (job .head .places) (job .head .curves) (job .wants) (orderOf job) (map (λ s. s .step .drops) steps) (map (λ s. s .step .loads) steps) ≡ done count
-    pub least : (drops loads : List ℕ) (m : ℕ) → checking (job .head .places) (job .head .curves) (job .wants) (orderOf job) drops loads ≡ done m → count ≤ loadCount loads
+    pub least : (drops loads : List ℕ) (m : ℕ) → checking (job .head .places) (job .head .curves) (job .wants) (orderOf job) drops loads ≡ done m → count ≤ curveCount loads
 
   pub call-planned : (plan : List ℕ) → jobToPlan bs lent ≡ done plan → WrittenPlan plan
-  unfolding ourPlan
   call-planned plan p = go (readBytes bs) refl
     where
       by-size : (j : Job) → readBytes bs ≡ done j
@@ -112,22 +111,22 @@ module _ (bs : List ℕ) (all : Bytes bs) (lent : ℕ) where
       by-size j e (inl f) =
           let r : ReadJob j = read-exact bs j all e in
           let c = checked j r f in
-          let w : writePlan (j .head .places) (j .head .curves) (j .wants) (orderOf j) (planOf j .drops) (planOf j .loads) lent ≡ done plan =
+          let w : writePlan (j .head .places) (j .head .curves) (j .wants) (orderOf j) (dropsOf (planOf j)) (loadsOf (planOf j)) lent ≡ done plan =
           written c ∙ sym (call-written bs j all e f lent) ∙ p in
-          let b = plan-back (j .head .places) (j .head .curves) (j .wants) (orderOf j) (planOf j .drops) (planOf j .loads) lent plan w in
+          let b = plan-back (j .head .places) (j .head .curves) (j .wants) (orderOf j) (dropsOf (planOf j)) (loadsOf (planOf j)) lent plan w in
           record {
             job = j;
             read = e;
             steps = b .0;
             reads-back = b .1;
             in-order = b .2;
-            count = loadCount (planOf j .loads);
+            count = loadCount (planOf j);
             passes = rw (b .3, b .4) c;
             least = λ ds ls m q. our-least (j .head .places) (j .head .curves) (j .wants) (orderOf j) ds ls m q;
           }
         where
-          written : checking (j .head .places) (j .head .curves) (j .wants) (orderOf j) (planOf j .drops) (planOf j .loads) ≡ done (loadCount (planOf j .loads))
-              → writePlan (j .head .places) (j .head .curves) (j .wants) (orderOf j) (planOf j .drops) (planOf j .loads) lent ≡ _>>_ (room lent (length (bytesOf j))) (done (bytesOf j))
+          written : checking (j .head .places) (j .head .curves) (j .wants) (orderOf j) (dropsOf (planOf j)) (loadsOf (planOf j)) ≡ done (loadCount (planOf j))
+              → writePlan (j .head .places) (j .head .curves) (j .wants) (orderOf j) (dropsOf (planOf j)) (loadsOf (planOf j)) lent ≡ _>>_ (room lent (length (bytesOf j))) (done (bytesOf j))
           written c = unfold writePlan _>>=_ in (rw c refl)
 
       go : (o : Outcome Job) → readBytes bs ≡ o → WrittenPlan plan

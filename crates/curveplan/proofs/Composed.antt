@@ -15,8 +15,9 @@ use Rattle.ordering.specs.Methods.{orderBy}
 use Rattle.ordering.specs.Ordering.{ordering}
 use Rattle.ordering.proofs.Complete.{order-complete}
 use Rattle.planning.specs.Order.{orderKnown}
-use Rattle.planning.specs.Plan.{loadCount}
-use Rattle.planning.specs.Planning.{Plan, ourPlan, planning, checking}
+use Rattle.drive.specs.declared.Sets.{Sets}
+use Rattle.drive.specs.Steps.{dropsOf, loadsOf, loadCount}
+use Rattle.planning.specs.Planning.{ourPlan, planning, checking}
 use Rattle.planning.proofs.OrderExact.{order-passes}
 use Rattle.planning.proofs.Demand3.{planning-done, our-check}
 use Rattle.plan_bytes.specs.PlanBytes.{planBytes, writePlan}
@@ -30,11 +31,11 @@ order-known method places wants = order-passes (length wants) (orderBy method pl
 abbrev pub orderOf : Job → List ℕ
 orderOf j = orderBy (j .head .method) (j .head .places) (j .wants)
 
-abbrev pub planOf : Job → Plan
+abbrev pub planOf : Job → List Sets
 planOf j = ourPlan (j .head .places) (j .head .curves) (j .wants) (orderOf j)
 
 abbrev pub bytesOf : Job → List ℕ
-bytesOf j = planBytes (orderOf j) (planOf j .drops) (planOf j .loads)
+bytesOf j = planBytes (orderOf j) (dropsOf (planOf j)) (loadsOf (planOf j))
 
 module _ (j : Job) (r : ReadJob j) where
   abbrev p : ℕ
@@ -65,8 +66,7 @@ module _ (j : Job) (r : ReadJob j) where
       planning-done p c (j .wants) (orderOf j) (j .head .tests) (j .head .tests) known (order-known m p (j .wants)) f
       (omega (arith, r .tests)) (omega (arith, r .tests))
 
-  pub checked : wantsFit p (j .wants) ≡ done tt → checking p c (j .wants) (orderOf j) (planOf j .drops) (planOf j .loads) ≡ done (loadCount (planOf j .loads))
-  unfolding ourPlan
+  pub checked : wantsFit p (j .wants) ≡ done tt → checking p c (j .wants) (orderOf j) (dropsOf (planOf j)) (loadsOf (planOf j)) ≡ done (loadCount (planOf j))
   checked f = our-check p c (j .wants) (orderOf j) known (order-known m p (j .wants)) f
 
 -- ---- the whole, of bytes that read
@@ -74,7 +74,7 @@ module _ (bs : List ℕ) (j : Job) (all : Bytes bs) (read : readBytes bs ≡ don
   is : ReadJob j
   is = read-exact bs j all read
 
-  pub job-planned : wantsFit (j .head .places) (j .wants) ≡ done tt → planJob bs ≡ done (record { job = j; order = orderOf j; plan = planOf j })
+  pub job-planned : wantsFit (j .head .places) (j .wants) ≡ done tt → planJob bs ≡ done (record { job = j; order = orderOf j; drops = dropsOf (planOf j); loads = loadsOf (planOf j) })
   unfolding planJob orderAndPlan planInOrder _>>=_
   job-planned f = rw (read, ordered j is f, planned j is f) refl
 

@@ -3,7 +3,7 @@ use mathlib.Core.Path.{_≡_, refl, sym, ap, _∙_}
 use mathlib.Core.List.{List}
 use Prim.Native.Nat.{ℕ, _≤_}
 use native.Mathlib.Omega.{arith}
-use lib.ListN.{length, take, drop}
+use lib.ListN.{length, take, drop, length-map}
 use lib.Seq.{take-at}
 use Rattle.job.specs.declared.Head.{Head}
 use Rattle.job.specs.declared.Refusal.{Refusal}
@@ -16,9 +16,10 @@ use Rattle.job.proofs.Orders.{order-length}
 use Rattle.ordering.specs.Methods.{orderBy}
 use Rattle.ordering.specs.Ordering.{ordering, orderAnswer, orderList}
 use Rattle.ordering.proofs.Complete.{order-complete}
-use Rattle.planning.specs.Plan.{loadCount}
-use Rattle.planning.specs.Planning.{Plan, planning, planAnswer, planDrops, planLoads}
-use Rattle.planning.proofs.Demand3.{plan-lengths}
+use Rattle.drive.specs.declared.Sets.{Sets}
+use Rattle.drive.specs.Steps.{dropsOf, loadsOf, curveCount, loadCount}
+use Rattle.planning.specs.Planning.{planning, planAnswer, planDrops, planLoads}
+use Rattle.planning.proofs.Demand3.{plan-length}
 use Rattle.plan_bytes.specs.PlanBytes.{writePlan, writePlanAnswer, writePlanBuffer}
 use Rattle.curveplan.specs.Call.{Planned, planInOrder, orderAndPlan, planJob, written}
 use Rattle.curveplan.specs.Stages.{Gives, GivesPlan}
@@ -40,13 +41,13 @@ planOutcome h ws order = planInOrder (record { head = h; wants = ws }) order
 
 -- the plan that planning left in the first entries
 pub record Given (h : Head) (ws order : List ℕ) (n : ℕ) (D′ L′ : List ℕ) : Type 0 where
-  pub is : planOutcome h ws order ≡ done (record { job = record { head = h; wants = ws }; order = order; plan = record { drops = take (h .tests) D′; loads = take (h .tests) L′ } })
+  pub is : planOutcome h ws order ≡ done (record { job = record { head = h; wants = ws }; order = order; drops = take (h .tests) D′; loads = take (h .tests) L′ })
   pub drops : length (take (h .tests) D′) ≡ h .tests
   pub loads : length (take (h .tests) L′) ≡ h .tests
-  pub count : n ≡ loadCount (take (h .tests) L′)
+  pub count : n ≡ curveCount (take (h .tests) L′)
 
 module _ (h : Head) (ws order D L : List ℕ) (tests : length ws ≡ h .tests) (few : h .tests ≤ 256) (d : length D ≡ 256) (l : length L ≡ 256) where
-  abbrev here : Outcome Plan
+  abbrev here : Outcome (List Sets)
   here = planning (h .places) (h .curves) ws order (h .tests) (h .tests)
 
   there : planning (h .places) (h .curves) ws order (length D) (length L) ≡ here
@@ -55,29 +56,31 @@ module _ (h : Head) (ws order D L : List ℕ) (tests : length ws ≡ h .tests) (
   pub plan-refused : (k i : ℕ) → planAnswer (h .places) (h .curves) ws order D L ≡ refused k i → planOutcome h ws order ≡ refused k i
   unfolding planAnswer planInOrder _>>=_
   plan-refused k i e =
-      let r : here ≡ refused k i = sym there ∙ mapped-refused (λ p. loadCount (p .loads)) (planning (h .places) (h .curves) ws order (length D) (length L)) k i e in
+      let r : here ≡ refused k i = sym there ∙ mapped-refused loadCount (planning (h .places) (h .curves) ws order (length D) (length L)) k i e in
       rw r refl
 
-  given : (n : ℕ) (D′ L′ : List ℕ) (q : Plan) → here ≡ done q → loadCount (q .loads) ≡ n
+  given : (n : ℕ) (D′ L′ : List ℕ) (q : List Sets) → here ≡ done q → loadCount q ≡ n
       → D′ ≡ planDrops (h .places) (h .curves) ws order D L → L′ ≡ planLoads (h .places) (h .curves) ws order D L → Given h ws order n D′ L′
   unfolding planDrops planLoads planInOrder _>>=_
   given n D′ L′ q e c ed el =
       let a = there ∙ e in
-      let long = plan-lengths (h .places) (h .curves) ws order (length D) (length L) q a in
-      let pd : take (h .tests) D′ ≡ q .drops = ap (take (h .tests)) (ed ∙ leaves-done (λ p. p .drops) (planning (h .places) (h .curves) ws order (length D) (length L)) q D a) ∙ front (q .drops) D (h .tests) (long .0 ∙ tests) in
-      let pl : take (h .tests) L′ ≡ q .loads = ap (take (h .tests)) (el ∙ leaves-done (λ p. p .loads) (planning (h .places) (h .curves) ws order (length D) (length L)) q L a) ∙ front (q .loads) L (h .tests) (long .1 ∙ tests) in
+      let long = plan-length (h .places) (h .curves) ws order (length D) (length L) q a in
+      let nd = length-map q (λ s. s .drops) ∙ long ∙ tests in
+      let nl = length-map q (λ s. s .loads) ∙ long ∙ tests in
+      let pd : take (h .tests) D′ ≡ dropsOf q = ap (take (h .tests)) (ed ∙ leaves-done dropsOf (planning (h .places) (h .curves) ws order (length D) (length L)) q D a) ∙ front (dropsOf q) D (h .tests) nd in
+      let pl : take (h .tests) L′ ≡ loadsOf q = ap (take (h .tests)) (el ∙ leaves-done loadsOf (planning (h .places) (h .curves) ws order (length D) (length L)) q L a) ∙ front (loadsOf q) L (h .tests) nl in
       record {
         is = rw (pd, pl, e) refl;
-        drops = ap length pd ∙ long .0 ∙ tests;
-        loads = ap length pl ∙ long .1 ∙ tests;
-        count = sym c ∙ ap loadCount (sym pl);
+        drops = ap length pd ∙ nd;
+        loads = ap length pl ∙ nl;
+        count = sym c ∙ ap curveCount (sym pl);
       }
 
   pub plan-given : (n : ℕ) (D′ L′ : List ℕ) → planAnswer (h .places) (h .curves) ws order D L ≡ done n
       → D′ ≡ planDrops (h .places) (h .curves) ws order D L → L′ ≡ planLoads (h .places) (h .curves) ws order D L → Given h ws order n D′ L′
   unfolding planAnswer
   plan-given n D′ L′ e ed el =
-      let m = mapped-done (λ p. loadCount (p .loads)) (planning (h .places) (h .curves) ws order (length D) (length L)) n e in
+      let m = mapped-done loadCount (planning (h .places) (h .curves) ws order (length D) (length L)) n e in
       given n D′ L′ (m .0) (sym there ∙ m .1) (m .2) ed el
 
 -- ---- ordering before that
@@ -140,7 +143,7 @@ module _ {planned : Outcome Planned} {old : List ℕ} where
   gives-refusal r e = rw e (record { answers = refl; holds = refl })
 
   module _ {answer : Outcome ℕ} {new : List ℕ} where
-    pub gives-plan : (h : Head) (ws order drops loads : List ℕ) → planned ≡ done (record { job = record { head = h; wants = ws }; order = order; plan = record { drops = drops; loads = loads } })
+    pub gives-plan : (h : Head) (ws order drops loads : List ℕ) → planned ≡ done (record { job = record { head = h; wants = ws }; order = order; drops = drops; loads = loads })
         → answer ≡ writePlanAnswer (h .places) (h .curves) ws order drops loads old → new ≡ writePlanBuffer (h .places) (h .curves) ws order drops loads old → GivesPlan planned old answer new
     unfolding writePlanAnswer writePlanBuffer written _>>=_
     gives-plan h ws order drops loads e a b = rw e (record { answers = a; holds = b })

@@ -6,11 +6,16 @@ use Rattle.job.specs.declared.Head.{Head}
 use Rattle.job.specs.Refusal.{Outcome, done, refused}
 use Rattle.job_bytes.specs.JobBytes.{Job, jobOf, readJob, writeJob}
 use Rattle.ordering.specs.Ordering.{ordering}
-use Rattle.planning.specs.Planning.{Plan, planning, planAnswer, planDrops, planLoads, checking}
+use Rattle.drive.specs.declared.Sets.{Sets}
+use Rattle.planning.specs.Planning.{planning, planAnswer, planDrops, planLoads, checking}
 use Rattle.plan_bytes.specs.PlanBytes.{planSteps, readPlan, writePlan, stepAt}
 use Rattle.curveplan.specs.Call.{jobToPlan, callAnswer}
 use lib.ListN.{replicate}
 use Rattle.report.specs.Report.{text, sheet}
+
+-- a step's drops and loads
+abbrev pub sets : ℕ → ℕ → Sets
+sets d l = record { drops = d; loads = l }
 
 pub record Others : Type 0 where
   -- No bytes: 1 at 0. `01`: 1 at 1. `01 00`, `01 08`, `01 41`: 2 at 1. `00`: 5 at 0.
@@ -28,7 +33,7 @@ pub record Others : Type 0 where
   pub e10 : checking 2 4 (0 ∷ 0 ∷ 0 ∷ []) (0 ∷ 1 ∷ 1 ∷ []) (0 ∷ 0 ∷ 0 ∷ []) (0 ∷ 0 ∷ 0 ∷ []) ≡ refused 8 2
   pub e11 : checking 2 4 (0 ∷ 0 ∷ 0 ∷ []) (0 ∷ 1 ∷ []) (0 ∷ 0 ∷ 0 ∷ []) (0 ∷ 0 ∷ 0 ∷ []) ≡ refused 8 2
   -- the sheet of job A
-  pub e12 : planning 2 4 (3 ∷ 6 ∷ 3 ∷ 8 ∷ []) (0 ∷ 1 ∷ 2 ∷ 3 ∷ []) 4 4 ≡ done (record { drops = (0 ∷ 1 ∷ 4 ∷ 1 ∷ []); loads = (3 ∷ 4 ∷ 1 ∷ 8 ∷ []) })
+  pub e12 : planning 2 4 (3 ∷ 6 ∷ 3 ∷ 8 ∷ []) (0 ∷ 1 ∷ 2 ∷ 3 ∷ []) 4 4 ≡ done (sets 0 3 ∷ sets 1 4 ∷ sets 4 1 ∷ sets 1 8 ∷ [])
   pub e13 : planAnswer 2 4 (3 ∷ 6 ∷ 3 ∷ 8 ∷ []) (0 ∷ 1 ∷ 2 ∷ 3 ∷ []) (0 ∷ 0 ∷ 0 ∷ 0 ∷ []) (0 ∷ 0 ∷ 0 ∷ 0 ∷ 0 ∷ []) ≡ done 5
   pub e14 : planLoads 2 4 (3 ∷ 6 ∷ 3 ∷ 8 ∷ []) (0 ∷ 1 ∷ 2 ∷ 3 ∷ []) (0 ∷ 0 ∷ 0 ∷ 0 ∷ []) (9 ∷ 9 ∷ 9 ∷ 9 ∷ 9 ∷ []) ≡ (3 ∷ 4 ∷ 1 ∷ 8 ∷ 9 ∷ [])
   pub e15 : readJob (0x07 ∷ 0x02 ∷ 0x04 ∷ 0x04 ∷ 0x00 ∷ 0x01 ∷ 0x03 ∷ 0x01 ∷ 0x06 ∷ 0x01 ∷ 0x03 ∷ 0x01 ∷ 0x08 ∷ []) 4 ≡ done (jobOf 2 4 0 (3 ∷ 6 ∷ 3 ∷ 8 ∷ []))

@@ -6,7 +6,7 @@ use Rattle.job.specs.declared.Head.{Head}
 use Rattle.job.specs.Refusal.{Outcome, done, refused}
 use Rattle.job_bytes.specs.JobBytes.{Job, jobOf, readJob, writeJob}
 use Rattle.ordering.specs.Ordering.{ordering}
-use Rattle.planning.specs.Planning.{Plan, planning, planAnswer, planDrops, planLoads, checking}
+use Rattle.planning.specs.Planning.{planning, planAnswer, planDrops, planLoads, checking}
 use Rattle.plan_bytes.specs.PlanBytes.{planSteps, readPlan, writePlan, stepAt}
 use Rattle.curveplan.specs.Call.{jobToPlan, callAnswer}
 

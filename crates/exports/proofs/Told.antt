@@ -24,9 +24,15 @@ use Rattle.ordering.specs.Methods.{orderBy}
 use Rattle.ordering.specs.Ordering.{ordering, orderAnswer}
 use Rattle.ordering.proofs.Complete.{order-complete}
 use Rattle.planning.specs.Order.{orderFrom, orderKnown}
-use Rattle.planning.specs.Plan.{inOrder, held, checkSteps, loadCount}
-use Rattle.planning.specs.Planning.{setsKnown, checking, planning, planAnswer}
-use Rattle.planning.proofs.CheckExact.{StepsOk, passed, check-count}
+use Rattle.drive.specs.declared.Checked.{Checked}
+use Rattle.drive.specs.declared.Checked.the-variants.{Ends, Breaks}
+use Rattle.drive.specs.Steps.{Move, moves}
+use Rattle.drive.specs.Check.{checkFrom}
+use Rattle.drive.proofs.CheckExact.{fault-within}
+use Rattle.drive.proofs.Moves.{length-moves}
+use Rattle.planning.specs.Plan.{inOrder}
+use Rattle.planning.specs.Planning.{setsKnown, checkedOutcome, checking, planning, planAnswer}
+use Rattle.planning.proofs.CheckExact.{passed, check-few}
 use Rattle.planning.proofs.Demand3.{demand3}
 use Rattle.planning.proofs.Sequence.{order-long}
 use Rattle.planning.proofs.Turns.{length-inOrder}
@@ -122,25 +128,13 @@ order-told n before (t ∷ ts) l m =
     let b = both (ltb (length before) n) (ltb t n) (a .0) in
     order-told n (before ++ (t ∷ [])) ts l (omega (arith, length-append before (t ∷ []), ltb-true (length before) n (b .0))))
 
-steps-told : (places all i h : ℕ) (ws ds ls : List ℕ) → i + length ws ≤ 256 → Refuses Figures (checkSteps places all i h ws ds ls)
-unfolding checkSteps
-steps-told places all i h [] [] [] l = tt
-steps-told places all i h [] [] (x ∷ ls) l = (omega arith, omega arith)
-steps-told places all i h [] (d ∷ ds) ls l = (omega arith, omega arith)
-steps-told places all i h (w ∷ ws) [] ls l = (omega arith, omega arith)
-steps-told places all i h (w ∷ ws) (d ∷ ds) [] l = (omega arith, omega arith)
-steps-told places all i h (w ∷ ws) (d ∷ ds) (x ∷ ls) l =
-    refuses-both Figures _ _ (refuses-demand Figures _ 12 i (omega arith, omega arith)) (steps-told places all (suc i) (held h d x) ws ds ls (omega arith))
-
-loads-few : (p all h : ℕ) (ws ds ls : List ℕ) → p ≤ 64 → StepsOk p all h ws ds ls → loadCount ls ≤ 64 * length ws
-unfolding loadCount
-loads-few p all h [] [] [] m s = omega arith
-loads-few p all h [] [] (l ∷ ls) m s = absurd s
-loads-few p all h [] (d ∷ ds) ls m s = absurd s
-loads-few p all h (w ∷ ws) [] ls m s = absurd s
-loads-few p all h (w ∷ ws) (d ∷ ds) [] m s = absurd s
-loads-few p all h (w ∷ ws) (d ∷ ds) (l ∷ ls) m s =
-    omega (arith, size-mono l (held h d l) (⊆-∪-r (h ∖ d) l), s .0 .room, loads-few p all (held h d l) ws ds ls m (s .1))
+steps-told : (places all : ℕ) (ms : List Move) → length ms ≤ 256 → Refuses Figures (checkedOutcome (checkFrom places all 0 0 ms))
+unfolding checkedOutcome
+steps-told places all ms l = go (checkFrom places all 0 0 ms) refl
+  where
+    go : (c : Checked) → checkFrom places all 0 0 ms ≡ c → Refuses Figures (checkedOutcome c)
+    go (Ends h) e = tt
+    go (Breaks i) e = (omega arith, omega (arith, fault-within places all 0 0 ms i e))
 
 -- ---- jobs and orders
 
@@ -212,17 +206,9 @@ module _ (places curves method : ℕ) (wants old : List ℕ) where
 -- ---- plans
 
 module _ (places curves : ℕ) (wants order drops loads : List ℕ) where
-  check-few : (n : ℕ) → checking places curves wants order drops loads ≡ done n → n < 2 ^ 48
-  check-few n e =
-      let p = passed places curves wants order drops loads n e in
-      omega (
-        arith,
-        check-count places curves wants order drops loads n e,
-        loads-few places (allCurves curves) 0 (inOrder wants order) drops loads (p .is-job .places-bounds .1) (p .steps),
-        length-inOrder wants order,
-        order-length (length wants) order (p .is-order),
-        p .is-job .tests-bounds .1,
-      )
+  few-loads : (n : ℕ) → checking places curves wants order drops loads ≡ done n → n < 2 ^ 48
+  few-loads n e =
+      omega (arith, check-few places curves wants order drops loads n e, passed places curves wants order drops loads n e .is-job .tests-bounds .1)
 
   check-refuses : Refuses Figures (checking places curves wants order drops loads)
   unfolding checking setsKnown
@@ -231,10 +217,11 @@ module _ (places curves : ℕ) (wants order drops loads : List ℕ) where
       (λ j. let l = few places curves wants j in
       then (orderKnown (length wants) order) _ (order-told (length wants) [] order l (omega arith))
       (λ o. refuses-both Figures _ _ (refuses-demand Figures _ 12 (min (min (length drops) (length loads)) (length wants)) (omega arith, omega arith))
-      (refuses-both Figures _ _ (steps-told places (allCurves curves) 0 0 (inOrder wants order) drops loads (omega (arith, length-inOrder wants order, order-long (length wants) order o))) tt)))
+      (refuses-both Figures _ _ (steps-told places (allCurves curves) (moves (inOrder wants order) drops loads)
+      (omega (arith, length-moves (inOrder wants order) drops loads, length-inOrder wants order, order-long (length wants) order o))) tt)))
 
   pub check-told : Told (checking places curves wants order drops loads)
-  check-told = told _ check-few check-refuses
+  check-told = told _ few-loads check-refuses
 
   pub write-plan-told : (old : List ℕ) → Told (writePlanAnswer places curves wants order drops loads old)
   unfolding writePlanAnswer
@@ -250,7 +237,7 @@ module _ (places curves : ℕ) (wants order drops loads : List ℕ) where
   pub plan-told : Told (planAnswer places curves wants order drops loads)
   plan-told =
       told _
-      (λ n e. check-few places curves wants order _ _ n (demand3 places curves wants order drops loads .passes n e))
+      (λ n e. few-loads places curves wants order _ _ n (demand3 places curves wants order drops loads .passes n e))
       (unfold planAnswer planning room in refuses-mapped Figures _ _
       (then _ _ (job-told places curves wants)
       (λ j. let l = few places curves wants j in

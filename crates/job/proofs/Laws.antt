@@ -16,16 +16,7 @@ use Rattle.job.specs.declared.JobRead.{JobRead}
 use Rattle.job.specs.declared.Counted.{Counted}
 use Rattle.job.specs.Refusal.{Outcome, done, refused, number, figure, readOutcome, countOutcome, _>>=_, _>>_, mapped, demand, room, leaves, overwritten}
 use Rattle.job.specs.Handed.{each}
-
--- ---- two tests together
-
-pub both : (x y : Bool) → x && y ≡ true → (x ≡ true) × (y ≡ true)
-both true y e = (refl, e)
-both false y e = absurd (false≢true e)
-
-pub and : (x y : Bool) → x ≡ true → y ≡ true → x && y ≡ true
-and true y p q = q
-and false y p q = p
+pub use Rattle.lists.proofs.Tests.{both, and}
 
 -- ---- outcomes
 

@@ -2,14 +2,12 @@
 --     Laws          outcomes that are done, and outcomes that are refused
 --     Examination   the examination of handed numbers, test by test
 --     Refuses       which refusals can come out
---     Chosen        what is chosen by `Choice`
 --     Orders        counting in lists of tests
 --     JobExact      what passes the examination is a job, and a job passes
 --     Faults        a refusal names the first position with a fault
 pub mod Laws
 pub mod Examination
 pub mod Refuses
-pub mod Chosen
 pub mod Orders
 pub mod JobExact
 pub mod Faults

@@ -2,10 +2,10 @@
 -- A call ends in a value, or in a refusal with its number and its figure.
 use mathlib.Core.Path.{_≡_, refl}
 use mathlib.Core.Bool.{Bool, true, false}
-use mathlib.Core.List.{List, [], _∷_, _++_}
+use mathlib.Core.List.{List}
 use Prim.Native.Nat.{ℕ, zero, suc}
-use lib.ListN.{length, drop}
 use lib.Dec.{leb}
+unfoldable pub use Rattle.lists.specs.Lent.{overwritten}
 use Rattle.job.specs.declared.Refusal.{Refusal}
 use Rattle.job.specs.declared.Refusal.the-variants.{Truncated, BadHeader, EmptyGroup, UnknownCurve, NoTests, TrailingBytes, TestTooLarge, BadOrder, BufferTooSmall, BadArgument, BadPlanBytes, PlanRejected}
 use Rattle.job.specs.declared.Head.{Head}
@@ -91,10 +91,6 @@ unfoldable pub room : ℕ → ℕ → Outcome (Unit {0})
 room lent needed = demand (leb needed lent) 9 needed
 
 -- ---- "Nothing lent changes under a refusal; on success entries beyond the result keep their contents."
-
--- the result, and the old entries beyond it
-unfoldable pub overwritten : List ℕ → List ℕ → List ℕ
-overwritten new old = new ++ drop (length new) old
 
 -- what a lent list holds afterwards, of which the call makes the outcome
 unfoldable pub leaves : Outcome (List ℕ) → List ℕ → List ℕ

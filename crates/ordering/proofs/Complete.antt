@@ -9,8 +9,8 @@ use lib.ListN.{length, getD, length-append}
 use lib.Dec.{ltb}
 use borrow.Author.Tests.{ltb-true, ltb-false, lt-ltb, le-ltb}
 use Rattle.bitset.proofs.Element.{sum}
-use Rattle.job.specs.Choice.{Found, nobody, found}
-use Rattle.job.proofs.Chosen.{Ranked, BestOf, best-of}
+use Rattle.lists.specs.Choice.{Found, nobody, found}
+use Rattle.lists.proofs.Chosen.{Ranked, BestOf, best-of}
 use Rattle.job.specs.Handed.{listed}
 use Rattle.job.specs.Words.{count, IsOrder}
 use Rattle.job.proofs.Orders.{count-reverse, unlisted, uncounted, sum-count, Part, part-one, part-none, whole-part}

@@ -15,7 +15,7 @@ use borrow.Author.Tests.{lt-ltb, le-ltb}
 use Rattle.bitset.specs.Set.{_∪_, size}
 use Rattle.bitset.proofs.Bits.{size-empty}
 use Rattle.bitset.proofs.Laws.{∪-assoc, ⊆-∪, size-mono}
-use Rattle.job.specs.Choice.{Found, nobody, found}
+use Rattle.lists.specs.Choice.{Found, nobody, found}
 use Rattle.packages.specs.Tests.{wantsOf, common}
 use Rattle.packages.specs.Packages.{Pair, shared, bestPair, closest, curvesOf, Try, try, pickTry, _orMore_, runFrom, head, tail, flipped}
 use Rattle.packages.proofs.Rows.{at, chosen, chosen-none, chosen-some, score, score-none, score-some, rowTo, pair-start, pair-take, pair-stay}

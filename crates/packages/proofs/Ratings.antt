@@ -6,7 +6,7 @@ use Prim.Native.Nat.{ℕ, zero, suc, _+_, _-_, _/_, _%_, _≤_, _<_}
 use native.Mathlib.Omega.{arith}
 use native.Mathlib.Decide.{decLt, ℕ-discrete}
 use lib.ListN.{length, getD, set}
-use Rattle.job.specs.Choice.{nobody}
+use Rattle.lists.specs.Choice.{nobody}
 use Rattle.packages.specs.Packages.{bestPair}
 use Rattle.packages.specs.Ratings.{Rated}
 use Rattle.packages.proofs.Rows.{chosen, chosen-none, chosen-some, score, score-none, score-some, rowTo, pair-start, pair-take, pair-stay}

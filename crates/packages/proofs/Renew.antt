@@ -10,7 +10,7 @@ use lib.Seq.{take-append-le, getD-take, getD-drop, getD-append-add, getD-set-sam
 use lib.Dec.{ltb, eqb}
 use borrow.Author.Tests.{lt-ltb, le-ltb, eq-eqb, ne-eqb}
 use Rattle.bitset.specs.Set.{_∪_}
-use Rattle.job.specs.Choice.{Found, nobody, found}
+use Rattle.lists.specs.Choice.{Found, nobody, found}
 use Rattle.packages.specs.Tests.{common}
 use Rattle.packages.specs.Packages.{Pair}
 use Rattle.packages.specs.Ratings.{Rated}

@@ -10,7 +10,7 @@ use lib.Seq.{set-split, split-at, getD-set-other}
 use lib.Dec.{leb, ltb}
 use borrow.Author.Tests.{ltb-true}
 use Rattle.bitset.specs.Set.{size}
-use Rattle.job.specs.Choice.{Found, nobody, found, keep, choose, bestOf}
+use Rattle.lists.specs.Choice.{Found, nobody, found, keep, choose, bestOf}
 use Rattle.job.specs.Words.{count, IsOrder}
 use Rattle.job.proofs.Orders.{count-append, count-reverse}
 use Rattle.packages.specs.Tests.{upTo}

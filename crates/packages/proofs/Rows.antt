@@ -11,8 +11,8 @@ use lib.Dec.{ltb}
 use borrow.Author.Tests.{lt-ltb, le-ltb, ltb-true, ltb-false}
 use Rattle.bitset.specs.Set.{_∪_, _∩_, size}
 use Rattle.bitset.proofs.Laws.{size-le, size-∩-le}
-use Rattle.job.specs.Choice.{Found, nobody, found, keep, choose, bestOf}
-use Rattle.job.proofs.Chosen.{passed, best-skip}
+use Rattle.lists.specs.Choice.{Found, nobody, found, keep, choose, bestOf}
+use Rattle.lists.proofs.Chosen.{passed, best-skip}
 use Rattle.packages.specs.Tests.{common}
 use Rattle.packages.specs.Packages.{Pair, shared, eligible, closer, bestPair}
 

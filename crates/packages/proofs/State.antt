@@ -13,7 +13,7 @@ use Rattle.bitset.specs.Set.{_∪_, size}
 use Rattle.bitset.proofs.Bits.{same-by-bits, bit-∪, bit-empty}
 use Rattle.bitset.proofs.Laws.{∪-assoc, ∪-lt, size-le}
 use Rattle.job.specs.Refusal.{overwritten}
-use Rattle.job.specs.Choice.{Found, nobody, found, keep, choose, bestOf}
+use Rattle.lists.specs.Choice.{Found, nobody, found, keep, choose, bestOf}
 use Rattle.packages.specs.Tests.{wantsOf, upTo}
 use Rattle.packages.specs.Packages.{flat, Pair, curvesOf, eligible, closer, bestPair, without, joined, onPair, closest, joinAll, Try, try, pickTry, _orMore_, flipped, firstRound, secondRound, packages}
 use Rattle.packages.proofs.Rounds.{Good, InOrder, length-joined, closest-good, singles}

@@ -5,7 +5,7 @@ use mathlib.Core.List.{List}
 use Prim.Native.Nat.{ℕ, _+_, _/_, _%_, _≤_, _<_}
 use lib.ListN.{length, getD}
 use Rattle.bitset.specs.Set.{_∪_}
-use Rattle.job.specs.Choice.{nobody, found, bestOf}
+use Rattle.lists.specs.Choice.{nobody, found, bestOf}
 use Rattle.packages.specs.Packages.{shared, eligible, closer}
 
 -- With the curves cs of the packages: what the rating r says of the package k. No pair of it and a package behind it that fits has as many common curves as

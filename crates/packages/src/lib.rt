@@ -10,7 +10,7 @@ ghost use lib.ListN.{length, getD, take, drop, set};
 ghost use lib.Dec.{leb, ltb, eqb};
 ghost use Rattle.bitset.specs.Set.{_∪_, size};
 ghost use Rattle.job.specs.Refusal.{overwritten};
-ghost use Rattle.job.specs.Choice.{nobody, keep, bestOf};
+ghost use Rattle.lists.specs.Choice.{nobody, keep, bestOf};
 ghost use Rattle.packages.specs.Tests.{common, upTo, entered};
 ghost use Rattle.packages.specs.Packages.{eligible, closer, bestPair, flat, head, tail, flipped, packages};
 ghost use Rattle.packages.specs.Ratings.{Rated};

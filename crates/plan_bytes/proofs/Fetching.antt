@@ -7,7 +7,7 @@ use lib.Dec.{ltb}
 use lib.ListN.{length, drop, length-drop}
 use Rattle.bitset.specs.Set.{_∪_, bit, inside}
 use Rattle.job.specs.Refusal.{Outcome, done, refused, demand}
-use Rattle.job.specs.Choice.{found}
+use Rattle.lists.specs.Choice.{found}
 use Rattle.job.specs.Handed.{between, allCurves, countsKnown}
 use Rattle.job_bytes.specs.SetBytes.{Got, got, byteAt, readGroup, readGroups}
 use Rattle.job.proofs.Laws.{done-same, refused≢done, both-done, bind-done}

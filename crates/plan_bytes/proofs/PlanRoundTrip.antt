@@ -18,15 +18,16 @@ use Rattle.job.proofs.Laws.{both, and, done-same, refused≢done, demand-true, 
 use Rattle.job_bytes.proofs.SetRoundTrip.{set-back, Bytes, SetRead, set-read}
 use Rattle.job_bytes.proofs.JobRoundTrip.{end-none}
 use native.Mathlib.Decide.{decLe}
-use Rattle.bitset.proofs.Bits.{bit-empty}
+use Rattle.bitset.proofs.Parts.{_≼_, ≼-inside, empty-≼}
 use Rattle.job.proofs.JobExact.{inside-below}
 use Rattle.job.specs.Words.{count, IsOrder}
 use Rattle.job.proofs.Orders.{one-same, order-length}
 use Rattle.job.specs.Handed.{someTests, curvesKnown, testsKnown}
-use Rattle.planning.specs.Plan.{Step, steps, inOrder, held, loadCount}
+use Rattle.drive.specs.Steps.{moves}
+use Rattle.drive.proofs.CheckExact.{AllKept, first-kept, moved-≼}
+use Rattle.planning.specs.Plan.{Step, steps, inOrder}
 use Rattle.planning.specs.Planning.{checking}
-use Rattle.planning.proofs.Fewest.{_≼_, ≼-inside, held-≼}
-use Rattle.planning.proofs.CheckExact.{StepsOk, Passes, passed}
+use Rattle.planning.proofs.CheckExact.{Passes, passed}
 use Rattle.plan_bytes.specs.PlanBytes.{setField, stepBytes, stepsBytes, planBytes, Placed, readSet, readStep, readSteps, readPlanBytes, planSteps, writePlan}
 use Rattle.job_bytes.proofs.Encoding.{stands-le}
 use Rattle.plan_bytes.proofs.Writing.{one}
@@ -166,20 +167,21 @@ module _ (places curves : ℕ) (wants : List ℕ) where
   below : (s : ℕ) → s ≼ allCurves curves → s < 2 ^ curves
   below s h = inside-below curves s (≼-inside s (allCurves curves) h)
 
-  in-range : (few : curves ≤ 64) (h : ℕ) (ts ds ls : List ℕ) → h ≼ allCurves curves → ((t : ℕ) → length wants ≤ t → count t ts ≡ 0) → StepsOk places (allCurves curves) h (inOrder wants ts) ds ls
-      → InRange curves (length wants) few ts ds ls
-  unfolding inOrder count
-  in-range few h [] [] [] s own ok = tt
-  in-range few h [] [] (l ∷ ls) s own ok = absurd ok
-  in-range few h [] (d ∷ ds) ls s own ok = absurd ok
-  in-range few h (t ∷ ts) [] ls s own ok = absurd ok
-  in-range few h (t ∷ ts) (d ∷ ds) [] s own ok = absurd ok
-  in-range few h (t ∷ ts) (d ∷ ds) (l ∷ ls) s own ok = (
-    test (decLe (length wants) t),
-    below d (λ c. omega (arith, ok .0 .drops c, s c)),
-    below l (ok .0 .known),
-    in-range few (held h d l) ts ds ls (held-≼ h d l (allCurves curves) s (ok .0 .known)) (λ u e. omega (arith, own u e)) (ok .1),
-  )
+  in-range : (few : curves ≤ 64) (h : ℕ) (ts ds ls : List ℕ) → length ds ≡ length ts → length ls ≡ length ts → h ≼ allCurves curves → ((t : ℕ) → length wants ≤ t → count t ts ≡ 0)
+      → AllKept places (allCurves curves) h (moves (inOrder wants ts) ds ls) → InRange curves (length wants) few ts ds ls
+  unfolding inOrder count moves
+  in-range few h [] [] [] nd nl s own ok = tt
+  in-range few h [] [] (l ∷ ls) nd nl s own ok = absurd (omega arith)
+  in-range few h [] (d ∷ ds) ls nd nl s own ok = absurd (omega arith)
+  in-range few h (t ∷ ts) [] ls nd nl s own ok = absurd (omega arith)
+  in-range few h (t ∷ ts) (d ∷ ds) [] nd nl s own ok = absurd (omega arith)
+  in-range few h (t ∷ ts) (d ∷ ds) (l ∷ ls) nd nl s own ok =
+      let k = first-kept ok in (
+        test (decLe (length wants) t),
+        below d (λ c. omega (arith, k .0 .drops c, s c)),
+        below l (k .0 .known),
+        in-range few _ ts ds ls (omega arith) (omega arith) (moved-≼ h (record { drops = d; loads = l }) (allCurves curves) s (k .0 .known)) (λ u e. omega (arith, own u e)) (k .1),
+      )
     where
       test : Dec (length wants ≤ t) → t < length wants
       test (yes e) = absurd (omega (arith, own t e, one-same t))
@@ -194,12 +196,14 @@ plan-back places curves wants order drops loads lent bytes e =
     let b = both-done (room lent (length (planBytes order drops loads))) (done (planBytes order drops loads)) bytes (a .2) in
     let p : Passes places curves wants order drops loads = passed places curves wants order drops loads (a .0) (a .1) in
     let few = p .is-job .curves-bounds .1 in
-    let r : InRange curves (length wants) few order drops loads = in-range places curves wants few 0 order drops loads (λ c. omega (arith, bit-empty c)) (p .is-order .only) (p .steps) in
+    let long = order-length (length wants) order (p .is-order) in
+    let r : InRange curves (length wants) few order drops loads =
+    in-range places curves wants few 0 order drops loads (p .drop-sets ∙ sym long) (p .load-sets ∙ sym long) (empty-≼ (allCurves curves)) (p .is-order .only) (p .steps) in
     let ss = stepsOf curves (length wants) few 0 order drops loads in (
       ss,
       done-both _ _ (counts-done curves (length wants) (p .is-job .curves-bounds) (p .is-job .tests-bounds))
           ∙ ap (readPlanBytes curves (length wants)) (sym (done-same (b .1)))
-          ∙ bytes-back curves (length wants) few order drops loads (order-length (length wants) order (p .is-order)) r,
+          ∙ bytes-back curves (length wants) few order drops loads long r,
       of-tests curves (length wants) few 0 order drops loads r,
       of-drops curves (length wants) few 0 order drops loads r,
       of-loads curves (length wants) few 0 order drops loads r,

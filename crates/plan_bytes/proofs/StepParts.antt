@@ -9,7 +9,7 @@ use lib.ListN.{length, drop, length-append}
 use lib.Seq.{drop-drop, drop-at, take-at}
 use Rattle.bitset.specs.Set.{bit}
 use Rattle.job.specs.Refusal.{done, demand}
-use Rattle.job.specs.Choice.{nobody, found}
+use Rattle.lists.specs.Choice.{nobody, found}
 use Rattle.job.specs.Handed.{between, countsKnown}
 use Rattle.job_bytes.specs.SetBytes.{Got, got, byteAt}
 use Rattle.job_bytes.specs.JobBytes.{atEnd}

@@ -5,7 +5,7 @@ use lib.ListN.{length, getD, take, drop}
 use lib.Dec.{ltb}
 use Rattle.bitset.specs.Set.{bit}
 use Rattle.job.specs.Refusal.{Outcome, done, refused, _>>=_, _>>_, mapped, demand, room, leaves}
-use Rattle.job.specs.Choice.{Found, nobody, found}
+use Rattle.lists.specs.Choice.{Found, nobody, found}
 use Rattle.job.specs.Handed.{between, countsKnown}
 use Rattle.job_bytes.specs.SetBytes.{stands, setBytes, Got, got, byteAt, readGroups}
 use Rattle.job_bytes.specs.JobBytes.{atEnd}

@@ -5,31 +5,32 @@ use Prim.Native.Nat.{ℕ, _+_, _≤_, _<_}
 use native.Mathlib.Omega.{arith}
 use native.Mathlib.Decide.{decLe}
 use lib.Dec.{leb}
-use lib.ListN.{length, getD, take, drop, List·getD-eq-default}
-use lib.Seq.{take-at}
-use borrow.Author.Tests.{leb-true, leb-false, lt-leb, eq-eqb}
+use lib.ListN.{length, getD, take, length-map, List·getD-eq-default}
+use borrow.Author.Tests.{leb-true, leb-false, lt-leb}
 use Rattle.bitset.specs.Set.{size, inside}
 use Rattle.bitset.proofs.Bits.{bit-empty, size-empty}
-use Rattle.job.specs.Refusal.{Outcome, done, refused, _>>=_, _>>_, mapped, room, leaves, overwritten}
+use Rattle.bitset.proofs.Parts.{_≼_, inside-≼, empty-≼}
+use Rattle.job.specs.Refusal.{Outcome, done, refused, _>>=_, _>>_, mapped, room, leaves}
 use Rattle.job.specs.Handed.{allCurves, each, numbersKnown, wantsKnown, wantsFit, jobKnown}
-use Rattle.job.proofs.Laws.{and, refused≢done, demand-done, both-done, done-both, each-true, mapped-done, mapped-refused, leaves-done, leaves-refused, done-room}
-use Rattle.planning.specs.Order.{orderKnown}
-use Rattle.planning.specs.Plan.{inOrder, loadCount, checkSteps, furthest, dropSets, loadSets}
-use Rattle.planning.specs.Planning.{Plan, ourPlan, planning, planned, planAnswer, planDrops, planLoads, setsKnown, checking}
-use Rattle.planning.proofs.Fewest.{_≼_, AllFit, inside-≼}
-use Rattle.planning.proofs.Best.{furthest-passes, furthest-is-fewest}
-use Rattle.planning.specs.Demand3.{Demand3}
+use Rattle.job.proofs.Laws.{refused≢done, both-done, done-both, each-true, mapped-done, mapped-refused, leaves-done, leaves-refused, done-room}
 use Rattle.job.proofs.Orders.{order-length}
 use Rattle.job.proofs.JobExact.{job-exact}
 use Rattle.job.proofs.Faults.{Examines, faultless, faulty, Fails, each-examines}
+use Rattle.lists.proofs.Overwritten.{front}
+use Rattle.drive.specs.declared.Sets.{Sets}
+use Rattle.drive.specs.Steps.{dropsOf, loadsOf, curveCount, loadCount}
+use Rattle.drive.specs.Plan.{furthest, planFrom}
+use Rattle.drive.proofs.Moves.{wants-of, loads-of, length-plan}
+use Rattle.drive.proofs.Holdings.{AllFit}
+use Rattle.drive.proofs.Best.{furthest-passes, furthest-is-fewest}
+use Rattle.planning.specs.Order.{orderKnown}
+use Rattle.planning.specs.Plan.{inOrder}
+use Rattle.planning.specs.Planning.{ourPlan, planning, planned, planAnswer, planDrops, planLoads, checking}
+use Rattle.planning.specs.Demand3.{Demand3}
 use Rattle.planning.proofs.OrderExact.{order-passes, passed-order}
-use Rattle.planning.proofs.Turns.{length-inOrder, length-dropSets, length-loadSets}
-
--- ---- lengths
-
-take-overwritten : (n : ℕ) (new old : List ℕ) → length new ≡ n → take n (overwritten new old) ≡ new
-unfolding overwritten
-take-overwritten n new old e = take-at new (drop (length new) old) n e
+use Rattle.planning.proofs.Turns.{length-inOrder}
+use Rattle.planning.proofs.Sequence.{sets-known, check-ended}
+use Rattle.planning.proofs.CheckExact.{passed}
 
 -- ---- planning that is done
 
@@ -51,16 +52,13 @@ module _ (places curves : ℕ) (wants order : List ℕ) where
         leb-true (size (getD wants t 0)) places (each-true (λ w. leb (size w) places) 7 0 wants f t (omega arith)),
       )
 
-  empty-≼ : 0 ≼ allCurves curves
-  empty-≼ c = omega (arith, bit-empty c)
-
-  record Given (lentDrops lentLoads : ℕ) (plan : Plan) : Type 0 where
+  record Given (lentDrops lentLoads : ℕ) (plan : List Sets) : Type 0 where
     job : jobKnown places curves wants ≡ done tt
     ord : orderKnown (length wants) order ≡ done tt
     fit : wantsFit places wants ≡ done tt
     is : ourPlan places curves wants order ≡ plan
 
-  given : (ld ll : ℕ) (plan : Plan) → planning places curves wants order ld ll ≡ done plan → Given ld ll plan
+  given : (ld ll : ℕ) (plan : List Sets) → planning places curves wants order ld ll ≡ done plan → Given ld ll plan
   unfolding planning _>>=_
   given ld ll plan e =
       let a = both-done (jobKnown places curves wants) _ plan e in
@@ -90,31 +88,35 @@ module _ (places curves : ℕ) (wants order : List ℕ) where
   steps-length o = length-inOrder wants order ∙ order-length (length wants) order (passed-order (length wants) order o)
 
   -- a plan has an entry for each test
-  pub plan-lengths : (ld ll : ℕ) (plan : Plan) → planning places curves wants order ld ll ≡ done plan → (length (plan .drops) ≡ length wants) × (length (plan .loads) ≡ length wants)
+  pub plan-length : (ld ll : ℕ) (plan : List Sets) → planning places curves wants order ld ll ≡ done plan → length plan ≡ length wants
   unfolding ourPlan
-  plan-lengths ld ll plan e =
+  plan-length ld ll plan e =
       let g = given ld ll plan e in
-      rw (sym (g .is)) (length-dropSets (furthest curves) places 0 steps ∙ steps-length (g .ord), length-loadSets (furthest curves) places 0 steps ∙ steps-length (g .ord))
+      ap length (sym (g .is)) ∙ length-plan (furthest curves) places 0 steps ∙ steps-length (g .ord)
+
+  abbrev ourSets : List Sets
+  ourSets = planFrom (furthest curves) places 0 steps
+
+  sets-length : orderKnown (length wants) order ≡ done tt → length ourSets ≡ length wants
+  sets-length o = length-plan (furthest curves) places 0 steps ∙ steps-length o
 
   pub our-check : jobKnown places curves wants ≡ done tt → orderKnown (length wants) order ≡ done tt → wantsFit places wants ≡ done tt
-      → checking places curves wants order (dropSets (furthest curves) places 0 steps) (loadSets (furthest curves) places 0 steps) ≡ done (loadCount (loadSets (furthest curves) places 0 steps))
-  unfolding checking setsKnown
+      → checking places curves wants order (dropsOf (ourPlan places curves wants order)) (loadsOf (ourPlan places curves wants order)) ≡ done (loadCount (ourPlan places curves wants order))
+  unfolding ourPlan
   our-check j o f =
-      done-both _ _ j ∙ done-both _ _ o
-      ∙ done-both _ _ (demand-done _ 12 _ (and _ _ (eq-eqb _ (length wants) (length-dropSets (furthest curves) places 0 steps ∙ steps-length o)) (eq-eqb _ (length wants) (length-loadSets (furthest curves) places 0 steps ∙ steps-length o))))
-      ∙ done-both _ _ (furthest-passes curves places 0 0 steps empty-≼ (steps-fit (known-wants j) f order))
+      check-ended places curves wants order (dropsOf ourSets) (loadsOf ourSets) j o
+      (sets-known (length wants) _ _ (length-map ourSets (λ s. s .drops) ∙ sets-length o) (length-map ourSets (λ s. s .loads) ∙ sets-length o)) _
+      (furthest-passes curves places 0 (empty-≼ (allCurves curves)) steps (steps-fit (known-wants j) f order) 0)
 
-  pub our-least : (ds ls : List ℕ) (m : ℕ) → checking places curves wants order ds ls ≡ done m → loadCount (loadSets (furthest curves) places 0 steps) ≤ loadCount ls
-  unfolding checking
+  pub our-least : (ds ls : List ℕ) (m : ℕ) → checking places curves wants order ds ls ≡ done m → loadCount (ourPlan places curves wants order) ≤ curveCount ls
+  unfolding ourPlan
   our-least ds ls m e =
-      let a = both-done (jobKnown places curves wants) _ m e in
-      let b = both-done (orderKnown (length wants) order) _ m (a .1) in
-      let c = both-done (setsKnown (length wants) (length ds) (length ls)) _ m (b .1) in
-      let d = both-done (checkSteps places (allCurves curves) 0 0 steps ds ls) (done (loadCount ls)) m (c .1) in
-      furthest-is-fewest curves places 0 0 steps empty-≼ ds ls (d .0)
+      let p = passed places curves wants order ds ls m e in
+      let f = furthest-is-fewest curves places 0 (empty-≼ (allCurves curves)) (p .steps) in
+      rw (wants-of steps ds ls, loads-of steps ds ls (p .load-sets ∙ sym (length-inOrder wants order ∙ order-length (length wants) order (p .is-order)))) at f
 
   module _ (drops loads : List ℕ) where
-    abbrev plan : Outcome Plan
+    abbrev plan : Outcome (List Sets)
     plan = planned places curves wants order drops loads
 
     -- the plan that was given is ours
@@ -122,23 +124,25 @@ module _ (places curves : ℕ) (wants order : List ℕ) where
       job : jobKnown places curves wants ≡ done tt
       ord : orderKnown (length wants) order ≡ done tt
       fit : wantsFit places wants ≡ done tt
-      total : n ≡ loadCount (loadSets (furthest curves) places 0 steps)
-      first-drops : take (length wants) (planDrops places curves wants order drops loads) ≡ dropSets (furthest curves) places 0 steps
-      first-loads : take (length wants) (planLoads places curves wants order drops loads) ≡ loadSets (furthest curves) places 0 steps
+      total : n ≡ loadCount (ourPlan places curves wants order)
+      first-drops : take (length wants) (planDrops places curves wants order drops loads) ≡ dropsOf (ourPlan places curves wants order)
+      first-loads : take (length wants) (planLoads places curves wants order drops loads) ≡ loadsOf (ourPlan places curves wants order)
 
     ours : (n : ℕ) → planAnswer places curves wants order drops loads ≡ done n → Ours n
-    unfolding planAnswer planDrops planLoads ourPlan
+    unfolding planAnswer planDrops planLoads
     ours n e =
-        let m = mapped-done (λ p. loadCount (p .loads)) plan n e in
+        let m = mapped-done loadCount plan n e in
         let g = given (length drops) (length loads) (m .0) (m .1) in
         let d : plan ≡ done (ourPlan places curves wants order) = m .1 ∙ ap done (sym (g .is)) in
+        let q = ourPlan places curves wants order in
+        let long = plan-length (length drops) (length loads) q d in
         record {
           job = g .job;
           ord = g .ord;
           fit = g .fit;
-          total = sym (m .2) ∙ ap (λ (p : Plan). loadCount (p .loads)) (sym (g .is));
-          first-drops = ap (take (length wants)) (leaves-done (λ p. p .drops) plan _ drops d) ∙ take-overwritten (length wants) _ drops (length-dropSets (furthest curves) places 0 steps ∙ steps-length (g .ord));
-          first-loads = ap (take (length wants)) (leaves-done (λ p. p .loads) plan _ loads d) ∙ take-overwritten (length wants) _ loads (length-loadSets (furthest curves) places 0 steps ∙ steps-length (g .ord));
+          total = sym (m .2) ∙ ap loadCount (sym (g .is));
+          first-drops = ap (take (length wants)) (leaves-done dropsOf plan q drops d) ∙ front (dropsOf q) drops (length wants) (length-map q (λ s. s .drops) ∙ long);
+          first-loads = ap (take (length wants)) (leaves-done loadsOf plan q loads d) ∙ front (loadsOf q) loads (length wants) (length-map q (λ s. s .loads) ∙ long);
         }
 
     too-large : (k i : ℕ) → jobKnown places curves wants ≡ done tt → orderKnown (length wants) order ≡ done tt
@@ -148,15 +152,15 @@ module _ (places curves : ℕ) (wants order : List ℕ) where
     too-large k i j o hd hl e = go (each-examines (λ w. leb (size w) places) 7 0 wants)
       where
         r : plan ≡ refused k i
-        r = mapped-refused (λ p. loadCount (p .loads)) plan k i e
+        r = mapped-refused loadCount plan k i e
 
-        kept : (f : Plan → List ℕ) (old : List ℕ) → leaves (mapped f plan) old ≡ old
+        kept : (f : List Sets → List ℕ) (old : List ℕ) → leaves (mapped f plan) old ≡ old
         kept f old = leaves-refused f plan k i old r
 
         go : Examines (Fails (λ w. leb (size w) places) wants) 7 0 (each (λ w. leb (size w) places) 7 0 wants) → (t : ℕ) × (t < length wants) × (places < size (getD wants t 0))
         go (faultless f none) =
             absurd (refused≢done (sym r ∙ planning-done (length drops) (length loads) j o f
-            (omega (arith, ap length (kept (λ p. p .drops) drops))) (omega (arith, ap length (kept (λ p. p .loads) loads)))))
+            (omega (arith, ap length (kept dropsOf drops))) (omega (arith, ap length (kept loadsOf loads)))))
         go (faulty t f first) = (t, first .0 .0, leb-false (size (getD wants t 0)) places (first .0 .1))
 
     missing-too-large : jobKnown places curves wants ≡ done tt → orderKnown (length wants) order ≡ done tt
@@ -164,8 +168,7 @@ module _ (places curves : ℕ) (wants order : List ℕ) where
     unfolding planAnswer wantsFit
     missing-too-large j o t l h = go (each-examines (λ w. leb (size w) places) 7 0 wants)
       where
-        go : Examines (Fails (λ w. leb (size w) places) wants) 7 0 (each (λ w. leb (size w) places) 7 0 wants)
-            → (k : ℕ) × (i : ℕ) × (mapped (λ p. loadCount (p .loads)) plan ≡ refused k i)
+        go : Examines (Fails (λ w. leb (size w) places) wants) 7 0 (each (λ w. leb (size w) places) 7 0 wants) → (k : ℕ) × (i : ℕ) × (mapped loadCount plan ≡ refused k i)
         go (faultless f none) = absurd (none t (l, lt-leb (size (getD wants t 0)) places h))
         go (faulty s f first) = (7, 0 + s, rw (planning-refused (length drops) (length loads) 7 (0 + s) j o f) (unfold mapped in refl))
 
@@ -173,9 +176,9 @@ module _ (places curves : ℕ) (wants order : List ℕ) where
     pub demand3 : Demand3 places curves wants order (planAnswer places curves wants order drops loads) (planDrops places curves wants order drops loads) (planLoads places curves wants order drops loads)
     demand3 =
         record {
-          ours = λ n e. let g : Ours n = ours n e in rw (g .first-drops, g .first-loads) (unfold ourPlan in refl);
+          ours = λ n e. let g : Ours n = ours n e in (g .first-drops, g .first-loads);
           passes = λ n e. let g : Ours n = ours n e in rw (g .first-drops, g .first-loads, g .total) (our-check (g .job) (g .ord) (g .fit));
-          counted = λ n e. let g : Ours n = ours n e in g .total ∙ ap loadCount (sym (g .first-loads));
+          counted = λ n e. let g : Ours n = ours n e in g .total ∙ ap curveCount (sym (g .first-loads));
           least = λ n e ds ls m c. omega (arith, ours n e .total, our-least ds ls m c);
           missing = λ j o hd hl. (
             (λ x. too-large (x .0) (x .1) (job-exact places curves wants .1 j) (order-passes (length wants) order o) hd hl (x .2)),

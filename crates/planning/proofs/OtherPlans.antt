@@ -6,11 +6,15 @@ use Prim.Native.Nat.{ℕ}
 use lib.Count.{ones}
 use Rattle.bitset.specs.Set.{inside}
 use Rattle.job.specs.Refusal.{Outcome, done, refused, _>>=_, _>>_, mapped, demand, room}
-use Rattle.job.specs.Choice.{keep, choose, bestOf}
+use Rattle.lists.specs.Choice.{keep, choose, bestOf}
 use Rattle.job.specs.Handed.{between, listed, each, someTests, placesKnown, curvesKnown, testsKnown, wantsKnown, wantsFit, numbersKnown, jobKnown}
 use Rattle.planning.specs.Order.{orderFrom}
-use Rattle.planning.specs.Plan.{inOrder, loadCount, stepPasses, checkSteps, later, useBy, nextUse, further, furthest, andThen, victims, dropsFor, heldAfter, dropSets, loadSets}
-use Rattle.planning.specs.Planning.{Plan, ourPlan, planning, planAnswer, setsKnown, checking}
+use Rattle.drive.specs.Steps.{dropsOf, loadsOf, moves, curveCount}
+use Rattle.drive.specs.Check.{orBreaks, keeps, checkFrom}
+use Rattle.drive.specs.Uses.{later, useBy, nextUse, further}
+use Rattle.drive.specs.Plan.{furthest, andThen, victims, dropsFor, planFrom}
+use Rattle.planning.specs.Plan.{inOrder}
+use Rattle.planning.specs.Planning.{ourPlan, planning, planAnswer, setsKnown, checkedOutcome, checking}
 
 abbrev wants : List ℕ
 wants = 1 ∷ 2 ∷ 1 ∷ []
@@ -23,7 +27,8 @@ checked drops loads = checking 2 3 wants asListed drops loads
 
 pub record OtherPlans : Type 0 where
   -- our plan: two loads
-  ours : _≡_ {A = Plan} (ourPlan 2 3 wants asListed) (record { drops = 0 ∷ 0 ∷ 0 ∷ []; loads = 1 ∷ 2 ∷ 0 ∷ [] })
+  our-drops : dropsOf (ourPlan 2 3 wants asListed) ≡ 0 ∷ 0 ∷ 0 ∷ []
+  our-loads : loadsOf (ourPlan 2 3 wants asListed) ≡ 1 ∷ 2 ∷ 0 ∷ []
   ours-passes : checked (0 ∷ 0 ∷ 0 ∷ []) (1 ∷ 2 ∷ 0 ∷ []) ≡ done 2
   ours-counts : planAnswer 2 3 wants asListed (0 ∷ 0 ∷ 0 ∷ []) (0 ∷ 0 ∷ 0 ∷ []) ≡ done 2
   -- curve 1 is loaded early, in step 0
@@ -45,10 +50,11 @@ pub record OtherPlans : Type 0 where
   surplus : checked (0 ∷ 0 ∷ 0 ∷ []) (1 ∷ 2 ∷ 0 ∷ 0 ∷ []) ≡ refused 12 3
 
 pub other-plans : OtherPlans
-unfolding ones inside _>>=_ _>>_ mapped demand room keep choose bestOf between listed each someTests placesKnown curvesKnown testsKnown wantsKnown wantsFit numbersKnown jobKnown orderFrom inOrder loadCount stepPasses checkSteps later useBy nextUse further furthest andThen victims dropsFor heldAfter dropSets loadSets ourPlan planning planAnswer setsKnown checking
+unfolding ones inside _>>=_ _>>_ mapped demand room keep choose bestOf between listed each someTests placesKnown curvesKnown testsKnown wantsKnown wantsFit numbersKnown jobKnown orderFrom inOrder moves curveCount orBreaks keeps checkFrom later useBy nextUse further furthest andThen victims dropsFor planFrom ourPlan planning planAnswer setsKnown checkedOutcome checking
 other-plans =
     record {
-      ours = refl;
+      our-drops = refl;
+      our-loads = refl;
       ours-passes = refl;
       ours-counts = refl;
       early = refl;

@@ -1,25 +1,28 @@
 -- What planning answers and leaves, behind each of its examinations and where all pass.
-use mathlib.Core.Path.{_≡_, refl, sym, _∙_}
+use mathlib.Core.Path.{_≡_, refl, sym, ap, _∙_}
 use mathlib.Core.List.{List}
 use Prim.Native.Nat.{ℕ, _^_, _≤_, _<_}
 use native.Mathlib.Omega.{arith}
-use lib.Dec.{leb}
 use lib.Pow.{pow-pos}
-use lib.ListN.{length, getD}
-use borrow.Author.Tests.{leb-true, lt-leb}
-use Rattle.bitset.specs.Set.{size}
+use lib.ListN.{length, getD, take, length-map}
+use lib.Seq.{sets}
+use borrow.Author.Tests.{lt-leb}
 use Rattle.job.specs.Refusal.{Outcome, done, refused, _>>=_, _>>_, mapped, demand, room, overwritten}
 use Rattle.job.specs.Handed.{jobKnown, wantsFit}
-use Rattle.job.proofs.Laws.{done-both, done-room, each-true, leaves-done, leaves-refused}
+use Rattle.job.proofs.Laws.{done-both, done-room, leaves-done, leaves-refused}
 use Rattle.job.proofs.Examination.{refused-both}
+use Rattle.lists.proofs.Overwritten.{front, sets-whole}
+use Rattle.drive.specs.declared.Sets.{Sets}
+use Rattle.drive.specs.Steps.{dropsOf, loadsOf, curveCount, loadCount}
+use Rattle.drive.specs.Plan.{furthest, planFrom}
+use Rattle.drive.proofs.Width.{plan-width}
 use Rattle.planning.specs.Order.{orderKnown}
-use Rattle.planning.specs.Plan.{inOrder, loadCount, furthest, dropSets, loadSets}
+use Rattle.planning.specs.Plan.{inOrder}
 use Rattle.planning.specs.Planning.{ourPlan, planning, planned, planAnswer, planDrops, planLoads}
 use Rattle.planning.specs.Demand3.{Demand3}
 use Rattle.planning.proofs.Turns.{length-inOrder, wants-at}
-use Rattle.planning.proofs.Sequence.{job-of, order-long, order-below}
-use Rattle.planning.proofs.Width.{plan-width}
-use Rattle.planning.proofs.Demand3.{demand3, planning-done, planning-refused}
+use Rattle.planning.proofs.Sequence.{job-of, order-below}
+use Rattle.planning.proofs.Demand3.{demand3, planning-done, planning-refused, plan-length}
 
 module _ (places curves : ℕ) (wants order drops loads : List ℕ) where
   -- the contract of planning, for an answer and what the lent lists hold afterwards
@@ -35,14 +38,12 @@ module _ (places curves : ℕ) (wants order drops loads : List ℕ) where
   pub refused-contract : (k i : ℕ) → planned places curves wants order drops loads ≡ refused k i → Contract (refused k i) drops loads
   unfolding planAnswer planDrops planLoads mapped
   refused-contract k i e =
-      contract (refused k i) drops loads (rw e refl) (sym (leaves-refused (λ p. p .drops) _ k i drops e)) (sym (leaves-refused (λ p. p .loads) _ k i loads e))
+      contract (refused k i) drops loads (rw e refl) (sym (leaves-refused dropsOf _ k i drops e)) (sym (leaves-refused loadsOf _ k i loads e))
 
   done-contract : planned places curves wants order drops loads ≡ done (ourPlan places curves wants order)
-      → Contract (done (loadCount (loadSets (furthest curves) places 0 (inOrder wants order))))
-      (overwritten (dropSets (furthest curves) places 0 (inOrder wants order)) drops) (overwritten (loadSets (furthest curves) places 0 (inOrder wants order)) loads)
-  unfolding planAnswer planDrops planLoads mapped ourPlan
-  done-contract e =
-      contract _ _ _ (rw e refl) (sym (leaves-done (λ p. p .drops) _ _ drops e)) (sym (leaves-done (λ p. p .loads) _ _ loads e))
+      → let plan = ourPlan places curves wants order in Contract (done (loadCount plan)) (overwritten (dropsOf plan) drops) (overwritten (loadsOf plan) loads)
+  unfolding planAnswer planDrops planLoads mapped
+  done-contract e = contract _ _ _ (rw e refl) (sym (leaves-done dropsOf _ _ drops e)) (sym (leaves-done loadsOf _ _ loads e))
 
   -- ---- the examinations in turn
   pub plan-job : (k i : ℕ) → jobKnown places curves wants ≡ refused k i → planned places curves wants order drops loads ≡ refused k i
@@ -79,28 +80,25 @@ module _ (places curves : ℕ) (wants order drops loads : List ℕ) where
             let l : i < length order = omega (arith, length-inOrder wants order) in
             (wants-at wants order i l, order-below (length wants) order ord i l)
 
-        step-sizes : (i : ℕ) → i < length (inOrder wants order) → size (getD (inOrder wants order) i 0) ≤ places
-        unfolding wantsFit
-        step-sizes i h =
-            let s = step-of i h in
-            rw (s .0) (leb-true _ places (each-true (λ w. leb (size w) places) 7 0 wants fit (getD order i 0) (s .1)))
-
         step-curves : (i : ℕ) → i < length (inOrder wants order) → getD (inOrder wants order) i 0 < 2 ^ curves
         step-curves i h = let s = step-of i h in rw (s .0) (job-of places curves wants job .own-curves (getD order i 0) (s .1))
 
-        same-plan : (dropSets (furthest 64) places 0 (inOrder wants order) ≡ dropSets (furthest curves) places 0 (inOrder wants order))
-            × (loadSets (furthest 64) places 0 (inOrder wants order) ≡ loadSets (furthest curves) places 0 (inOrder wants order))
-        same-plan = plan-width curves 64 (job-of places curves wants job .curves-bounds .1) places 0 (inOrder wants order) (pow-pos curves) step-curves
+        -- the plan that is made for steps that want ws is ours
+        our-plan : (ws : List ℕ) → ws ≡ inOrder wants order → planFrom (furthest 64) places 0 ws ≡ ourPlan places curves wants order
+        unfolding ourPlan
+        our-plan ws e = rw e (plan-width curves 64 (job-of places curves wants job .curves-bounds .1) places 0 (inOrder wants order) (pow-pos curves) step-curves)
 
-        -- what the steps are asked, where they want ws
-        pub steps-asked : length wants ≤ length drops → length wants ≤ length loads → (ws : List ℕ) → ws ≡ inOrder wants order
-            → (length ws ≤ 256) × ((length ws ≤ length drops) × ((length ws ≤ length loads) × ((i : ℕ) → i < length ws → size (getD ws i 0) ≤ places)))
-        steps-asked hd hl ws e =
-            let long : length (inOrder wants order) ≡ length wants = length-inOrder wants order ∙ order-long (length wants) order ord in
-            rw e (omega (arith, job-of places curves wants job .tests-bounds), (omega arith, (omega arith, step-sizes)))
-
-        -- ---- the whole: what was written for steps that want ws
+        -- ---- the whole: what was written for steps that want ws, and counted in the first entries of the loads
         pub steps-contract : length wants ≤ length drops → length wants ≤ length loads → (ws : List ℕ) (count : ℕ) (ds ls : List ℕ) → ws ≡ inOrder wants order
-            → count ≡ loadCount (loadSets (furthest 64) places 0 ws) → ds ≡ overwritten (dropSets (furthest 64) places 0 ws) drops → ls ≡ overwritten (loadSets (furthest 64) places 0 ws) loads
+            → ds ≡ sets drops 0 (dropsOf (planFrom (furthest 64) places 0 ws)) → ls ≡ sets loads 0 (loadsOf (planFrom (furthest 64) places 0 ws)) → count ≡ curveCount (take (length wants) ls)
             → Contract (done count) ds ls
-        steps-contract hd hl ws count ds ls e c d l = rw (c, d, l, e, same-plan .0, same-plan .1) (done-contract (plan-done hd hl))
+        steps-contract hd hl ws count ds ls e d l c =
+            let plan = ourPlan places curves wants order in
+            let p = plan-done hd hl in
+            let long : length plan ≡ length wants = plan-length places curves wants order (length drops) (length loads) plan p in
+            let nd : length (dropsOf plan) ≡ length wants = length-map plan (λ s. s .drops) ∙ long in
+            let nl : length (loadsOf plan) ≡ length wants = length-map plan (λ s. s .loads) ∙ long in
+            let wd : ds ≡ overwritten (dropsOf plan) drops = d ∙ ap (λ (q : List Sets). sets drops 0 (dropsOf q)) (our-plan ws e) ∙ sets-whole (dropsOf plan) drops (omega arith) in
+            let wl : ls ≡ overwritten (loadsOf plan) loads = l ∙ ap (λ (q : List Sets). sets loads 0 (loadsOf q)) (our-plan ws e) ∙ sets-whole (loadsOf plan) loads (omega arith) in
+            let wc : count ≡ loadCount plan = c ∙ ap (λ (x : List ℕ). curveCount (take (length wants) x)) wl ∙ ap curveCount (front (loadsOf plan) loads (length wants) nl) in
+            rw (wc, wd, wl) (done-contract p)

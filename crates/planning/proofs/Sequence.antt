@@ -2,22 +2,28 @@
 use mathlib.Core.Path.{_≡_, refl, _∙_}
 use mathlib.Core.Bool.{not, _&&_}
 use mathlib.Core.List.{List, [], _∷_, _++_}
-use Prim.Native.Nat.{ℕ, zero, suc, _<_, min}
+use Prim.Native.Nat.{ℕ, zero, suc, _≤_, _<_, min}
 use native.Mathlib.Omega.{arith}
 use lib.Dec.{ltb, eqb}
-use lib.ListN.{length, getD}
+use lib.ListN.{length, getD, take}
+use lib.Seq.{sets}
 use borrow.Author.Tests.{ltb-true, eqb-true, eq-eqb, ne-eqb}
-use Rattle.job.specs.Refusal.{Outcome, done, refused, _>>_, mapped, demand}
+use Rattle.job.specs.Refusal.{done, refused, _>>_, demand}
 use Rattle.job.specs.Handed.{allCurves, listed, jobKnown}
 use Rattle.job.specs.Words.{IsJob}
 use Rattle.job.proofs.Laws.{both, demand-true, both-done, done-both}
 use Rattle.job.proofs.Examination.{refused-both}
 use Rattle.job.proofs.JobExact.{job-exact}
 use Rattle.job.proofs.Orders.{order-length}
+use Rattle.lists.proofs.Overwritten.{sets-front}
+use Rattle.drive.specs.declared.Checked.the-variants.{Ends, Breaks}
+use Rattle.drive.specs.Steps.{moves, curveCount}
+use Rattle.drive.specs.Check.{checkFrom}
 use Rattle.planning.specs.Order.{orderFrom, orderKnown}
-use Rattle.planning.specs.Plan.{inOrder, loadCount, checkSteps}
-use Rattle.planning.specs.Planning.{setsKnown, checking}
+use Rattle.planning.specs.Plan.{inOrder}
+use Rattle.planning.specs.Planning.{setsKnown, checkedOutcome, checking}
 use Rattle.planning.proofs.OrderExact.{passed-order}
+use Rattle.planning.proofs.Turns.{length-inOrder}
 
 -- ---- behind the examinations
 
@@ -42,6 +48,10 @@ below-from n before (t ∷ ts) e (suc i) h =
 pub order-below : (n : ℕ) (order : List ℕ) → orderKnown n order ≡ done tt → (i : ℕ) → i < length order → getD order i 0 < n
 order-below n order = below-from n [] order
 
+-- the wants of the steps, in the first entries of a list
+pub first-steps : (wants order lent : List ℕ) → orderKnown (length wants) order ≡ done tt → length wants ≤ length lent → take (length wants) (sets lent 0 (inOrder wants order)) ≡ inOrder wants order
+first-steps wants order lent e h = sets-front (inOrder wants order) lent (length wants) (length-inOrder wants order ∙ order-long (length wants) order e) h
+
 -- ---- the lengths of the lists of sets
 module _ (n drops loads : ℕ) where
   pub sets-known : drops ≡ n → loads ≡ n → setsKnown n drops loads ≡ done tt
@@ -63,11 +73,6 @@ module _ (n drops loads : ℕ) where
       (eqb-true drops n (l .0), eqb-true loads n (l .1))
 
 -- ---- checking
-counted-by : {A B : Type 0} (a : Outcome A) (b : B) → _>>_ a (done b) ≡ mapped (λ _. b) a
-unfolding _>>_ mapped
-counted-by (done a) b = refl
-counted-by (refused k i) b = refl
-
 module _ (places curves : ℕ) (wants order drops loads : List ℕ) where
   pub check-job : (k i : ℕ) → jobKnown places curves wants ≡ refused k i → checking places curves wants order drops loads ≡ refused k i
   unfolding checking
@@ -83,7 +88,13 @@ module _ (places curves : ℕ) (wants order drops loads : List ℕ) where
       unfolding checking
       check-sets k i e = done-both _ _ job ∙ done-both _ _ ord ∙ refused-both _ _ k i e
 
-      pub check-rest : setsKnown (length wants) (length drops) (length loads) ≡ done tt
-          → checking places curves wants order drops loads ≡ mapped (λ _. loadCount loads) (checkSteps places (allCurves curves) 0 0 (inOrder wants order) drops loads)
-      unfolding checking
-      check-rest e = done-both _ _ job ∙ done-both _ _ ord ∙ done-both _ _ e ∙ counted-by _ _
+      module _ (sets : setsKnown (length wants) (length drops) (length loads) ≡ done tt) where
+        pub check-broken : (i : ℕ) → checkFrom places (allCurves curves) 0 0 (moves (inOrder wants order) drops loads) ≡ Breaks i
+            → checking places curves wants order drops loads ≡ refused 12 i
+        unfolding checking checkedOutcome _>>_
+        check-broken i e = done-both _ _ job ∙ done-both _ _ ord ∙ done-both _ _ sets ∙ rw e refl
+
+        pub check-ended : (h : ℕ) → checkFrom places (allCurves curves) 0 0 (moves (inOrder wants order) drops loads) ≡ Ends h
+            → checking places curves wants order drops loads ≡ done (curveCount loads)
+        unfolding checking checkedOutcome _>>_
+        check-ended h e = done-both _ _ job ∙ done-both _ _ ord ∙ done-both _ _ sets ∙ rw e refl

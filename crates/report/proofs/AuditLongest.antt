@@ -19,9 +19,15 @@ use Rattle.job_bytes.proofs.JobBounds.{figure-short}
 use Rattle.job_bytes.proofs.ReadExact.{ReadJob, read-exact}
 use Rattle.job_bytes.proofs.SetRoundTrip.{Bytes}
 use Rattle.planning.specs.Order.{orderFrom}
-use Rattle.planning.specs.Plan.{inOrder, checkSteps, held, loadCount}
-use Rattle.planning.specs.Planning.{setsKnown, checking}
-use Rattle.planning.proofs.CheckExact.{StepsOk, passed, check-count}
+use Rattle.drive.specs.declared.Checked.{Checked}
+use Rattle.drive.specs.declared.Checked.the-variants.{Ends, Breaks}
+use Rattle.drive.specs.Steps.{Move, moves}
+use Rattle.drive.specs.Check.{checkFrom}
+use Rattle.drive.proofs.CheckExact.{fault-within}
+use Rattle.drive.proofs.Moves.{length-moves}
+use Rattle.planning.specs.Plan.{inOrder}
+use Rattle.planning.specs.Planning.{setsKnown, checkedOutcome, checking}
+use Rattle.planning.proofs.CheckExact.{check-few}
 use Rattle.planning.proofs.Turns.{length-inOrder}
 use Rattle.plan_bytes.specs.PlanBytes.{Placed, readPlanBytes, planSteps}
 use Rattle.plan_bytes.proofs.ReadPlan.{plan-count}
@@ -61,15 +67,13 @@ order-small n before (t ∷ ts) l =
     refuses-both OfPlan _ _ (refuses-demand OfPlan _ 8 (length before) (at-position (length before) (omega arith)))
     (order-small n (before ++ (t ∷ [])) ts (omega (arith, length-append before (t ∷ []))))
 
-steps-small : (places all i h : ℕ) (ws ds ls : List ℕ) → i + length ws ≤ 256 → Refuses OfPlan (checkSteps places all i h ws ds ls)
-unfolding checkSteps
-steps-small places all i h [] [] [] l = tt
-steps-small places all i h [] [] (x ∷ ls) l = at-step i (omega arith)
-steps-small places all i h [] (d ∷ ds) ls l = at-step i (omega arith)
-steps-small places all i h (w ∷ ws) [] ls l = at-step i (omega arith)
-steps-small places all i h (w ∷ ws) (d ∷ ds) [] l = at-step i (omega arith)
-steps-small places all i h (w ∷ ws) (d ∷ ds) (x ∷ ls) l =
-    refuses-both OfPlan _ _ (refuses-demand OfPlan _ 12 i (at-step i (omega arith))) (steps-small places all (suc i) (held h d x) ws ds ls (omega arith))
+steps-small : (places all : ℕ) (ms : List Move) → length ms ≤ 256 → Refuses OfPlan (checkedOutcome (checkFrom places all 0 0 ms))
+unfolding checkedOutcome
+steps-small places all ms l = go (checkFrom places all 0 0 ms) refl
+  where
+    go : (c : Checked) → checkFrom places all 0 0 ms ≡ c → Refuses OfPlan (checkedOutcome c)
+    go (Ends h) e = tt
+    go (Breaks i) e = at-step i (omega (arith, fault-within places all 0 0 ms i e))
 
 steps-count : (curves tests : ℕ) (plan : List ℕ) (ss : List Placed) → planSteps curves tests plan ≡ done ss → length ss ≡ tests
 unfolding planSteps
@@ -110,7 +114,8 @@ module _ (j : Job) (r : ReadJob j) where
       rw (done-both (jobKnown p c (j .wants)) _ (job-exact p c (j .wants) .1 (r .is-job)))
       (refuses-both OfPlan _ _ (order-small n [] order (omega arith))
       (refuses-both OfPlan _ _ (refuses-demand OfPlan _ 12 (min (min (length drops) (length loads)) n) (at-step _ (omega arith)))
-      (refuses-both OfPlan _ _ (steps-small p (allCurves c) 0 0 (inOrder (j .wants) order) drops loads (omega (arith, length-inOrder (j .wants) order))) tt)))
+      (refuses-both OfPlan _ _ (steps-small p (allCurves c) (moves (inOrder (j .wants) order) drops loads)
+      (omega (arith, length-moves (inOrder (j .wants) order) drops loads, length-inOrder (j .wants) order))) tt)))
 
   audit-small : (plan : List ℕ) → Refuses OfPlan (auditPlan j plan)
   unfolding auditPlan auditSteps _>>=_
@@ -136,18 +141,6 @@ unfolding audit
 audit-plan-refuses job plan o all e =
     let x = mapped-done (λ j. auditPlan j plan) (readBytes job) o e in
     subst (Refuses OfPlan) (x .2) (audit-small (x .0) (read-exact job (x .0) all (x .1)) plan)
-
--- ---- how many loads
-
-loads-few : (p all h : ℕ) (ws ds ls : List ℕ) → p ≤ 64 → StepsOk p all h ws ds ls → loadCount ls ≤ 64 * length ws
-unfolding loadCount
-loads-few p all h [] [] [] m s = omega arith
-loads-few p all h [] [] (l ∷ ls) m s = absurd s
-loads-few p all h [] (d ∷ ds) ls m s = absurd s
-loads-few p all h (w ∷ ws) [] ls m s = absurd s
-loads-few p all h (w ∷ ws) (d ∷ ds) [] m s = absurd s
-loads-few p all h (w ∷ ws) (d ∷ ds) (l ∷ ls) m s =
-    omega (arith, size-mono l (held h d l) (⊆-∪-r (h ∖ d) l), s .0 .room, loads-few p all (held h d l) ws ds ls m (s .1))
 
 -- ---- the text
 
@@ -202,17 +195,11 @@ audit-longest job plan all = go (audit job plan) refl
     go (done (refused k i)) e = plan-short k i (audit-plan-refuses job plan (refused k i) all e)
     go (done (done a)) e =
         let s = audit-says job plan a all e in
-        let ok = passed (s .j .head .places) (s .j .head .curves) (s .j .wants) (testsOf (s .steps)) (dropsOf (s .steps)) (loadsOf (s .steps)) (a .loads) (s .passes) in
-        let c = check-count (s .j .head .places) (s .j .head .curves) (s .j .wants) (testsOf (s .steps)) (dropsOf (s .steps)) (loadsOf (s .steps)) (a .loads) (s .passes) in
-        let n = steps-count (s .j .head .curves) (s .j .head .tests) plan (s .steps) (s .plan-read) in
         counts-short (a .loads) (a .fewest)
         (omega (
           arith,
-          c,
-          loads-few (s .j .head .places) (allCurves (s .j .head .curves)) 0 (inOrder (s .j .wants) (testsOf (s .steps))) (dropsOf (s .steps)) (loadsOf (s .steps)) (ok .is-job .places-bounds .1) (ok .steps),
-          length-inOrder (s .j .wants) (testsOf (s .steps)),
-          length-map (s .steps) (λ s. s .step .test),
-          few job (s .j) (s .job-read),
+          check-few (s .j .head .places) (s .j .head .curves) (s .j .wants) (testsOf (s .steps)) (dropsOf (s .steps)) (loadsOf (s .steps)) (a .loads) (s .passes),
+          read-exact job (s .j) all (s .job-read) .is-job .tests-bounds .1,
         ))
         (audit-fewer job plan a all e)
 

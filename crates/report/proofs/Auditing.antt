@@ -10,7 +10,7 @@ use Rattle.job.specs.Refusal.{Outcome, done, refused, number, figure, countOutc
 use Rattle.job.specs.Handed.{countsKnown}
 use Rattle.job_bytes.specs.JobBytes.{Job, readBytes}
 use Rattle.job.proofs.Laws.{both-done, done-room, mapped-done, mapped-refused, done-mapped, refused-mapped, leaves-done}
-use Rattle.planning.specs.Plan.{loadCount}
+use Rattle.drive.specs.Steps.{loadCount}
 use Rattle.planning.specs.Planning.{planning, checking, planAnswer}
 use Rattle.plan_bytes.specs.PlanBytes.{Placed, planSteps, readPlan, readPlanBytes, readPlanAnswer, readPlanOrder, readPlanDrops, readPlanLoads}
 use Rattle.plan_bytes.proofs.ReadPlan.{plan-count}
@@ -37,12 +37,12 @@ mapped-bind f (refused k i) = refl
 module _ (p c : ℕ) (ws order ds ls : List ℕ) (k n : ℕ) (fits : length ws ≤ n) (d : length ds ≡ 256) (l : length ls ≡ 256) (few : length ws ≤ 256)
     (x : Counted) (e : countOutcome x ≡ planAnswer p c ws order ds ls) where
   abbrev beside : Outcome Audit
-  beside = mapped (λ q. record { loads = k; fewest = loadCount (q .loads) }) (planning p c ws order n n)
+  beside = mapped (λ q. record { loads = k; fewest = loadCount q }) (planning p c ws order n n)
 
   counts : mapped (λ m. record { loads = k; fewest = m }) (countOutcome x) ≡ beside
   unfolding planAnswer
   counts =
-      rw (e, mapped-twice {C = Audit} (λ q. loadCount (q .loads)) (λ m. record { loads = k; fewest = m }) (planning p c ws order (length ds) (length ls)), d, l, planning-room p c ws order 256 n few fits) refl
+      rw (e, mapped-twice {C = Audit} loadCount (λ m. record { loads = k; fewest = m }) (planning p c ws order (length ds) (length ls)), d, l, planning-room p c ws order 256 n few fits) refl
 
   pub fewest-refused : (r : Refusal) → x ≡ Counted.Refused r → auditedOutcome (Audited.PlanRefused r) ≡ done beside
   unfolding auditedOutcome countOutcome mapped
@@ -60,9 +60,9 @@ module _ (j : Job) (order ds ls : List ℕ) (x : Counted) (e : countOutcome x �
   steps-refused r f = rw (← e, f) refl
 
   pub steps-counted : (n : ℕ) → x ≡ Counted.Count n
-      → mapped (λ q. record { loads = n; fewest = loadCount (q .loads) }) (planning (j .head .places) (j .head .curves) (j .wants) order (j .head .tests) (j .head .tests)) ≡ auditSteps j order ds ls
+      → mapped (λ q. record { loads = n; fewest = loadCount q }) (planning (j .head .places) (j .head .curves) (j .wants) order (j .head .tests) (j .head .tests)) ≡ auditSteps j order ds ls
   unfolding auditSteps countOutcome _>>=_
-  steps-counted n f = rw (← e, f) (mapped-bind (λ q. record { loads = n; fewest = loadCount (q .loads) }) (planning (j .head .places) (j .head .curves) (j .wants) order (j .head .tests) (j .head .tests)))
+  steps-counted n f = rw (← e, f) (mapped-bind (λ q. record { loads = n; fewest = loadCount q }) (planning (j .head .places) (j .head .curves) (j .wants) order (j .head .tests) (j .head .tests)))
 
 -- ---- the plan's bytes
 

@@ -18,9 +18,12 @@ use Rattle.job.proofs.Laws.{bind-done, mapped-done, true-each, done-same, refus
 use Rattle.job.proofs.JobExact.{job-exact}
 use Rattle.job_bytes.proofs.ReadExact.{read-exact}
 use Rattle.job_bytes.proofs.SetRoundTrip.{Bytes}
-use Rattle.planning.specs.Plan.{inOrder, loadCount, held}
+use Rattle.drive.specs.Steps.{Move, moved, wantsOf, loadCount, dropsOf as planDrops, loadsOf as planLoads}
+use Rattle.drive.proofs.CheckExact.{AllKept}
+use Rattle.drive.proofs.Moves.{wants-of}
+use Rattle.planning.specs.Plan.{inOrder}
 use Rattle.planning.specs.Planning.{ourPlan, planning, checking}
-use Rattle.planning.proofs.CheckExact.{StepsOk, passed, check-count}
+use Rattle.planning.proofs.CheckExact.{passed, check-count}
 use Rattle.planning.proofs.OrderExact.{order-exact}
 use Rattle.planning.proofs.Demand3.{planning-done, our-check, our-least}
 use Rattle.plan_bytes.specs.PlanBytes.{Placed, planSteps}
@@ -31,12 +34,9 @@ Small p [] = Unit {0}
 Small p (w ∷ ws) = (size w ≤ p) × Small p ws
 
 -- a drive that holds the wants and at most its places has a place for each
-pub steps-small : (p all h : ℕ) (ws ds ls : List ℕ) → StepsOk p all h ws ds ls → Small p ws
-steps-small p all h [] ds ls s = tt
-steps-small p all h (w ∷ ws) [] ls s = absurd s
-steps-small p all h (w ∷ ws) (d ∷ ds) [] s = absurd s
-steps-small p all h (w ∷ ws) (d ∷ ds) (l ∷ ls) s =
-    (omega (arith, size-mono w (held h d l) (⊆-by-bits w (held h d l) (s .0 .wants)), s .0 .room), steps-small p all (held h d l) ws ds ls (s .1))
+pub steps-small : {p all h : ℕ} {ms : List Move} → AllKept p all h ms → Small p (wantsOf ms)
+steps-small AllKept.none = tt
+steps-small (AllKept.step {h = h} {m = m} ok r) = (omega (arith, size-mono (m .want) (moved h (m .sets)) (⊆-by-bits (m .want) (moved h (m .sets)) (ok .wants)), ok .room), steps-small r)
 
 listed-small : (p : ℕ) (wants order : List ℕ) → Small p (inOrder wants order) → (t : ℕ) → 0 < count t order → size (getD wants t 0) ≤ p
 unfolding inOrder count digit
@@ -54,7 +54,7 @@ module _ (p c : ℕ) (wants order drops loads : List ℕ) (m : ℕ) (e : checkin
   passed-fits =
       let ok = passed p c wants order drops loads m e in
       true-each (λ w. leb (size w) p) 7 0 wants
-      (λ t l. le-leb (size (getD wants t 0)) p (listed-small p wants order (steps-small p (allCurves c) 0 (inOrder wants order) drops loads (ok .steps)) t (omega (arith, ok .is-order .once t l))))
+      (λ t l. le-leb (size (getD wants t 0)) p (listed-small p wants order (rw (wants-of (inOrder wants order) drops loads) at (steps-small (ok .steps))) t (omega (arith, ok .is-order .once t l))))
 
   -- so planning the same order is done
   pub passed-planned : (n : ℕ) → length wants ≤ n → planning p c wants order n n ≡ done (ourPlan p c wants order)
@@ -63,14 +63,12 @@ module _ (p c : ℕ) (wants order drops loads : List ℕ) (m : ℕ) (e : checkin
       planning-done p c wants order n n (job-exact p c wants .1 (ok .is-job)) (order-exact (length wants) order .1 (ok .is-order)) passed-fits l l
 
   -- THE FEWEST: our plan for the order passes, and no plan that passes has fewer loads
-  pub ours-passes : checking p c wants order (ourPlan p c wants order .drops) (ourPlan p c wants order .loads) ≡ done (loadCount (ourPlan p c wants order .loads))
-  unfolding ourPlan
+  pub ours-passes : checking p c wants order (planDrops (ourPlan p c wants order)) (planLoads (ourPlan p c wants order)) ≡ done (loadCount (ourPlan p c wants order))
   ours-passes =
       let ok = passed p c wants order drops loads m e in
       our-check p c wants order (job-exact p c wants .1 (ok .is-job)) (order-exact (length wants) order .1 (ok .is-order)) passed-fits
 
-pub ours-least : (p c : ℕ) (wants order drops loads : List ℕ) (m : ℕ) → checking p c wants order drops loads ≡ done m → loadCount (ourPlan p c wants order .loads) ≤ m
-unfolding ourPlan
+pub ours-least : (p c : ℕ) (wants order drops loads : List ℕ) (m : ℕ) → checking p c wants order drops loads ≡ done m → loadCount (ourPlan p c wants order) ≤ m
 ours-least p c wants order drops loads m e = omega (arith, our-least p c wants order drops loads m e, check-count p c wants order drops loads m e)
 
 -- ---- what an audit says that is done
@@ -89,7 +87,7 @@ pub record Says (job plan : List ℕ) (a : Audit) : Type 0 where
 
 -- a job that was read, and steps of which the check passes
 said : (j : Job) (order drops loads : List ℕ) (a : Audit) → length (j .wants) ≤ j .head .tests → auditSteps j order drops loads ≡ done a
-    → (checking (j .head .places) (j .head .curves) (j .wants) order drops loads ≡ done (a .loads)) × (a .fewest ≡ loadCount (ourPlan (j .head .places) (j .head .curves) (j .wants) order .loads))
+    → (checking (j .head .places) (j .head .curves) (j .wants) order drops loads ≡ done (a .loads)) × (a .fewest ≡ loadCount (ourPlan (j .head .places) (j .head .curves) (j .wants) order))
 unfolding auditSteps _>>=_
 said j order drops loads a l e = go (checking (j .head .places) (j .head .curves) (j .wants) order drops loads) refl e
   where
@@ -100,10 +98,10 @@ said j order drops loads a l e = go (checking (j .head .places) (j .head .curves
     c = j .head .curves
 
     go : (o : Outcome ℕ) → checking p c (j .wants) order drops loads ≡ o
-        → _>>=_ o (λ count. _>>=_ (planning p c (j .wants) order (j .head .tests) (j .head .tests)) (λ plan. done (record { loads = count; fewest = loadCount (plan .loads) }))) ≡ done a
-        → (checking p c (j .wants) order drops loads ≡ done (a .loads)) × (a .fewest ≡ loadCount (ourPlan p c (j .wants) order .loads))
+        → _>>=_ o (λ count. _>>=_ (planning p c (j .wants) order (j .head .tests) (j .head .tests)) (λ plan. done (record { loads = count; fewest = loadCount plan }))) ≡ done a
+        → (checking p c (j .wants) order drops loads ≡ done (a .loads)) × (a .fewest ≡ loadCount (ourPlan p c (j .wants) order))
     go (done m) h f =
-        let g : done (record { loads = m; fewest = loadCount (ourPlan p c (j .wants) order .loads) }) ≡ done a = rw (passed-planned p c (j .wants) order drops loads m h (j .head .tests) l) at f in
+        let g : done (record { loads = m; fewest = loadCount (ourPlan p c (j .wants) order) }) ≡ done a = rw (passed-planned p c (j .wants) order drops loads m h (j .head .tests) l) at f in
         let same = done-same g in
         (h ∙ ap (λ (x : Audit). done (x .loads)) same, sym (ap (λ (x : Audit). x .fewest) same))
     go (refused k i) h f = absurd (refused≢done f)
@@ -125,8 +123,8 @@ audit-says job plan a all e =
       plan-read = s .1;
       passes = t .0;
       reached = (
-        ourPlan p c (r .0 .wants) (testsOf (s .0)) .drops,
-        ourPlan p c (r .0 .wants) (testsOf (s .0)) .loads,
+        planDrops (ourPlan p c (r .0 .wants) (testsOf (s .0))),
+        planLoads (ourPlan p c (r .0 .wants) (testsOf (s .0))),
         ours-passes p c (r .0 .wants) (testsOf (s .0)) (dropsOf (s .0)) (loadsOf (s .0)) (a .loads) (t .0) ∙ ap done (sym (t .1)),
       );
       least = λ ds ls m h. omega (arith, ours-least p c (r .0 .wants) (testsOf (s .0)) ds ls m h, t .1);

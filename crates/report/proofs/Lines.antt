@@ -9,7 +9,8 @@ use lib.ListN.{length, getD, drop, length-append}
 use lib.Seq.{drop-cons}
 use Rattle.job.specs.Refusal.{refused}
 use Rattle.job.specs.declared.Head.{Head}
-use Rattle.planning.specs.Plan.{steps, loadCount}
+use Rattle.drive.specs.Steps.{curveCount}
+use Rattle.planning.specs.Plan.{steps}
 use Rattle.report.specs.Report.{text, decimal, setText, stepText, stepsText, headText, planText, printed}
 use Rattle.report.specs.Text.{shown}
 use Rattle.report.proofs.Digits.{decimal-length, decimal-word}
@@ -32,7 +33,7 @@ loads-line n = append-assoc (text "loads ") (decimal n) (text "\n")
 
 pub plan-lines : (h : Head) (order drops loads : List ℕ) →
     planText (shown h order drops loads)
-    ≡ headText (shown h [] [] []) ++ stepsText 0 (steps order drops loads) ++ (text "loads " ++ decimal (loadCount loads) ++ text "\n")
+    ≡ headText (shown h [] [] []) ++ stepsText 0 (steps order drops loads) ++ (text "loads " ++ decimal (curveCount loads) ++ text "\n")
 unfolding planText headText
 plan-lines h order drops loads = simp append-assoc
 
@@ -78,9 +79,9 @@ loads-length n = rw (loads-line n) (length-append (text "loads ") (decimal n ++ 
 
 pub plan-length : (h : Head) (order drops loads : List ℕ) →
     length (planText (shown h order drops loads))
-    ≡ length (headText (shown h [] [] [])) + length (stepsText 0 (steps order drops loads)) + length (text "loads " ++ decimal (loadCount loads) ++ text "\n")
+    ≡ length (headText (shown h [] [] [])) + length (stepsText 0 (steps order drops loads)) + length (text "loads " ++ decimal (curveCount loads) ++ text "\n")
 plan-length h order drops loads =
-    rw (plan-lines h order drops loads) (lengths₃ (headText (shown h [] [] [])) (stepsText 0 (steps order drops loads)) (text "loads " ++ decimal (loadCount loads) ++ text "\n"))
+    rw (plan-lines h order drops loads) (lengths₃ (headText (shown h [] [] [])) (stepsText 0 (steps order drops loads)) (text "loads " ++ decimal (curveCount loads) ++ text "\n"))
 
 pub refusal-length : (k i : ℕ) → length (printed (refused k i)) ≡ length (text "refused ") + length (decimal k ++ text " at ") + length (decimal i ++ text "\n")
 refusal-length k i = rw (refusal-line k i) (lengths₃ (text "refused ") (decimal k ++ text " at ") (decimal i ++ text "\n"))
@@ -126,7 +127,7 @@ step-short k =
 
 -- the whole: of at most 256 steps, all of whose numbers a word holds
 pub plan-word : (h : Head) (order drops loads : List ℕ) → h .tests < 2 ^ 64 → h .places < 2 ^ 64 → h .method < 2 ^ 64 → length order ≤ 256
-    → ((j : ℕ) → j < length order → getD order j 0 < 2 ^ 64) → loadCount loads < 2 ^ 64
+    → ((j : ℕ) → j < length order → getD order j 0 < 2 ^ 64) → curveCount loads < 2 ^ 64
     → length (planText (shown h order drops loads)) < 2 ^ 64
 unfolding text
 plan-word h order drops loads t p m n o c =
@@ -140,8 +141,8 @@ plan-word h order drops loads t p m n o c =
       decimal-word (h .tests) t,
       decimal-word (h .places) p,
       decimal-word (h .method) m,
-      loads-length (loadCount loads),
-      length-append (decimal (loadCount loads)) (text "\n"),
-      decimal-word (loadCount loads) c,
+      loads-length (curveCount loads),
+      length-append (decimal (curveCount loads)) (text "\n"),
+      decimal-word (curveCount loads) c,
       steps-short (10 ^ 20) 442 0 order drops loads (step-short 19) (λ j l. omega (arith, o j l)) (omega arith),
     )

@@ -9,7 +9,7 @@ use Rattle.bitset.specs.Set.{_∖_, size}
 use Rattle.bitset.proofs.Laws.{size-∖-le}
 use Rattle.job.specs.declared.Head.{Head}
 use Rattle.job.specs.Refusal.{Outcome, done, refused, room}
-use Rattle.job.specs.Choice.{Found}
+use Rattle.lists.specs.Choice.{Found}
 use Rattle.job.specs.Handed.{wantsFit, allCurves}
 use Rattle.job_bytes.specs.JobBytes.{Job, readBytes}
 use Rattle.job.proofs.Laws.{done-both, done-room}
@@ -19,7 +19,10 @@ use Rattle.job.proofs.Orders.{order-length}
 use Rattle.job_bytes.proofs.ReadExact.{ReadJob, read-exact}
 use Rattle.job_bytes.proofs.SetRoundTrip.{Bytes}
 use Rattle.ordering.proofs.Complete.{order-complete}
-use Rattle.planning.specs.Plan.{inOrder, loadCount, loadSets, furthest, heldAfter}
+use Rattle.drive.specs.Steps.{dropsOf, loadsOf, moved, curveCount, loadCount}
+use Rattle.drive.specs.Plan.{furthest, next, planFrom}
+use Rattle.drive.proofs.Moves.{wants-of}
+use Rattle.planning.specs.Plan.{inOrder}
 use Rattle.planning.specs.Planning.{ourPlan}
 use Rattle.planning.proofs.OrderExact.{own-tests}
 use Rattle.planning.proofs.CheckExact.{passed}
@@ -33,10 +36,10 @@ use Rattle.report.proofs.Digits.{decimal-length}
 use Rattle.report.proofs.Lines.{step-short, steps-short, head-length, loads-length, plan-length, refusal-length}
 use Rattle.report.proofs.Fewest.{Small, steps-small}
 
-loads-few : (pick : ℕ → List ℕ → Found ℕ) (p h : ℕ) (ws : List ℕ) → Small 64 ws → loadCount (loadSets pick p h ws) ≤ 64 * length ws
-unfolding loadCount loadSets
+loads-few : (pick : ℕ → List ℕ → Found ℕ) (p h : ℕ) (ws : List ℕ) → Small 64 ws → loadCount (planFrom pick p h ws) ≤ 64 * length ws
+unfolding curveCount planFrom
 loads-few pick p h [] s = zero-le
-loads-few pick p h (w ∷ ws) s = omega (arith, size-∖-le w h, s .0, loads-few pick p (heldAfter pick p h w ws) ws (s .1))
+loads-few pick p h (w ∷ ws) s = omega (arith, size-∖-le w h, s .0, loads-few pick p (moved h (next pick p h w ws)) ws (s .1))
 
 -- (what fits p places fits 64)
 smaller : (p : ℕ) (ws : List ℕ) → p ≤ 64 → Small p ws → Small 64 ws
@@ -44,13 +47,13 @@ smaller p [] l s = tt
 smaller p (w ∷ ws) l s = (omega (arith, s .0), smaller p ws l (s .1))
 
 -- the text shows no wants
-same-text : (p : Planned) → printed (done p) ≡ planText (shown (p .job .head) (p .order) (p .plan .drops) (p .plan .loads))
+same-text : (p : Planned) → printed (done p) ≡ planText (shown (p .job .head) (p .order) (p .drops) (p .loads))
 unfolding printed planText headText
 same-text p = refl
 
 -- a sheet of at most 256 tests: at most 408 bytes for each step, 31 for the head and 12 for the load count
 bound : (h : Head) (order drops loads : List ℕ) → h .tests < 1000 → h .places < 100 → h .method < 10 → length order ≤ 256
-    → ((j : ℕ) → j < length order → getD order j 0 < 1000) → loadCount loads < 100000
+    → ((j : ℕ) → j < length order → getD order j 0 < 1000) → curveCount loads < 100000
     → length (planText (shown h order drops loads)) ≤ 105000
 unfolding text
 bound h order drops loads t p m n o c =
@@ -64,25 +67,25 @@ bound h order drops loads t p m n o c =
       decimal-length 2 (h .tests) (omega arith),
       decimal-length 1 (h .places) (omega arith),
       decimal-length 0 (h .method) (omega arith),
-      loads-length (loadCount loads),
-      length-append (decimal (loadCount loads)) (text "\n"),
-      decimal-length 4 (loadCount loads) (omega arith),
+      loads-length (curveCount loads),
+      length-append (decimal (curveCount loads)) (text "\n"),
+      decimal-length 4 (curveCount loads) (omega arith),
       steps-short 1000 408 0 order drops loads (step-short 2) o (omega arith),
     )
 
 -- of a job that was read, all of whose tests fit
 planned-bound : (j : Job) → ReadJob j → wantsFit (j .head .places) (j .wants) ≡ done tt
-    → length (planText (shown (j .head) (orderOf j) (planOf j .drops) (planOf j .loads))) ≤ 105000
+    → length (planText (shown (j .head) (orderOf j) (dropsOf (planOf j)) (loadsOf (planOf j)))) ≤ 105000
 unfolding ourPlan
 planned-bound j r f =
     let p = j .head .places in
     let c = j .head .curves in
     let whole = order-complete (j .head .method) p (j .wants) in
     let long = order-length (length (j .wants)) (orderOf j) whole in
-    let ok = passed p c (j .wants) (orderOf j) (planOf j .drops) (planOf j .loads) (loadCount (planOf j .loads)) (checked j r f) in
-    let small = smaller p (inOrder (j .wants) (orderOf j)) (r .is-job .places-bounds .1) (steps-small p (allCurves c) 0 (inOrder (j .wants) (orderOf j)) (planOf j .drops) (planOf j .loads) (ok .steps)) in
+    let ok = passed p c (j .wants) (orderOf j) (dropsOf (planOf j)) (loadsOf (planOf j)) (loadCount (planOf j)) (checked j r f) in
+    let small = smaller p (inOrder (j .wants) (orderOf j)) (r .is-job .places-bounds .1) (rw (wants-of (inOrder (j .wants) (orderOf j)) (dropsOf (planOf j)) (loadsOf (planOf j))) at (steps-small (ok .steps))) in
     let tests = r .is-job .tests-bounds in
-    bound (j .head) (orderOf j) (planOf j .drops) (planOf j .loads)
+    bound (j .head) (orderOf j) (dropsOf (planOf j)) (loadsOf (planOf j))
     (omega (arith, r .tests))
     (omega (arith, r .is-job .places-bounds .1))
     (omega (arith, r .method))
@@ -110,7 +113,7 @@ sheet-longest bs all = go (readBytes bs) refl
   where
     fits : (j : Job) → readBytes bs ≡ done j → (o : Outcome (Unit {0})) → wantsFit (j .head .places) (j .wants) ≡ o → length (printed (planJob bs)) ≤ 105000
     fits j r (done tt) f =
-        rw (job-planned bs j all r f) (rw (same-text (record { job = j; order = orderOf j; plan = planOf j })) (planned-bound j (read-exact bs j all r) f))
+        rw (job-planned bs j all r f) (rw (same-text (record { job = j; order = orderOf j; drops = dropsOf (planOf j); loads = loadsOf (planOf j) })) (planned-bound j (read-exact bs j all r) f))
     fits j r (refused k i) f =
         let is : ReadJob j = read-exact bs j all r in
         let few = refuses (λ (k i : ℕ). (k ≡ 7) × (i < 256)) (wantsFit (j .head .places) (j .wants)) k i

@@ -15,7 +15,7 @@ module _ {o : Outcome Planned} {old : List ℕ} {answer : Outcome ℕ} {new : Li
   pub refusal-printed : (k i : ℕ) → o ≡ refused k i → Filled (printed (refused k i)) old answer new → Filled (printed o) old answer new
   refusal-printed k i e f = rw e f
 
-  pub plan-printed : (h : Head) (ws order drops loads : List ℕ) → o ≡ done (record { job = record { head = h; wants = ws }; order = order; plan = record { drops = drops; loads = loads } })
+  pub plan-printed : (h : Head) (ws order drops loads : List ℕ) → o ≡ done (record { job = record { head = h; wants = ws }; order = order; drops = drops; loads = loads })
       → Filled (planText (shown h order drops loads)) old answer new → Filled (printed o) old answer new
   unfolding printed planText headText
   plan-printed h ws order drops loads e f = rw e f

@@ -4,7 +4,7 @@ use Prim.Native.Nat.{ℕ, _-_}
 use lib.ListN.{length}
 use Rattle.job.specs.Refusal.{Outcome, done, refused, _>>=_, _>>_, mapped, room, leaves, number, figure}
 use Rattle.job_bytes.specs.JobBytes.{Job, readBytes}
-use Rattle.planning.specs.Plan.{loadCount}
+use Rattle.drive.specs.Steps.{loadCount}
 use Rattle.planning.specs.Planning.{checking, planning}
 use Rattle.plan_bytes.specs.PlanBytes.{Placed, planSteps}
 use Rattle.report.specs.declared.audit.Audited.{Audited}
@@ -30,7 +30,7 @@ unfoldable pub auditSteps : Job → List ℕ → List ℕ → List ℕ → Outco
 auditSteps j order drops loads = do
   count ← checking (j .head .places) (j .head .curves) (j .wants) order drops loads
   plan ← planning (j .head .places) (j .head .curves) (j .wants) order (j .head .tests) (j .head .tests)
-  done (record { loads = count; fewest = loadCount (plan .loads) })
+  done (record { loads = count; fewest = loadCount plan })
 
 -- a plan's bytes for a job: 11 before that
 unfoldable pub auditPlan : Job → List ℕ → Outcome Audit

@@ -16,7 +16,7 @@ pub record Wrote (old : List ℕ) (at : ℕ) (text new : List ℕ) (next : ℕ) 
 
 -- a plan of which the sheet is printed: it shows no wants
 abbrev pub shown : Head → List ℕ → List ℕ → List ℕ → Planned
-shown head order drops loads = record { job = record { head = head; wants = [] }; order = order; plan = record { drops = drops; loads = loads } }
+shown head order drops loads = record { job = record { head = head; wants = [] }; order = order; drops = drops; loads = loads }
 
 -- a text for a lent buffer: 9 where it is too short
 unfoldable pub fitted : List ℕ → ℕ → Outcome (List ℕ)

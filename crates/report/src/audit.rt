@@ -10,7 +10,7 @@ ghost use mathlib.Core.Path.{_≡_};
 ghost use Prim.Native.Nat.{_≤_};
 ghost use lib.ListN.{length};
 ghost use Rattle.job.specs.Refusal.{done, mapped, countOutcome, overwritten};
-ghost use Rattle.planning.specs.Plan.{loadCount};
+ghost use Rattle.drive.specs.Steps.{loadCount};
 ghost use Rattle.planning.specs.Planning.{planning};
 ghost use Rattle.report.specs.Text.{Wrote, Filled};
 ghost use Rattle.report.specs.Audit.{auditedOutcome, auditSteps, auditPlan, audit, auditText, auditAnswer, auditBuffer};
@@ -28,7 +28,7 @@ pub enum Audited {
 // A load count beside that of our plan for the same order.
 fn beside_fewest(head: Head, wants: &[u64], order: &[u16], count: usize) -> Audited
     requires { ⌜ (length (now wants) ≡ head .tests) × (head .tests ≤ 256) ⌝ }
-    ensures { λ r. ⌜ auditedOutcome r ≡ done (mapped (λ p. record { loads = count; fewest = loadCount (p .loads) }) (planning (head .places) (head .curves) (now (wants .entry)) (now (order .entry)) (head .tests) (head .tests))) ⌝ }
+    ensures { λ r. ⌜ auditedOutcome r ≡ done (mapped (λ p. record { loads = count; fewest = loadCount p }) (planning (head .places) (head .curves) (now (wants .entry)) (now (order .entry)) (head .tests) (head .tests))) ⌝ }
 {
     let mut drops = [0u64; 256];
     let mut loads = [0u64; 256];

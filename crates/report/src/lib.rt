@@ -11,7 +11,8 @@ ghost use Rattle.report.specs.Report.{text, decimal, setText, stepText, 
 ghost use Rattle.report.specs.Text.{Wrote, shown, Filled};
 ghost use Rattle.job.specs.Refusal.{refused, number, figure, countOutcome, overwritten};
 ghost use Rattle.curveplan.specs.Call.{planInOrder, orderAndPlan};
-ghost use Rattle.planning.specs.Plan.{steps, loadCount};
+ghost use Rattle.drive.specs.Steps.{curveCount};
+ghost use Rattle.planning.specs.Plan.{steps};
 
 pub mod audit; // audit.rt: a plan beside the fewest loads
 
@@ -146,7 +147,7 @@ fn put_plan(
     count: usize,
 ) -> usize
     requires { ⌜ (length (now drops) ≡ length (now order)) × (length (now loads) ≡ length (now order)) ⌝ }
-    requires { ⌜ count ≡ loadCount (now loads) ⌝ }
+    requires { ⌜ count ≡ curveCount (now loads) ⌝ }
     requires { ⌜ length (planText (shown head (now order) (now drops) (now loads))) < 2 ^ 64 ⌝ }
     ensures { λ r. ⌜ Wrote (now (out .entry)) 0 (planText (shown head (now (order .entry)) (now (drops .entry)) (now (loads .entry)))) (now (out .exit)) r ⌝ }
 {
@@ -176,7 +177,7 @@ fn write_plan(
     out: &mut [u8],
 ) -> Counted
     requires { ⌜ (length (now drops) ≡ length (now order)) × (length (now loads) ≡ length (now order)) ⌝ }
-    requires { ⌜ count ≡ loadCount (now loads) ⌝ }
+    requires { ⌜ count ≡ curveCount (now loads) ⌝ }
     requires { ⌜ (head .tests ≤ 256) × (head .places ≤ 64) × (head .method ≤ 3) × (length (now order) ≤ 256) ⌝ }
     ensures { λ r. ⌜ Filled (planText (shown head (now (order .entry)) (now (drops .entry)) (now (loads .entry)))) (now (out .entry)) (countOutcome r) (now (out .exit)) ⌝ }
 {

@@ -1,17 +1,21 @@
 -- `check_plan` meets its contract: the examinations in the rule's sequence, and then the steps.
 use mathlib.Core.Path.{_≡_, sym, ap, _∙_}
-use Prim.Native.Nat.{ℕ, _-_, _^_, min}
+use mathlib.Core.List.{List}
+use Prim.Native.Nat.{ℕ, _-_, _^_, _≤_, min}
 use native.Mathlib.Omega.{arith}
-use lib.ListN.{length}
+use lib.ListN.{length, take}
+use lib.Seq.{length-take-le}
 use denote.Ref.{now}
-use Rattle.job.specs.Refusal.{done, mapped, countOutcome}
+use borrow.Author.Needs.{needs}
+use Rattle.job.specs.Refusal.{done, countOutcome, number, figure}
 use Rattle.job.specs.Handed.{jobKnown, allCurves}
 use Rattle.job.proofs.Examination.{examined-refused, examined-passed}
+use Rattle.drive.specs.Steps.{moves}
+use Rattle.drive.specs.Check.{checkFrom}
 use Rattle.planning.specs.Order.{orderKnown}
-use Rattle.planning.specs.Plan.{inOrder, loadCount, checkSteps}
+use Rattle.planning.specs.Plan.{inOrder}
 use Rattle.planning.specs.Planning.{setsKnown}
-use Rattle.planning.proofs.Sequence.{job-of, order-long, order-below, sets-long, check-job, check-order, check-sets, check-rest}
-use borrow.Author.Needs.{needs}
+use Rattle.planning.proofs.Sequence.{job-of, first-steps, sets-long, check-job, check-order, check-sets, check-broken, check-ended}
 use Rattle.planning.proofs.check_plan.Statement.{statement}
 use Rattle.planning.proofs.check_plan.Tie as tie
 
@@ -75,31 +79,76 @@ returns-3 c =
 enum-told-3 : tie.Need-enum-told-3
 enum-told-3 c = search needs
 
+slice-aggregate-in-order : tie.Need-slice-aggregate-in-order
+slice-aggregate-in-order c = search needs
+
+in-order-requires : tie.Need-in-order-requires
+in-order-requires c κs = search needs
+
+-- the local list has an entry for each test
+enough : (c : tie.After-steps2)
+    → let a = c .before .before .before .before .before .before .before .before .before .before .before .before .before .before .before .before .args in
+    length (now (a .wants)) ≤ length (c .before .in-order .last .1 .1 .0)
+enough c = omega (arith, c .before .in-order .kept .1 .1 .0, job-of _ _ _ (job-passed (c .before .before .before .before .before .before .before .before .before)) .tests-bounds)
+
 below-requires : tie.Need-below-requires
 below-requires c κs = search needs
 
-check-steps-requires : tie.Need-check-steps-requires
-check-steps-requires c κs =
-    let k = c .before .before .before .before in
-    let j = k .before .before .before in
-    let a = j .before .before .before .before .before .before .before .args in
-    let long : length (now (a .order)) ≡ length (now (a .wants)) = order-long _ _ (order-passed k) in
-    let sets = sets-long _ _ _ (sets-passed (c .before)) in
-    (omega (arith, job-of _ _ _ (job-passed j) .tests-bounds), (order-below _ _ (order-passed k), (omega arith, omega arith)))
+array-share-prefix-steps : tie.Need-array-share-prefix-steps
+array-share-prefix-steps c = omega (arith, enough (c .before))
 
-returns-4 : tie.Need-returns-4
-returns-4 c =
-    let t = c .before .before in
-    let k = t .before .before .before in
+slice-aggregate-check-steps : tie.Need-slice-aggregate-check-steps
+slice-aggregate-check-steps c =
+    let s = c .before .before in
+    let a = s .before .before .before .before .before .before .before .before .before .before .before .before .before .before .before .before .args in
+    omega (arith, length-take-le (length (now (a .wants))) (s .before .in-order .last .1 .1 .0) (enough s))
+
+check-steps-requires : tie.Need-check-steps-requires
+check-steps-requires c κs = search needs
+
+-- what was answered of the steps
+checked : (c : tie.After-check-steps)
+    → let a = c .before .before .before .before .before .before .before .before .before .before .before .before .before .before .before .before .before .before .before .args in
+    c .check-steps .result ≡ checkFrom (a .places) (allCurves (a .curves)) 0 0 (moves (inOrder (now (a .wants)) (now (a .order))) (now (a .drops)) (now (a .loads)))
+checked c =
+    let s = c .before .before .before .before in
+    let k = s .before .before .before .before .before in
     let j = k .before .before .before in
     let a = j .before .before .before .before .before .before .before .args in
     let few : min (a .curves) 64 ≡ a .curves = omega (arith, job-of _ _ _ (job-passed j) .curves-bounds) in
-    let all : c .before .below .result ≡ allCurves (a .curves) = c .before .below .ensures ∙ ap (λ (n : ℕ). 2 ^ n - 1) few in
+    let all : c .before .before .below .result ≡ allCurves (a .curves) = c .before .before .below .ensures ∙ ap (λ (n : ℕ). 2 ^ n - 1) few in
+    let steps : take (length (now (a .wants))) (s .in-order .last .1 .1 .0) ≡ inOrder (now (a .wants)) (now (a .order)) =
+    ap (take (length (now (a .wants)))) (s .in-order .ensures) ∙ first-steps (now (a .wants)) (now (a .order)) _ (order-passed k) (omega (arith, job-of _ _ _ (job-passed j) .tests-bounds)) in
     c .check-steps .ensures
-    ∙ ap
-    (λ (x : ℕ). mapped (λ _. loadCount (now (a .loads))) (checkSteps (a .places) x 0 0 (inOrder (now (a .wants)) (now (a .order))) (now (a .drops)) (now (a .loads))))
-    all
-    ∙ sym (check-rest _ _ _ _ _ _ (job-passed j) (order-passed k) (sets-passed t))
+    ∙ ap (λ (x : ℕ). checkFrom (a .places) x 0 0 (moves (take (length (now (a .wants))) (s .in-order .last .1 .1 .0)) (now (a .drops)) (now (a .loads)))) all
+    ∙ ap (λ (ws : List ℕ). checkFrom (a .places) (allCurves (a .curves)) 0 0 (moves ws (now (a .drops)) (now (a .loads)))) steps
+
+enum-known-i : tie.Need-enum-known-i
+enum-known-i c = search needs
+
+enum-told-4 : tie.Need-enum-told-4
+enum-told-4 c = search needs
+
+count-curves-requires : tie.Need-count-curves-requires
+count-curves-requires c κs =
+    let t = c .before .before .before .before .before .before .before .before in
+    omega (arith, sets-long _ _ _ (sets-passed t), job-of _ _ _ (job-passed (t .before .before .before .before .before .before)) .tests-bounds)
+
+returns-4 : tie.Need-returns-4
+unfolding countOutcome number figure
+returns-4 c =
+    let s = c .before .before .before in
+    let t = s .before .before .before .before .before .before in
+    let k = t .before .before .before in
+    sym (check-broken _ _ _ _ _ _ (job-passed (k .before .before .before)) (order-passed k) (sets-passed t) _ (sym (checked s) ∙ c .before .i .given .1))
+
+returns-5 : tie.Need-returns-5
+unfolding countOutcome
+returns-5 c =
+    let s = c .before .before .before in
+    let t = s .before .before .before .before .before .before in
+    let k = t .before .before .before in
+    rw (c .count-curves .ensures) (sym (check-ended _ _ _ _ _ _ (job-passed (k .before .before .before)) (order-passed k) (sets-passed t) _ (sym (checked s) ∙ c .before .enum-told4 .given .1)))
 
 pub check-plan-spec : {M : Type 1} → statement M
 check-plan-spec =
@@ -117,6 +166,14 @@ check-plan-spec =
     enum-known-r-3
     returns-3
     enum-told-3
+    slice-aggregate-in-order
+    in-order-requires
     below-requires
+    array-share-prefix-steps
+    slice-aggregate-check-steps
     check-steps-requires
-    returns-4)
+    enum-known-i
+    enum-told-4
+    count-curves-requires
+    returns-4
+    returns-5)

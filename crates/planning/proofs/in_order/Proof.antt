@@ -1,52 +1,45 @@
--- `in_order` meets its contract. The invariant: the first i entries are the wants of the first i steps.
-use mathlib.Core.Path.{_≡_, refl, ap, _∙_}
-use mathlib.Core.List.{List, [], _∷_, _++_}
-use Prim.Native.Nat.{ℕ, _≤_, _<_, _-_}
+-- `in_order` meets its contract. The invariant: what is written in all comes to what is written and the wants of the steps from i on.
+use mathlib.Core.Path.{_≡_, refl, sym, ap, _∙_}
+use Prim.Native.Nat.{_+_, _≤_, _-_}
 use native.Mathlib.Omega.{arith}
-use native.Mathlib.Numerals.{add-one}
-use borrow.Author.Needs.{needs, scaled-fits, set-long}
-use lib.ListN.{length, getD, take}
-use lib.Seq.{take-suc, take-suc-set, take-all}
+use borrow.Author.Needs.{needs}
+use lib.ListN.{length, getD, drop, length-set}
+use lib.Seq.{sets}
 use denote.Ref.{now}
+use Rattle.lists.proofs.Overwritten.{sets-cons}
 use Rattle.planning.specs.Plan.{inOrder}
-use Rattle.planning.proofs.Turns.{length-inOrder, wants-at}
+use Rattle.planning.proofs.Turns.{wants-next, wants-end}
 use Rattle.planning.proofs.in_order.Statement.{statement}
 use Rattle.planning.proofs.in_order.Tie as tie
 
 abbrev Inv-loop : tie.InvT-loop
 Inv-loop wants order steps₀ i₀ steps i =
-    record { turns : i ≤ length order; long : length steps ≡ length steps₀; goes : take i steps ≡ take i (inOrder wants order) }
+    record {
+      turns : i ≤ length order;
+      long : length steps ≡ length steps₀;
+      goes : sets steps₀ 0 (inOrder wants order) ≡ sets steps i (inOrder wants (drop i order));
+    }
 
 abbrev μ-loop : tie.MeasureT-loop
 μ-loop wants order steps₀ i₀ steps i = length order - i
 
--- the test of step i is one of the job's
-test-below : (c : tie.In-loop Inv-loop μ-loop) → getD (now (c .before .before .args .order)) (c .before .loop .i) 0 < length (now (c .before .before .args .wants))
-test-below c = c .before .before .pre .1 (c .before .loop .i) (c .loop-test .taken)
-
 loop-holds : tie.Need-loop-holds Inv-loop μ-loop
 loop-holds c = record { turns = omega arith; long = refl; goes = refl }
 
-mul-t : tie.Need-mul-t Inv-loop μ-loop
-mul-t c = search needs
+mul-entry : tie.Need-mul-entry Inv-loop μ-loop
+mul-entry c = search needs
 
-shared-slice-read-t : tie.Need-shared-slice-read-t Inv-loop μ-loop
-shared-slice-read-t c = search needs
+shared-slice-read-entry : tie.Need-shared-slice-read-entry Inv-loop μ-loop
+shared-slice-read-entry c = search needs
 
-cast-t : tie.Need-cast-t Inv-loop μ-loop
-cast-t c = omega (arith, c .shared-slice-known .given (c .before .before .loop .i))
+cast-entry : tie.Need-cast-entry Inv-loop μ-loop
+cast-entry c = omega (arith, c .shared-slice-known3 .given (c .before .before .before .loop .i))
 
-mul-steps : tie.Need-mul-steps Inv-loop μ-loop
-mul-steps c = scaled-fits _ _ 8 (test-below (c .before)) (c .before .before .before .good .0 .1)
+entry-requires : tie.Need-entry-requires Inv-loop μ-loop
+entry-requires c κs = tt
 
-shared-slice-read-steps : tie.Need-shared-slice-read-steps Inv-loop μ-loop
-shared-slice-read-steps c = test-below (c .before .before)
-
-mul-steps-2 : tie.Need-mul-steps-2 Inv-loop μ-loop
-mul-steps-2 c = let k = c .before .before .before in scaled-fits (k .loop .i) (length (now (k .before .args .order))) 8 (omega (arith, c .before .before .loop-test .taken)) (omega (arith, k .before .pre .0, k .before .good .1 .1 .0 .1))
-
-slice-write-steps : tie.Need-slice-write-steps Inv-loop μ-loop
-slice-write-steps c = let k = c .before .before .before in omega (arith, k .loop .inv .long, k .before .pre .0, c .before .before .loop-test .taken)
+put-requires : tie.Need-put-requires Inv-loop μ-loop
+put-requires c κs = tt
 
 add-i : tie.Need-add-i Inv-loop μ-loop
 add-i c = search needs
@@ -56,18 +49,18 @@ loop-less c = search needs
 
 loop-again : tie.Need-loop-again Inv-loop μ-loop
 loop-again c =
-    let k = c .before .before .before in
+    let put = c .before .before in
+    let k = put .before .before .before .before .before in
+    let a = k .before .before .before .before .args in
     let q = k .loop in
-    let a = k .before .args in
-    let ws = inOrder (now (a .wants)) (now (a .order)) in
-    let h : q .i < length (now (a .order)) = c .before .before .loop-test .taken in
-    let long : length ws ≡ length (now (a .order)) = length-inOrder (now (a .wants)) (now (a .order)) in
+    let ws = now (a .wants) in
+    let os = now (a .order) in
     record {
       turns = omega arith;
-      long = set-long ℕ (q .steps) (q .i) _ _ (q .inv .long);
+      long = ap length (put .put .ensures) ∙ length-set (q .steps) (q .i) _ ∙ q .inv .long;
       goes =
-          rw (add-one, take-suc-set (q .steps) (q .i) (getD (now (a .wants)) (getD (now (a .order)) (q .i) 0) 0) (omega (arith, q .inv .long)), take-suc ws (q .i) 0 (omega arith), wants-at (now (a .wants)) (now (a .order)) (q .i) h)
-          (ap (λ (l : List ℕ). l ++ (getD (now (a .wants)) (getD (now (a .order)) (q .i) 0) 0 ∷ [])) (q .inv .goes));
+          rw (put .put .ensures, put .before .entry .ensures)
+          (q .inv .goes ∙ ap (sets (q .steps) (q .i)) (wants-next ws os (q .i) (omega arith)) ∙ sets-cons (q .steps) (q .i) (getD ws (getD os (q .i) 0) 0) (inOrder ws (drop (q .i + 1) os)));
     }
 
 same-length : tie.Need-same-length Inv-loop μ-loop
@@ -75,11 +68,9 @@ same-length c = c .before .loop .inv .long
 
 returns : tie.Need-returns Inv-loop μ-loop
 returns c =
-    let q = c .before .loop in
-    let a = c .before .before .args in
-    let ws = inOrder (now (a .wants)) (now (a .order)) in
-    let all : q .i ≡ length (now (a .order)) = omega (arith, q .inv .turns) in
-    rw (← all) (q .inv .goes ∙ take-all (q .i) ws (omega (arith, length-inOrder (now (a .wants)) (now (a .order)))))
+    let k = c .before in
+    let a = k .before .before .before .before .args in
+    sym (k .loop .inv .goes ∙ ap (sets (k .loop .steps) (k .loop .i)) (wants-end (now (a .wants)) (now (a .order)) (k .loop .i) (c .loop-test .left)))
 
 pub in-order-spec : {M : Type 1} → statement M
 in-order-spec =
@@ -88,13 +79,11 @@ in-order-spec =
     Inv-loop
     μ-loop
     loop-holds
-    mul-t
-    shared-slice-read-t
-    cast-t
-    mul-steps
-    shared-slice-read-steps
-    mul-steps-2
-    slice-write-steps
+    mul-entry
+    shared-slice-read-entry
+    cast-entry
+    entry-requires
+    put-requires
     add-i
     loop-less
     loop-again

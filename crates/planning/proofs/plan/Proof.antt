@@ -1,5 +1,5 @@
 -- `plan` meets its contract: the examinations in the rule's sequence, and then the steps.
-use mathlib.Core.Path.{_≡_}
+use mathlib.Core.Path.{_≡_, sym, ap, _∙_}
 use Prim.Native.Nat.{_≤_}
 use native.Mathlib.Omega.{arith}
 use lib.ListN.{length, take}
@@ -10,8 +10,8 @@ use Rattle.job.specs.Handed.{jobKnown, wantsFit}
 use Rattle.job.proofs.Examination.{examined-refused, examined-passed}
 use Rattle.planning.specs.Order.{orderKnown}
 use Rattle.planning.specs.Plan.{inOrder}
-use Rattle.planning.proofs.Sequence.{job-of, order-long, order-below}
-use Rattle.planning.proofs.Planned.{refused-contract, steps-contract, plan-job, plan-order, plan-sizes, plan-drops, plan-loads, steps-asked}
+use Rattle.planning.proofs.Sequence.{job-of, first-steps}
+use Rattle.planning.proofs.Planned.{refused-contract, steps-contract, plan-job, plan-order, plan-sizes, plan-drops, plan-loads}
 use borrow.Author.Needs.{needs}
 use Rattle.planning.proofs.plan.Statement.{statement}
 use Rattle.planning.proofs.plan.Tie as tie
@@ -46,8 +46,8 @@ steps-are : (c : tie.After-in-order)
     take (length (now (a .wants))) (c .in-order .last .1 .1 .0) ≡ inOrder (now (a .wants)) (now (a .order))
 steps-are c =
     let a = c .before .before .before .before .before .before .before .before .before .before .before .before .before .before .before .before .before .args in
-    let long : length (now (a .order)) ≡ length (now (a .wants)) = order-long _ _ (order-passed (c .before .before .before .before .before .before .before)) in
-    rw (← long) (c .in-order .ensures)
+    let k = c .before .before .before .before .before .before .before in
+    ap (take (length (now (a .wants)))) (c .in-order .ensures) ∙ first-steps (now (a .wants)) (now (a .order)) _ (order-passed k) (omega (arith, job-of _ _ _ (job-passed (k .before .before .before)) .tests-bounds))
 
 examine-requires : tie.Need-examine-requires
 examine-requires c κs = search needs
@@ -120,10 +120,7 @@ slice-aggregate-in-order : tie.Need-slice-aggregate-in-order
 slice-aggregate-in-order c = search needs
 
 in-order-requires : tie.Need-in-order-requires
-in-order-requires c κs =
-    let k = c .before .before .before .before .before .before in
-    let j = k .before .before .before in
-    (omega (arith, order-long _ _ (order-passed k), job-of _ _ _ (job-passed j) .tests-bounds), order-below _ _ (order-passed k))
+in-order-requires c κs = search needs
 
 array-share-prefix-steps : tie.Need-array-share-prefix-steps
 array-share-prefix-steps c = omega (arith, enough c)
@@ -134,12 +131,29 @@ slice-aggregate-plan-steps c =
     omega (arith, length-take-le (length (now (a .wants))) (c .before .before .in-order .last .1 .1 .0) (enough (c .before)))
 
 plan-steps-requires : tie.Need-plan-steps-requires
-plan-steps-requires c κs =
-    let t = c .before .before .before .before .before .before .before .before in
-    let k = t .before .before .before in
-    let j = k .before .before .before in
+plan-steps-requires c κs = search needs
+
+-- the loads still have an entry for each test
+loads-long : (c : tie.After-plan-steps)
+    → let a = c .before .before .before .before .before .before .before .before .before .before .before .before .before .before .before .before .before .before .before .before .before .before .args in
+    length (now (a .wants)) ≤ length (c .plan-steps .last .1 .1 .1 .1 .0)
+loads-long c = omega (arith, c .plan-steps .kept .1 .1 .1 .1 .0, c .before .before .before .before .before .before .before .if2 .left)
+
+slice-reshare-prefix-count-curves : tie.Need-slice-reshare-prefix-count-curves
+slice-reshare-prefix-count-curves c = search needs
+
+slice-aggregate-count-curves : tie.Need-slice-aggregate-count-curves
+slice-aggregate-count-curves c =
+    let p = c .before .before .before .before .before in
+    let a = p .before .before .before .before .before .before .before .before .before .before .before .before .before .before .before .before .before .before .before .before .before .before .args in
+    sym (length-take-le (length (now (a .wants))) (p .plan-steps .last .1 .1 .1 .1 .0) (loads-long p))
+
+count-curves-requires : tie.Need-count-curves-requires
+count-curves-requires c κs =
+    let p = c .before .before .before .before .before in
+    let j = p .before .before .before .before .before .before .before .before .before .before .before .before .before .before .before in
     let a = j .before .before .before .before .before .before .before .args in
-    steps-asked (a .places) (a .curves) (now (a .wants)) (now (a .order)) (now (a .drops)) (now (a .loads)) (job-passed j) (order-passed k) (sizes-passed t) (c .before .before .before .before .before .before .before .if1 .left) (c .before .before .before .before .before .before .if2 .left) _ (steps-are (c .before .before .before .before))
+    omega (arith, length-take-le (length (now (a .wants))) (p .plan-steps .last .1 .1 .1 .1 .0) (loads-long p), job-of _ _ _ (job-passed j) .tests-bounds)
 
 same-length : tie.Need-same-length
 same-length c = search needs
@@ -150,13 +164,14 @@ same-length-2 c = search needs
 returns-6 : tie.Need-returns-6
 unfolding countOutcome
 returns-6 c =
-    let t = c .before .before .before .before .before .before .before .before .before .before .before .before .before in
+    let p = c .before .before .before .before .before .before in
+    let fits = p .before .before .before .before .before .before .before in
+    let t = fits .before .before in
     let k = t .before .before .before in
     let j = k .before .before .before in
     let a = j .before .before .before .before .before .before .before .args in
-    let p = c .before .before .before .before .plan-steps in
-    steps-contract (a .places) (a .curves) (now (a .wants)) (now (a .order)) (now (a .drops)) (now (a .loads)) (job-passed j) (order-passed k) (sizes-passed t) (c .before .before .before .before .before .before .before .before .before .before .before .before .if1 .left) (c .before .before .before .before .before .before .before .before .before .before .before .if2 .left) _ _ _ _
-    (steps-are (c .before .before .before .before .before .before .before .before .before)) (p .ensures .0) (p .ensures .1 .0) (p .ensures .1 .1)
+    steps-contract (a .places) (a .curves) (now (a .wants)) (now (a .order)) (now (a .drops)) (now (a .loads)) (job-passed j) (order-passed k) (sizes-passed t) (fits .before .if1 .left) (fits .if2 .left) _ _ _ _
+    (steps-are (p .before .before .before .before .before)) (p .plan-steps .ensures .1 .0) (p .plan-steps .ensures .1 .1) (c .count-curves .ensures)
 
 pub plan-spec : {M : Type 1} → statement M
 plan-spec =
@@ -181,6 +196,9 @@ plan-spec =
     array-share-prefix-steps
     slice-aggregate-plan-steps
     plan-steps-requires
+    slice-reshare-prefix-count-curves
+    slice-aggregate-count-curves
+    count-curves-requires
     same-length
     same-length-2
     returns-6)

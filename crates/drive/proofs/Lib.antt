@@ -1,0 +1,23 @@
+-- What the rules of one drive mean.
+--     CheckExact  the check ends exactly where every step keeps the rules, and breaks at the first that does not
+--     Moves       three lists as one list of moves
+--     Holdings    plans by what they hold
+--     Fewest      THE OPTIMUM: the load count of any good choice of victims is the least
+--     Best        the furthest next use is a good choice
+--     LeastUse    the next use is the least later step that wants the curve
+--     OurPlan     the victim is a maximum, exactly the excess is dropped, and all that is not wanted where the test is too large
+--     Staying     the victims by those that stay
+--     Width       our plan does not depend on a bound on curves above the job's
+--     Turns       one turn of a loop
+--     Scan        a walk over the elements of a set, and the best that it finds
+pub mod CheckExact
+pub mod Moves
+pub mod Holdings
+pub mod Fewest
+pub mod Best
+pub mod LeastUse
+pub mod OurPlan
+pub mod Staying
+pub mod Width
+pub mod Turns
+pub mod Scan

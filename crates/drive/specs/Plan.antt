@@ -1,0 +1,39 @@
+-- "Our plan": the choice of the drops, one step, and all steps.
+use mathlib.Core.List.{List, [], _∷_}
+use Prim.Native.Nat.{ℕ, zero, suc, _-_, _^_}
+use lib.Dec.{eqb}
+use Rattle.bitset.specs.Set.{_∪_, _∖_, size, bit}
+use Rattle.lists.specs.Choice.{Found, nobody, found, bestOf}
+use Rattle.drive.specs.declared.Sets.{Sets}
+use Rattle.drive.specs.Steps.{moved}
+use Rattle.drive.specs.Uses.{nextUse, further}
+
+-- of the candidates cs among n curves, "the curve whose next use in a later step is furthest", "Ties go to the lowest curve number"
+unfoldable pub furthest : ℕ → ℕ → List ℕ → Found ℕ
+furthest n cs ws = bestOf (λ c. eqb (bit c cs) 1) (λ b c. further (nextUse b ws) (nextUse c ws)) (λ c. c) n nobody
+
+-- the victim, and those that are chosen after it; none where there is no candidate (never met where there are as many as have to go: `OurPlan`)
+unfoldable pub andThen : Found ℕ → (ℕ → ℕ) → ℕ
+andThen nobody rest = 0
+andThen (found v) rest = 2 ^ v ∪ rest v
+
+-- the plan that drops what `pick` finds among the candidates, given the wants of the later steps
+module _ (pick : ℕ → List ℕ → Found ℕ) where
+  -- "one by one": e of the candidates cs
+  unfoldable pub victims : ℕ → ℕ → List ℕ → ℕ
+  victims zero cs ws = 0
+  victims (suc e) cs ws = andThen (pick cs ws) (λ v. victims e (cs ∖ 2 ^ v) ws)
+
+  module _ (capacity : ℕ) where
+    -- "If held and wanted curves together exceed the places, drop exactly the excess, from held curves that the test doesn't want"
+    unfoldable pub dropsFor : ℕ → ℕ → List ℕ → ℕ
+    dropsFor h w ws = victims (size (h ∪ w) - capacity) (h ∖ w) ws
+
+    -- one step, with h held: "Load what is wanted and not held."
+    abbrev pub next : ℕ → ℕ → List ℕ → Sets
+    next h w ws = record { drops = dropsFor h w ws; loads = w ∖ h }
+
+    -- all steps, with h held before the first
+    unfoldable pub planFrom : ℕ → List ℕ → List Sets
+    planFrom h [] = []
+    planFrom h (w ∷ ws) = next h w ws ∷ planFrom (moved h (next h w ws)) ws

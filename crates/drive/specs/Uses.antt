@@ -1,0 +1,28 @@
+-- "its next use, which is a later step or never", of the wants ws of the later steps. `At 0` is the step after the present one. `NextUse` is declared in the code.
+use mathlib.Core.Bool.{Bool, true, false}
+use mathlib.Core.List.{List, [], _∷_}
+use Prim.Native.Nat.{ℕ, zero, suc}
+use lib.Dec.{ltb}
+use Rattle.bitset.specs.Set.{bit}
+use Rattle.drive.specs.declared.choice.NextUse.{NextUse}
+use Rattle.drive.specs.declared.choice.NextUse.the-variants.{At, Never}
+
+unfoldable pub later : NextUse → NextUse
+later (At n) = At (suc n)
+later Never = Never
+
+-- by the curve's bit in the wants of the step after the present one, and its next use behind that
+unfoldable pub useBy : ℕ → NextUse → NextUse
+useBy zero u = later u
+useBy (suc d) u = At 0
+
+unfoldable pub nextUse : ℕ → List ℕ → NextUse
+nextUse c [] = Never
+nextUse c (w ∷ ws) = useBy (bit c w) (nextUse c ws)
+
+-- "never is furthest"
+unfoldable pub further : NextUse → NextUse → Bool
+further Never Never = false
+further Never (At n) = true
+further (At m) Never = false
+further (At m) (At n) = ltb n m
