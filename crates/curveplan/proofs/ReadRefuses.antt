@@ -1,15 +1,15 @@
 -- Reading job bytes refuses by 1 to 6 only.
 use mathlib.Core.Path.{_≡_, refl}
-use mathlib.Core.Bool.{not, _&&_}
 use mathlib.Core.List.{List, [], _∷_, _++_}
-use Prim.Native.Nat.{ℕ, zero, suc, _+_, _*_, _^_, _≤_}
+use Prim.Native.Nat.{ℕ, zero, suc, _+_, _*_, _/_, _%_, _^_, _≤_}
 use native.Mathlib.Omega.{arith}
-use lib.Dec.{ltb, eqb}
+use lib.Dec.{ltb}
 use Rattle.bitset.specs.Set.{_∪_, bit, inside}
 use Rattle.job.specs.Refusal.{Outcome, done, refused, _>>=_, _>>_, demand}
-use Rattle.job.specs.Handed.{between, allCurves, someTests}
+use Rattle.job.specs.Handed.{allCurves, someTests}
+use Rattle.job_bytes.specs.declared.fields.Field.{Field}
 use Rattle.job_bytes.specs.SetBytes.{Got, got, byteAt, readGroup, readGroups}
-use Rattle.job_bytes.specs.JobBytes.{readNumber, readField, readHead, readRecord, readRecords, atEnd, readBytes}
+use Rattle.job_bytes.specs.JobBytes.{fields, readNumber, readField, readFields, readHead, readRecord, readRecords, atEnd, readBytes}
 use Rattle.job.proofs.Refuses.{Refuses, refuses-demand, refuses-both, refuses-bind}
 
 abbrev pub ByReading : ℕ → ℕ → Type 0
@@ -29,21 +29,22 @@ number zero i bs = tt
 number (suc w) i bs =
     refuses-bind P (byteAt 1 i bs) _ (byte 1 i bs (omega arith, omega arith)) (λ b e. refuses-bind P (readNumber w (b .next) (b .rest)) _ (number w (b .next) (b .rest)) (λ r e. tt))
 
-field : (w low high absent d i : ℕ) (bs : List ℕ) → Refuses P (readField w low high absent d i bs)
+field : (f : Field) (d i : ℕ) (bs : List ℕ) → Refuses P (readField f d i bs)
 unfolding readField
-field w low high absent zero i bs = tt
-field w low high absent (suc d) i bs =
-    refuses-bind P (readNumber w i bs) _ (number w i bs) (λ v e. refuses-both P _ _ (refuses-demand P _ 2 i (omega arith, omega arith)) tt)
+field f zero i bs = tt
+field f (suc d) i bs =
+    refuses-bind P (readNumber (f .width) i bs) _ (number (f .width) i bs) (λ v e. refuses-both P _ _ (refuses-demand P _ 2 i (omega arith, omega arith)) tt)
+
+all-fields : (fs : List Field) (map : ℕ) (values : List ℕ) (i : ℕ) (bs : List ℕ) → Refuses P (readFields fs map values i bs)
+unfolding readFields
+all-fields [] map values i bs = tt
+all-fields (f ∷ fs) map values i bs = refuses-bind P _ _ (field f (map % 2) i bs) (λ v e. all-fields fs (map / 2) (values ++ (v .value ∷ [])) (v .next) (v .rest))
 
 head : (bs : List ℕ) → Refuses P (readHead bs)
 unfolding readHead
 head bs =
     refuses-bind P (byteAt 1 0 bs) _ (byte 1 0 bs (omega arith, omega arith))
-    (λ m e. refuses-both P _ _ (refuses-demand P _ 2 0 (omega arith, omega arith))
-    (refuses-bind P _ _ (field 1 1 64 8 (bit 0 (m .value)) (m .next) (m .rest))
-    (λ p e. refuses-bind P _ _ (field 1 1 64 64 (bit 1 (m .value)) (p .next) (p .rest))
-    (λ c e. refuses-bind P _ _ (field 2 1 256 0 (bit 2 (m .value)) (c .next) (c .rest))
-    (λ t e. refuses-bind P _ _ (field 1 1 3 0 (bit 3 (m .value)) (t .next) (t .rest)) (λ k e. tt))))))
+    (λ m e. refuses-both P _ _ (refuses-demand P _ 2 0 (omega arith, omega arith)) (refuses-bind P _ _ (all-fields fields (m .value) [] (m .next) (m .rest)) (λ r e. tt)))
 
 module _ (curves : ℕ) where
   group : (d j i : ℕ) (bs : List ℕ) → Refuses P (readGroup 1 3 4 curves d j i bs)

@@ -4,21 +4,21 @@ use mathlib.Core.Path.{_≡_, refl, sym, ap, _∙_, subst}
 use mathlib.Core.Logic.{_⊎_, inl, inr}
 use mathlib.Core.Bool.{Bool, true, false}
 use mathlib.Core.List.{List, [], _∷_, _++_}
-use Prim.Native.Nat.{ℕ, zero, suc, _+_, _*_, _≤_}
+use Prim.Native.Nat.{ℕ, zero, suc, _+_, _*_, _/_, _%_, _≤_}
 use native.Mathlib.Omega.{arith}
 use native.Mathlib.Decide.{decLe}
 use lib.Dec.{ltb, leb}
 use lib.ListN.{length, take, drop, length-take, length-drop, take-append-drop}
 use lib.Seq.{take-all}
-use Rattle.bitset.specs.Set.{_∪_, bit}
 use Rattle.job.specs.declared.Head.{Head}
 use Rattle.job.specs.Refusal.{Outcome, done, refused, _>>=_, _>>_, demand, room}
 use Rattle.job.specs.Handed.{someTests}
-use Rattle.job_bytes.specs.SetBytes.{Got, got, byteAt, readGroup, readGroups}
-use Rattle.job_bytes.specs.JobBytes.{Job, readNumber, readField, readHead, readRecord, readRecords, atEnd, readBytes, readJob, readJobAnswer, readJobWants, writeJob}
-use Rattle.job.proofs.Laws.{refused≢done, bind-done, mapped-done, mapped-refused, done-mapped}
-use Rattle.job_bytes.proofs.Heads.{head-at}
-use Rattle.job_bytes.proofs.Spans.{Ends, Spans, span-done, span-refused, head-span, records-span}
+use Rattle.job_bytes.specs.declared.fields.Field.{Field}
+use Rattle.job_bytes.specs.SetBytes.{Got, got}
+use Rattle.job_bytes.specs.JobBytes.{Job, fields, readNumber, readField, readFields, readHead, readRecord, readRecords, atEnd, readBytes, readJob, readJobAnswer, readJobWants, writeJob}
+use Rattle.job.proofs.Laws.{refused≢done, bind-done, mapped-done, mapped-refused}
+use Rattle.job_bytes.proofs.HeadRoundTrip.{head-range}
+use Rattle.job_bytes.proofs.Spans.{Ends, Spans, span-done, span-refused, widths, head-span, records-span}
 use Rattle.job_bytes.proofs.Behind.{Same, value, fault, same-then, same-test, byte-same, groups-same}
 use Rattle.job_bytes.proofs.JobRoundTrip.{job-back}
 
@@ -55,7 +55,7 @@ read-bounded bs = behind (readHead bs) refl (head-span bs)
         → Bounded bs (_>>=_ o (λ h. _>>_ (someTests (h .value .tests)) (_>>=_ (readRecords (h .value .curves) (h .value .tests) [] (h .next) (h .rest)) (λ r. _>>_ (atEnd 6 (r .next) (r .rest)) (done (record { head = h .value; wants = r .value }))))))
     behind (refused k f) e s = let x = span-refused s in figure k f (omega (arith, x .0)) (x .1)
     behind (done g) e s =
-        tested (g .value) (g .next) (g .rest) (ltb 0 (g .value .tests)) (head-at bs (g .value) (sym (done-mapped (λ (x : Got Head). x .value) (readHead bs) g e)) .tests) (span-done s)
+        tested (g .value) (g .next) (g .rest) (ltb 0 (g .value .tests)) (head-range bs g e .tests) (span-done s)
 
 -- A JOB THAT READS HAS AT MOST 2,310 BYTES
 pub job-short : (bs : List ℕ) (j : Job) → readBytes bs ≡ done j → length bs ≤ 2310
@@ -98,22 +98,22 @@ module _ (ys : List ℕ) where
   number-same (suc w) i m xs l =
       same-then ys (w + m) m _ (byte-same ys 1 i (w + m) xs (omega arith)) (λ b n xs l. same-then ys m m _ (number-same w n m xs l) (λ r n xs l. value _ n xs l))
 
-  field-same : (w low high absent d i m : ℕ) (xs : List ℕ) → w + m ≤ length xs → Same ys m (readField w low high absent d i xs) (readField w low high absent d i (xs ++ ys))
+  field-same : (f : Field) (d i m : ℕ) (xs : List ℕ) → f .width + m ≤ length xs → Same ys m (readField f d i xs) (readField f d i (xs ++ ys))
   unfolding readField
-  field-same w low high absent zero i m xs l = value absent i xs (omega arith)
-  field-same w low high absent (suc d) i m xs l = same-then ys m m _ (number-same w i m xs l) (λ v n xs l. same-test ys m _ 2 i (value v n xs l))
+  field-same f zero i m xs l = value (f .absent) i xs (omega arith)
+  field-same f (suc d) i m xs l = same-then ys m m _ (number-same (f .width) i m xs l) (λ v n xs l. same-test ys m _ 2 i (value v n xs l))
+
+  fields-same : (fs : List Field) (map : ℕ) (vs : List ℕ) (i m : ℕ) (xs : List ℕ) → widths fs + m ≤ length xs → Same ys m (readFields fs map vs i xs) (readFields fs map vs i (xs ++ ys))
+  unfolding readFields
+  fields-same [] map vs i m xs l = value vs i xs (omega arith)
+  fields-same (f ∷ fs) map vs i m xs l =
+      same-then ys (widths fs + m) m _ (field-same f (map % 2) i (widths fs + m) xs (omega arith)) (λ v n xs l. fields-same fs (map / 2) (vs ++ (v ∷ [])) n m xs l)
 
   head-same : (m : ℕ) (xs : List ℕ) → 6 + m ≤ length xs → Same ys m (readHead xs) (readHead (xs ++ ys))
-  unfolding readHead
+  unfolding readHead fields
   head-same m xs l =
       same-then ys (5 + m) m _ (byte-same ys 1 0 (5 + m) xs (omega arith))
-      (λ map n xs l.
-      same-test ys m _ 2 0
-      (same-then ys (4 + m) m _ (field-same 1 1 64 8 _ n (4 + m) xs (omega arith))
-      (λ places n xs l.
-      same-then ys (3 + m) m _ (field-same 1 1 64 64 _ n (3 + m) xs (omega arith))
-      (λ curves n xs l.
-      same-then ys (1 + m) m _ (field-same 2 1 256 0 _ n (1 + m) xs (omega arith)) (λ tests n xs l. same-then ys m m _ (field-same 1 1 3 0 _ n m xs (omega arith)) (λ method n xs l. value _ n xs l))))))
+      (λ map n xs l. same-test ys m _ 2 0 (same-then ys m m _ (fields-same fields map [] n m xs (omega arith)) (λ r n xs l. value _ n xs l)))
 
   record-same : (curves i m : ℕ) (xs : List ℕ) → 9 + m ≤ length xs → Same ys m (readRecord curves i xs) (readRecord curves i (xs ++ ys))
   unfolding readRecord
@@ -148,7 +148,7 @@ module _ (ys : List ℕ) where
       go : {o q : Outcome (Got Head)} → readHead xs ≡ o → readHead (xs ++ ys) ≡ q → Same ys 2305 o q → readBytes (xs ++ ys) ≡ readBytes xs
       go e f (fault k i) = rw (e, f) refl
       go e f (value h n rest m) =
-          rw (e, f) (tested h n rest (ltb 0 (h .tests)) (head-at xs h (sym (done-mapped (λ (x : Got Head). x .value) (readHead xs) (got h n rest) e)) .tests) m)
+          rw (e, f) (tested h n rest (ltb 0 (h .tests)) (head-range xs (got h n rest) e .tests) m)
 
 pub prefix-reads : (bs : List ℕ) → readBytes (take 2311 bs) ≡ readBytes bs
 prefix-reads bs = go (decLe (length bs) 2311)

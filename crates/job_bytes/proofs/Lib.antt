@@ -10,6 +10,7 @@
 --     Behind        bytes behind those that a reading takes do not change it
 --     JobWritten    writing a job, step by step
 --     SetRoundTrip  a set that is written reads back, and the other way round
+--     HeadRoundTrip the same of a head, by induction over the table of fields
 --     JobRoundTrip  the same of a job
 --     JobBounds     how long job bytes are, how large their figures, and that bytes behind the 2,311th change nothing
 --     ReadExact     bytes that read give a job
@@ -24,6 +25,7 @@ pub mod Records
 pub mod JobWritten
 pub mod SetRoundTrip
 pub mod GroupByte
+pub mod HeadRoundTrip
 pub mod JobRoundTrip
 pub mod JobBounds
 pub mod ReadExact

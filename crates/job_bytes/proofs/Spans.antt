@@ -3,14 +3,15 @@
 use mathlib.Core.Path.{_≡_, refl, sym, subst}
 use mathlib.Core.Bool.{Bool, true, false}
 use mathlib.Core.List.{List, [], _∷_, _++_}
-use Prim.Native.Nat.{ℕ, zero, suc, _+_, _*_, _≤_}
+use Prim.Native.Nat.{ℕ, zero, suc, _+_, _*_, _/_, _%_, _≤_}
 use native.Mathlib.Omega.{arith}
 use native.Mathlib.Decide.{decLe}
-use lib.ListN.{length, drop}
+use lib.ListN.{length, getD, drop}
 use Rattle.bitset.specs.Set.{_∪_, bit}
 use Rattle.job.specs.Refusal.{Outcome, done, refused, _>>=_, _>>_, demand}
+use Rattle.job_bytes.specs.declared.fields.Field.{Field}
 use Rattle.job_bytes.specs.SetBytes.{Got, got, byteAt, readGroup, readGroups}
-use Rattle.job_bytes.specs.JobBytes.{readNumber, readField, readHead, readRecord, readRecords}
+use Rattle.job_bytes.specs.JobBytes.{fields, readNumber, readField, readFields, readHead, readRecord, readRecords}
 use Rattle.job_bytes.proofs.Turns.{byte-there, byte-none}
 
 -- what was read ends at `next`, and `rest` is what stands behind it
@@ -61,6 +62,16 @@ span-stop i bs a l = ends (got a i (drop i bs)) (record { after = omega arith; m
 
 -- ---- the readers
 
+-- the bytes of all fields
+abbrev pub widths : List Field → ℕ
+widths [] = 0
+widths (f ∷ fs) = f .width + widths fs
+
+pub width-le : (fs : List Field) (j : ℕ) (d : Field) → getD fs j d .width ≤ d .width + widths fs
+width-le [] j d = omega arith
+width-le (f ∷ fs) zero d = omega arith
+width-le (f ∷ fs) (suc j) d = omega (arith, width-le fs j d)
+
 module _ (bs : List ℕ) where
   pub byte-span : (o i : ℕ) → i ≤ length bs → Spans 1 i bs (byteAt o i (drop i bs))
   byte-span o i l = go (decLe (length bs) i)
@@ -76,23 +87,23 @@ module _ (bs : List ℕ) where
       span-longer (omega arith)
       (span-bind 1 (w + 0) _ (byte-span 1 i l) (λ b n a m. span-bind w 0 _ (number-span w n m) (λ r k a h. span-stop k bs _ h)))
 
-  field-span : (w low high absent d i : ℕ) → i ≤ length bs → Spans w i bs (readField w low high absent d i (drop i bs))
+  pub field-span : (f : Field) (d i : ℕ) → i ≤ length bs → Spans (f .width) i bs (readField f d i (drop i bs))
   unfolding readField
-  field-span w low high absent zero i l = span-longer (omega arith) (span-stop i bs absent l)
-  field-span w low high absent (suc d) i l =
-      span-longer (omega arith) (span-bind w 0 _ (number-span w i l) (λ v n a m. span-test _ 2 i a m (span-stop n bs v m)))
+  field-span f zero i l = span-longer (omega arith) (span-stop i bs (f .absent) l)
+  field-span f (suc d) i l =
+      span-longer (omega arith) (span-bind (f .width) 0 _ (number-span (f .width) i l) (λ v n a m. span-test _ 2 i a m (span-stop n bs v m)))
+
+  fields-span : (fs : List Field) (map : ℕ) (vs : List ℕ) (i : ℕ) → i ≤ length bs → Spans (widths fs) i bs (readFields fs map vs i (drop i bs))
+  unfolding readFields
+  fields-span [] map vs i l = span-stop i bs vs l
+  fields-span (f ∷ fs) map vs i l = span-bind (f .width) (widths fs) _ (field-span f (map % 2) i l) (λ v n a m. fields-span fs (map / 2) (vs ++ (v ∷ [])) n m)
 
   -- a head takes at most 6 bytes
   pub head-span : Spans 6 0 bs (readHead bs)
-  unfolding readHead
+  unfolding readHead fields
   head-span =
       span-bind 1 5 _ (byte-span 1 0 (omega arith))
-      (λ map n a m.
-      span-test _ 2 0 (omega arith) m
-      (span-bind 1 4 _ (field-span 1 1 64 8 _ n m)
-      (λ places n a m.
-      span-bind 1 3 _ (field-span 1 1 64 64 _ n m)
-      (λ curves n a m. span-bind 2 1 _ (field-span 2 1 256 0 _ n m) (λ tests n a m. span-bind 1 0 _ (field-span 1 1 3 0 _ n m) (λ method n a m. span-stop n bs _ m))))))
+      (λ map n a m. span-test _ 2 0 (omega arith) m (span-bind 5 0 _ (fields-span fields map [] n m) (λ r n a m. span-stop n bs _ m)))
 
   module _ (owed empty unknown curves : ℕ) where
     group-span : (d j i : ℕ) → i ≤ length bs → Spans 1 i bs (readGroup owed empty unknown curves d j i (drop i bs))

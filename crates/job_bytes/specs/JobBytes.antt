@@ -1,18 +1,26 @@
 -- "Job bytes": the first byte is a bit map; then only the fields whose bit stands, in bit order; then one record for each test.
-use mathlib.Core.Bool.{Bool, true, false, not, _&&_}
-use mathlib.Core.List.{List, [], _∷_, _++_}
-use Prim.Native.Nat.{ℕ, zero, suc, _+_, _*_, _/_, _%_}
-use lib.ListN.{length}
+use mathlib.Core.Bool.{cond, not, _&&_}
+use mathlib.Core.List.{List, [], _∷_, _++_, foldr, zipWith, flatten}
+use Prim.Native.Nat.{ℕ, zero, suc, _+_, _*_, _/_, _%_, _^_}
+use lib.ListN.{length, getD}
 use lib.Dec.{ltb, eqb}
-use Rattle.bitset.specs.Set.{bit}
 use Rattle.job.specs.declared.Head.{Head}
 use Rattle.job.specs.Refusal.{Outcome, done, refused, _>>=_, _>>_, mapped, demand, room, leaves}
 use Rattle.job.specs.Handed.{between, someTests, jobKnownBy}
+use Rattle.job_bytes.specs.declared.fields.Field.{Field}
 use Rattle.job_bytes.specs.SetBytes.{setBytes, Got, got, byteAt, readGroups}
 
 pub record Job : Type 0 where
   pub head : Head
   pub wants : List ℕ
+
+-- a field of the head: its bytes, its range, and its value when absent
+abbrev field : (width low high absent : ℕ) → Field
+field w l h a = record { width = w; low = l; high = h; absent = a }
+
+-- "0 | places, 1 byte | 1..64 | 8", "1 | curves, 1 byte | 1..64 | 64", "2 | tests, 2 bytes | 1..256 | 0", "3 | method, 1 byte | 1..3 | 0"
+unfoldable pub fields : List Field
+fields = field 1 1 64 8 ∷ field 1 1 64 64 ∷ field 2 1 256 0 ∷ field 1 1 3 0 ∷ []
 
 -- ---- read
 
@@ -24,24 +32,31 @@ readNumber (suc w) i bs = do
   r ← readNumber w (b .next) (b .rest)
   done (got (b .value + 256 * r .value) (r .next) (r .rest))
 
--- a field of w bytes, if its bit d stands: "cut before value"; "a field never holds its absent value"
-unfoldable pub readField : (w low high absent d : ℕ) → ℕ → List ℕ → Outcome (Got ℕ)
-readField w low high absent zero i bs = done (got absent i bs)
-readField w low high absent (suc d) i bs = do
-  v ← readNumber w i bs
-  demand (between low high (v .value) && not (eqb (v .value) absent)) 2 i
+-- a field, if its bit d stands: "cut before value"; "A field never holds its absent value"
+unfoldable pub readField : Field → ℕ → ℕ → List ℕ → Outcome (Got ℕ)
+readField f zero i bs = done (got (f .absent) i bs)
+readField f (suc d) i bs = do
+  v ← readNumber (f .width) i bs
+  demand (between (f .low) (f .high) (v .value) && not (eqb (v .value) (f .absent))) 2 i
   done v
 
--- the table of fields: width, range, and the value when absent
+-- "only the fields whose bit stands, in bit order": the fields that have the bits of the map, lowest first, behind those that gave the values vs
+unfoldable pub readFields : List Field → ℕ → List ℕ → ℕ → List ℕ → Outcome (Got (List ℕ))
+readFields [] map vs i bs = done (got vs i bs)
+readFields (f ∷ fs) map vs i bs = do
+  v ← readField f (map % 2) i bs
+  readFields fs (map / 2) (vs ++ (v .value ∷ [])) (v .next) (v .rest)
+
+abbrev pub headOf : List ℕ → Head
+headOf vs = record { places = getD vs 0 0; curves = getD vs 1 0; tests = getD vs 2 0; method = getD vs 3 0 }
+
+-- "The first byte is a bit map"; "Bits 4 to 7 are zero": those of no field
 unfoldable pub readHead : List ℕ → Outcome (Got Head)
 readHead bs = do
   map ← byteAt 1 0 bs
-  demand (ltb (map .value) 16) 2 0
-  places ← readField 1 1 64 8 (bit 0 (map .value)) (map .next) (map .rest)
-  curves ← readField 1 1 64 64 (bit 1 (map .value)) (places .next) (places .rest)
-  tests ← readField 2 1 256 0 (bit 2 (map .value)) (curves .next) (curves .rest)
-  method ← readField 1 1 3 0 (bit 3 (map .value)) (tests .next) (tests .rest)
-  done (got (record { places = places .value; curves = curves .value; tests = tests .value; method = method .value }) (method .next) (method .rest))
+  demand (ltb (map .value) (2 ^ length fields)) 2 0
+  r ← readFields fields (map .value) [] (map .next) (map .rest)
+  done (got (headOf (r .value)) (r .next) (r .rest))
 
 -- "a group map, ..; No group byte is zero.": 1 where a byte is owed, 3 for a zero byte, 4 for a curve that the job lacks
 unfoldable pub readRecord : ℕ → ℕ → List ℕ → Outcome (Got ℕ)
@@ -90,29 +105,18 @@ unfoldable pub numberBytes : ℕ → ℕ → List ℕ
 numberBytes zero v = []
 numberBytes (suc w) v = v % 256 ∷ numberBytes w (v / 256)
 
--- a field stands unless it holds its absent value
-unfoldable pub fieldBytes : Bool → ℕ → ℕ → List ℕ
-fieldBytes true w v = []
-fieldBytes false w v = numberBytes w v
-
-unfoldable pub fieldBit : Bool → ℕ
-fieldBit true = 0
-fieldBit false = 1
-
-unfoldable pub headBytes : Head → List ℕ
-headBytes h =
-    (fieldBit (eqb (h .places) 8) + 2 * fieldBit (eqb (h .curves) 64) + 4 * fieldBit (eqb (h .tests) 0) + 8 * fieldBit (eqb (h .method) 0))
-    ∷ fieldBytes (eqb (h .places) 8) 1 (h .places)
-    ++ fieldBytes (eqb (h .curves) 64) 1 (h .curves)
-    ++ fieldBytes (eqb (h .tests) 0) 2 (h .tests)
-    ++ fieldBytes (eqb (h .method) 0) 1 (h .method)
+-- of the fields' values: a field's bit and its bytes stand unless it holds its absent value
+unfoldable pub headBytes : List ℕ → List ℕ
+headBytes vs =
+    foldr (λ b map. b + 2 * map) 0 (zipWith (λ f v. cond (eqb v (f .absent)) 0 1) fields vs)
+    ∷ flatten (zipWith (λ f v. cond (eqb v (f .absent)) [] (numberBytes (f .width) v)) fields vs)
 
 unfoldable pub recordBytes : List ℕ → List ℕ
 recordBytes [] = []
 recordBytes (w ∷ ws) = setBytes w ++ recordBytes ws
 
 unfoldable pub jobBytes : Job → List ℕ
-jobBytes j = headBytes (j .head) ++ recordBytes (j .wants)
+jobBytes j = headBytes (j .head .places ∷ j .head .curves ∷ j .head .tests ∷ j .head .method ∷ []) ++ recordBytes (j .wants)
 
 abbrev pub jobOf : ℕ → ℕ → ℕ → List ℕ → Job
 jobOf places curves method wants = record { head = record { places = places; curves = curves; tests = length wants; method = method }; wants = wants }

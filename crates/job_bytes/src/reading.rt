@@ -1,12 +1,18 @@
 // Job bytes, read: the head, then one record for each test.
 ghost use mathlib.Core.Path.{_≡_};
+ghost use mathlib.Core.Bool.{not, _&&_};
 ghost use mathlib.Core.List.{List, [], _++_};
-ghost use Prim.Native.Nat.{ℕ, _+_, _*_, _≤_, _<_};
-ghost use lib.ListN.{length, getD, take, drop};
-ghost use Rattle.bitset.specs.Set.{bit};
+ghost use Prim.Native.Nat.{ℕ, _+_, _*_, _≤_};
+ghost use lib.ListN.{length, take, drop};
+ghost use lib.Dec.{eqb};
+ghost use Rattle.job.specs.Handed.{between};
 ghost use Rattle.job.specs.Refusal.{done, mapped, readOutcome, countOutcome};
 ghost use Rattle.job_bytes.specs.SetBytes.{Got, got};
-ghost use Rattle.job_bytes.specs.JobBytes.{readNumber, readField, readHead, readRecords, readJobAnswer, readJobWants};
+ghost use Rattle.job_bytes.specs.JobBytes.{fields, readNumber, readField, headOf, readHead, readRecords, readJobAnswer, readJobWants};
+use crate::fields::FIELDS;
+use crate::fields::Field;
+use crate::fields::MAPS;
+use crate::fields::row;
 use crate::set_bytes::GroupRead;
 use crate::set_bytes::read_group;
 use job::Counted;
@@ -15,120 +21,95 @@ use job::Head;
 use job::JobRead;
 use job::Refusal;
 
-// "Two-byte numbers have the low byte first": the number of one or two bytes at a position.
+// "Two-byte numbers have the low byte first": the number of so many bytes at a position.
 fn number_at(job: &[u8], at: usize, width: usize) -> usize
-    requires { ⌜ (1 ≤ width) × (width ≤ 2) × (at + width ≤ length (now job)) ⌝ }
+    requires { ⌜ (width ≤ 8) × (at + width ≤ length (now job)) ⌝ }
     ensures { λ r. ⌜ readNumber width at (drop at (now (job .entry))) ≡ done (got r (at + width) (drop (at + width) (now (job .entry)))) ⌝ }
 {
-    let low = job[at] as usize;
-    if width == 2 {
-        let high = job[at + 1] as usize;
-        return low + 256 * high;
+    let mut value: usize = 0;
+    let mut k = width;
+    while 0 < k {
+        k -= 1;
+        value = job[at + k] as usize + 256 * value;
     }
-    low
+    value
 }
 
-// A field of the head, if its bit stands: "cut before value"; "A field never holds its absent value".
-fn read_field(
-    job: &[u8],
-    at: usize,
-    stands: u8,
-    width: usize,
-    high: usize,
-    absent: usize,
-) -> Counted
-    requires { ⌜ (1 ≤ width) × (width ≤ 2) × (at ≤ length (now job)) ⌝ }
-    ensures { λ r. ⌜ countOutcome r ≡ mapped (λ g. g .value) (readField width 1 high absent stands at (drop at (now (job .entry)))) ⌝ }
+// "range", and "A field never holds its absent value".
+fn holds(field: Field, value: usize) -> bool
+    ensures { λ r. ⌜ r ≡ (between (field .low) (field .high) value && not (eqb value (field .absent))) ⌝ }
+{
+    if value < field.low {
+        return false;
+    }
+    if field.high < value {
+        return false;
+    }
+    value != field.absent
+}
+
+// A field, if its bit stands: "cut before value". The next one begins at `at + stands * width`.
+fn read_field(job: &[u8], at: usize, stands: usize, field: Field) -> Counted
+    requires { ⌜ (stands ≤ 1) × (field .width ≤ 8) × (at ≤ length (now job)) ⌝ }
+    ensures { λ r. ⌜ readField field stands at (drop at (now (job .entry)))
+        ≡ mapped (λ v. got v (at + stands * field .width) (drop (at + stands * field .width) (now (job .entry)))) (countOutcome r) ⌝ }
 {
     if stands == 0 {
-        return Counted::Count(absent);
+        return Counted::Count(field.absent);
     }
+    let width = field.width;
     if job.len() - at < width {
         return Counted::Refused(Refusal::Truncated(job.len()));
     }
     let value = number_at(job, at, width);
-    if value < 1 {
-        return Counted::Refused(Refusal::BadHeader(at));
+    if holds(field, value) {
+        return Counted::Count(value);
     }
-    if high < value {
-        return Counted::Refused(Refusal::BadHeader(at));
-    }
-    if value == absent {
-        return Counted::Refused(Refusal::BadHeader(at));
-    }
-    Counted::Count(value)
+    Counted::Refused(Refusal::BadHeader(at))
 }
 
-// How many bytes the head takes: the map, and the fields whose bit stands.
-fn head_len(map: u8) -> usize
-    ensures { λ r. ⌜ r ≡ 1 + bit 0 map + bit 1 map + 2 * bit 2 map + bit 3 map ⌝ }
+// A head of its fields' values.
+fn head_of(values: &[usize]) -> Head
+    requires { ⌜ 4 ≤ length (now values) ⌝ }
+    ensures { λ r. ⌜ r ≡ headOf (now (values .entry)) ⌝ }
 {
-    1
-        + (map % 2) as usize
-        + ((map >> 1) % 2) as usize
-        + 2 * ((map >> 2) % 2) as usize
-        + ((map >> 3) % 2) as usize
+    Head {
+        places: values[0],
+        curves: values[1],
+        tests: values[2],
+        method: values[3],
+    }
 }
 
-// The head: "The first byte is a bit map; then only the fields whose bit stands, in bit order."
-fn read_head(job: &[u8]) -> JobRead
-    ensures { λ r. ⌜ readOutcome r ≡ mapped (λ g. g .value) (readHead (now (job .entry))) ⌝ }
+// The head: "The first byte is a bit map; then only the fields whose bit stands, in bit order." Their values go to `values`; answers where the head ends.
+fn read_head(job: &[u8], values: &mut [usize]) -> Counted
+    requires { ⌜ length (now values) ≡ length fields ⌝ }
+    ensures { λ r. ⌜ readHead (now (job .entry)) ≡ mapped (λ n. got (headOf (now (values .exit))) n (drop n (now (job .entry)))) (countOutcome r) ⌝ }
 {
     if job.len() == 0 {
-        return JobRead::Refused(Refusal::Truncated(0));
+        return Counted::Refused(Refusal::Truncated(0));
     }
-    let map = job[0];
-    if 16 <= map {
-        return JobRead::Refused(Refusal::BadHeader(0));
+    let mut map = job[0] as usize;
+    if MAPS <= map {
+        return Counted::Refused(Refusal::BadHeader(0));
     }
-    read_fields(job, map)
-}
-
-// The fields of the head, behind its map.
-fn read_fields(job: &[u8], map: u8) -> JobRead
-    requires { ⌜ (0 < length (now job)) × (getD (now job) 0 0 ≡ map) × (map < 16) ⌝ }
-    ensures { λ r. ⌜ readOutcome r ≡ mapped (λ g. g .value) (readHead (now (job .entry))) ⌝ }
-{
     let mut at: usize = 1;
-    let mut places: usize = 0;
-    match read_field(job, at, map % 2, 1, 64, 8) {
-        Counted::Refused(r) => {
-            return JobRead::Refused(r);
+    let mut j: usize = 0;
+    while j < FIELDS {
+        let field = row(j);
+        match read_field(job, at, map % 2, field) {
+            Counted::Refused(r) => {
+                return Counted::Refused(r);
+            }
+            Counted::Count(value) => {
+                values[j] = value;
+            }
         }
-        Counted::Count(value) => {
-            places = value;
-        }
+        at += map % 2 * field.width;
+        map /= 2;
+        j += 1;
     }
-    at += (map % 2) as usize;
-    let mut curves: usize = 0;
-    match read_field(job, at, (map >> 1) % 2, 1, 64, 64) {
-        Counted::Refused(r) => {
-            return JobRead::Refused(r);
-        }
-        Counted::Count(value) => {
-            curves = value;
-        }
-    }
-    at += ((map >> 1) % 2) as usize;
-    let mut tests: usize = 0;
-    match read_field(job, at, (map >> 2) % 2, 2, 256, 0) {
-        Counted::Refused(r) => {
-            return JobRead::Refused(r);
-        }
-        Counted::Count(value) => {
-            tests = value;
-        }
-    }
-    at += 2 * ((map >> 2) % 2) as usize;
-    match read_field(job, at, (map >> 3) % 2, 1, 3, 0) {
-        Counted::Refused(r) => JobRead::Refused(r),
-        Counted::Count(method) => JobRead::Read(Head {
-            places,
-            curves,
-            tests,
-            method,
-        }),
-    }
+    Counted::Count(at)
 }
 
 // One record for each test, from `start` on; answers where the last one ends. "The first faulty byte ends the reading, in the middle of a test's groups
@@ -199,9 +180,9 @@ fn copy_front(to: &mut [u64], from: &[u64], n: usize)
     }
 }
 
-// The tests behind a head that was read: 5, the records, 6, 9.
-fn read_tests(job: &[u8], head: Head, wants: &mut [u64]) -> JobRead
-    requires { ⌜ mapped (λ g. g .value) (readHead (now job)) ≡ done head ⌝ }
+// The tests behind a head that was read, from `start` on: 5, the records, 6, 9.
+fn read_tests(job: &[u8], head: Head, start: usize, wants: &mut [u64]) -> JobRead
+    requires { ⌜ readHead (now job) ≡ done (got head start (drop start (now job))) ⌝ }
     ensures answer { λ r. ⌜ readOutcome r ≡ readJobAnswer (now (job .entry)) (now (wants .entry)) ⌝ }
     ensures lent { λ _. ⌜ now (wants .exit) ≡ readJobWants (now (job .entry)) (now (wants .entry)) ⌝ }
 {
@@ -209,7 +190,6 @@ fn read_tests(job: &[u8], head: Head, wants: &mut [u64]) -> JobRead
     if tests == 0 {
         return JobRead::Refused(Refusal::NoTests);
     }
-    let start = head_len(job[0]);
     let mut list = [0u64; 256];
     match read_records(job, start, tests, head.curves, &mut list) {
         Counted::Refused(r) => JobRead::Refused(r),
@@ -231,8 +211,9 @@ pub fn read_job(job: &[u8], wants: &mut [u64]) -> JobRead
     ensures answer { λ r. ⌜ readOutcome r ≡ readJobAnswer (now (job .entry)) (now (wants .entry)) ⌝ }
     ensures lent { λ _. ⌜ now (wants .exit) ≡ readJobWants (now (job .entry)) (now (wants .entry)) ⌝ }
 {
-    match read_head(job) {
-        JobRead::Refused(r) => JobRead::Refused(r),
-        JobRead::Read(head) => read_tests(job, head, wants),
+    let mut values = [0usize; FIELDS];
+    match read_head(job, &mut values) {
+        Counted::Refused(r) => JobRead::Refused(r),
+        Counted::Count(start) => read_tests(job, head_of(&values), start, wants),
     }
 }

@@ -1,35 +1,43 @@
 // Job bytes, written: the head, then one record for each test.
 ghost use mathlib.Core.Path.{_≡_};
-ghost use Prim.Native.Nat.{_+_, _≤_};
-ghost use lib.ListN.{length};
+ghost use Prim.Native.Nat.{_+_, _*_, _≤_};
+ghost use lib.ListN.{length, getD};
 ghost use lib.Seq.{sets};
-ghost use lib.Dec.{eqb};
 ghost use Rattle.job.specs.Refusal.{countOutcome};
-ghost use Rattle.job_bytes.specs.JobBytes.{fieldBit, fieldBytes, headBytes, recordBytes, writeJobAnswer, writeJobBuffer};
+ghost use Rattle.job_bytes.specs.JobBytes.{fields, numberBytes, headBytes, recordBytes, writeJobAnswer, writeJobBuffer};
+use crate::fields::FIELDS;
+use crate::fields::row;
 use crate::set_bytes::put_set;
 use crate::set_bytes::set_len;
 use job::Counted;
 use job::Examined;
-use job::Head;
 use job::Refusal;
 use job::examine_by;
 
-// The bit of a field in the head's map: "A field never holds its absent value."
-fn field_bit(value: usize, absent: usize) -> u8
-    ensures { λ r. ⌜ r ≡ fieldBit (eqb value absent) ⌝ }
-{
-    if value == absent { 0 } else { 1 }
+// What the values of a head come to: its map, where a field's bit stands unless it holds its absent value, and how many bytes it takes.
+struct Shape {
+    map: u8,
+    len: usize,
 }
 
-// How many bytes a head takes.
-fn head_bytes_len(head: Head) -> usize
-    ensures { λ r. ⌜ r ≡ length (headBytes head) ⌝ }
+fn head_shape(values: &[usize]) -> Shape
+    requires { ⌜ length (now values) ≡ length fields ⌝ }
+    ensures map { λ r. ⌜ r .map ≡ getD (headBytes (now (values .entry))) 0 0 ⌝ }
+    ensures len { λ r. ⌜ (r .len ≡ length (headBytes (now (values .entry)))) × (r .len ≤ 1 + 8 * length fields) ⌝ }
 {
-    1
-        + field_bit(head.places, 8) as usize
-        + field_bit(head.curves, 64) as usize
-        + 2 * field_bit(head.tests, 0) as usize
-        + field_bit(head.method, 0) as usize
+    let mut map: u8 = 0;
+    let mut len: usize = 1;
+    let mut j = FIELDS;
+    while 0 < j {
+        j -= 1;
+        let field = row(j);
+        map *= 2;
+        if values[j] != field.absent {
+            map += 1;
+            len += field.width;
+        }
+    }
+    Shape { map, len }
 }
 
 // How many bytes the records take.
@@ -46,37 +54,37 @@ fn records_len(wants: &[u64]) -> usize
     n
 }
 
-// Writes a field of one or two bytes from `at` on, the low byte first, unless it holds its absent value; answers where the next one begins.
-fn put_field(value: usize, absent: usize, width: usize, at: usize, out: &mut [u8]) -> usize
-    requires { ⌜ (1 ≤ width) × (width ≤ 2) × (at + length (fieldBytes (eqb value absent) width value) ≤ length (now out)) ⌝ }
-    ensures next { λ r. ⌜ r ≡ at + length (fieldBytes (eqb value absent) width value) ⌝ }
-    ensures bytes { λ _. ⌜ now (out .exit) ≡ sets (now (out .entry)) at (fieldBytes (eqb value absent) width value) ⌝ }
+// Writes a number of so many bytes from `at` on, the low byte first.
+fn put_number(value: usize, width: usize, at: usize, out: &mut [u8])
+    requires { ⌜ at + width ≤ length (now out) ⌝ }
+    ensures { λ _. ⌜ now (out .exit) ≡ sets (now (out .entry)) at (numberBytes width value) ⌝ }
 {
-    if value == absent {
-        return at;
+    let mut rest = value;
+    let mut k = 0;
+    while k < width {
+        out[at + k] = (rest % 256) as u8;
+        rest /= 256;
+        k += 1;
     }
-    out[at] = (value % 256) as u8;
-    if width == 2 {
-        out[at + 1] = (value / 256 % 256) as u8;
-        return at + 2;
-    }
-    at + 1
 }
 
-// Writes a head to the beginning of `out`, and answers where it ends.
-fn put_head(head: Head, out: &mut [u8]) -> usize
-    requires { ⌜ length (headBytes head) ≤ length (now out) ⌝ }
-    ensures end { λ r. ⌜ r ≡ length (headBytes head) ⌝ }
-    ensures bytes { λ _. ⌜ now (out .exit) ≡ sets (now (out .entry)) 0 (headBytes head) ⌝ }
+// Writes a head, whose map is handed over, to the beginning of `out`.
+fn put_head(values: &[usize], map: u8, out: &mut [u8])
+    requires { ⌜ (length (now values) ≡ length fields) × (map ≡ getD (headBytes (now values)) 0 0) × (length (headBytes (now values)) ≤ length (now out)) ⌝ }
+    ensures { λ _. ⌜ now (out .exit) ≡ sets (now (out .entry)) 0 (headBytes (now (values .entry))) ⌝ }
 {
-    out[0] = field_bit(head.places, 8)
-        + 2 * field_bit(head.curves, 64)
-        + 4 * field_bit(head.tests, 0)
-        + 8 * field_bit(head.method, 0);
-    let mut at = put_field(head.places, 8, 1, 1, out);
-    at = put_field(head.curves, 64, 1, at, out);
-    at = put_field(head.tests, 0, 2, at, out);
-    put_field(head.method, 0, 1, at, out)
+    out[0] = map;
+    let mut at: usize = 1;
+    let mut j = 0;
+    while j < FIELDS {
+        let field = row(j);
+        let value = values[j];
+        j += 1;
+        if value != field.absent {
+            put_number(value, field.width, at, out);
+            at += field.width;
+        }
+    }
 }
 
 // Writes the records from `at` on.
@@ -106,18 +114,14 @@ pub fn write_job(
     match examine_by(places, curves, method, wants) {
         Examined::Refused(r) => Counted::Refused(r),
         Examined::Passed => {
-            let head = Head {
-                places,
-                curves,
-                tests: wants.len(),
-                method,
-            };
-            let needed = head_bytes_len(head) + records_len(wants);
+            let values = [places, curves, wants.len(), method];
+            let head = head_shape(&values);
+            let needed = head.len + records_len(wants);
             if out.len() < needed {
                 return Counted::Refused(Refusal::BufferTooSmall(needed));
             }
-            let at = put_head(head, out);
-            put_records(wants, at, out);
+            put_head(&values, head.map, out);
+            put_records(wants, head.len, out);
             Counted::Count(needed)
         }
     }

@@ -1,49 +1,71 @@
--- `job_bytes::reading::number_at` meets its contract.
-use mathlib.Core.Path.{_≡_}
-use Prim.Native.Nat.{_+_}
+-- `job_bytes::reading::number_at` meets its contract. The invariant: the number of the bytes from the k-th on.
+use mathlib.Core.Path.{_≡_, refl}
+use Prim.Native.Nat.{suc, _+_, _-_, _*_, _^_, _≤_, _<_}
 use native.Mathlib.Omega.{arith}
+use lib.ListN.{getD, drop}
+use lib.Pow.{pow-mono}
 use denote.Ref.{now}
 use borrow.Author.Needs.{needs}
-use Rattle.job_bytes.proofs.Heads.{number-one, number-two}
+use Rattle.job.specs.Refusal.{done}
+use Rattle.job_bytes.specs.SetBytes.{got}
+use Rattle.job_bytes.specs.JobBytes.{readNumber}
+use Rattle.job_bytes.proofs.Heads.{byte-more, number-more}
 use Rattle.job_bytes.proofs.reading.number_at.Statement.{statement}
 use Rattle.job_bytes.proofs.reading.number_at.Tie as tie
 
-shared-slice-read-low : tie.Need-shared-slice-read-low
-shared-slice-read-low c = search needs
+abbrev Inv-loop : tie.InvT-loop
+Inv-loop job at width value₀ k₀ value k =
+    (k ≤ width) × (value < 2 ^ (8 * (width - k))) × (readNumber (width - k) (at + k) (drop (at + k) job) ≡ done (got value (at + width) (drop (at + width) job)))
 
-cast-low : tie.Need-cast-low
-cast-low c = omega (arith, c .shared-slice-known .given (c .before .args .at))
+abbrev μ-loop : tie.MeasureT-loop
+μ-loop job at width value₀ k₀ value k = k
 
-add-high : tie.Need-add-high
-add-high c = search needs
+loop-holds : tie.Need-loop-holds Inv-loop μ-loop
+unfolding readNumber
+loop-holds c = let z : c .args .width - c .args .width ≡ 0 = omega arith in rw z (omega arith, omega arith, refl)
 
-shared-slice-read-high : tie.Need-shared-slice-read-high
-shared-slice-read-high c = search needs
+sub-k : tie.Need-sub-k Inv-loop μ-loop
+sub-k c = search needs
 
-cast-high : tie.Need-cast-high
-cast-high c = omega (arith, c .shared-slice-known2 .given (c .before .before .before .args .at + 1))
+add-value : tie.Need-add-value Inv-loop μ-loop
+add-value c = search needs
 
-mul-result : tie.Need-mul-result
-mul-result c =
-    let at = c .before .before .before .args .at in
-    omega (arith, c .shared-slice-known2 .given at, c .shared-slice-known2 .given (at + 1))
+shared-slice-read-value : tie.Need-shared-slice-read-value Inv-loop μ-loop
+shared-slice-read-value c = search needs
 
-add-result : tie.Need-add-result
-add-result c =
-    let at = c .before .before .before .args .at in
-    omega (arith, c .shared-slice-known2 .given at, c .shared-slice-known2 .given (at + 1))
+cast-value : tie.Need-cast-value Inv-loop μ-loop
+cast-value c = omega (arith, c .shared-slice-known .given (c .before .before .before .args .at + (c .before .before .loop .k - 1)))
 
-returns : tie.Need-returns
-returns c =
+mul-value : tie.Need-mul-value Inv-loop μ-loop
+mul-value c = let l : 8 * (c .before .before .before .args .width - c .before .before .loop .k) ≤ 56 = omega arith in omega (arith, pow-mono l)
+
+add-value-2 : tie.Need-add-value-2 Inv-loop μ-loop
+add-value-2 c =
+    let l : 8 * (c .before .before .before .args .width - c .before .before .loop .k) ≤ 56 = omega arith in
+    omega (arith, pow-mono l, c .shared-slice-known .given (c .before .before .before .args .at + (c .before .before .loop .k - 1)))
+
+loop-less : tie.Need-loop-less Inv-loop μ-loop
+loop-less c = search needs
+
+loop-again : tie.Need-loop-again Inv-loop μ-loop
+loop-again c =
     let a = c .before .before .before .args in
-    let e : a .width ≡ 2 = c .before .if1 .taken in
-    rw e (number-two (now (a .job)) (a .at) (omega arith))
+    let l = c .before .before .loop in
+    let i = a .at + (l .k - 1) in
+    let w : a .width - (l .k - 1) ≡ suc (a .width - l .k) = omega arith in
+    let n : a .at + l .k ≡ suc i = omega arith in
+    let v = byte-more (a .width - l .k) (l .value) (getD (now (a .job)) i 0) (l .inv .1) (omega (arith, c .shared-slice-known .given i)) in
+    rw w (omega arith, v, number-more (now (a .job)) (a .width - l .k) i (l .value) (a .at + a .width) (omega arith) (rw n at (l .inv .2)))
 
-returns-2 : tie.Need-returns-2
-returns-2 c =
+returns : tie.Need-returns Inv-loop μ-loop
+returns c =
     let a = c .before .before .args in
-    let e : a .width ≡ 1 = omega (arith, c .if1 .left) in
-    rw e (number-one (now (a .job)) (a .at) (omega arith))
+    let l = c .before .loop in
+    let z : l .k ≡ 0 = omega arith in
+    let w : a .width - 0 ≡ a .width = omega arith in
+    let n : a .at + 0 ≡ a .at = omega arith in
+    rw (w, n) at (rw z at (l .inv .2))
 
 pub number-at-spec : {M : Type 1} → statement M
-number-at-spec = tie.close (tie.spec shared-slice-read-low cast-low add-high shared-slice-read-high cast-high mul-result add-result returns returns-2)
+number-at-spec =
+    tie.close (tie.spec Inv-loop μ-loop loop-holds sub-k add-value shared-slice-read-value cast-value mul-value add-value-2 loop-less loop-again returns)

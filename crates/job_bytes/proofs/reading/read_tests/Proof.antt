@@ -1,51 +1,62 @@
 -- `job_bytes::reading::read_tests` meets its contract: the head that was read, its records, and then what comes behind them.
-use Prim.Native.Nat.{_<_}
 use mathlib.Core.Path.{_≡_, _∙_}
+use mathlib.Core.List.{List, []}
+use Prim.Native.Nat.{ℕ, _<_}
 use native.Mathlib.Omega.{arith}
-use lib.ListN.{length, getD, take}
+use lib.ListN.{length, take, drop}
 use lib.Seq.{length-take-le}
 use denote.Ref.{now}
 use borrow.Author.Needs.{needs}
-use Rattle.job.specs.Refusal.{readOutcome, number, figure}
+use Rattle.job.specs.Refusal.{done, number, figure, readOutcome}
+use Rattle.job_bytes.specs.SetBytes.{got}
+use Rattle.job_bytes.specs.JobBytes.{readRecords}
 use Rattle.job.proofs.Laws.{count-done, count-refused, mapped-refused}
-use Rattle.job_bytes.proofs.Heads.{head-at, headLength}
+use Rattle.job_bytes.proofs.HeadRoundTrip.{head-range}
+use Rattle.job_bytes.proofs.Heads.{head-within}
 use Rattle.job_bytes.proofs.Records.{whole-none, whole-fault, whole-more, whole-read, records-got, job-refused, job-short, job-fits}
 use Rattle.job_bytes.proofs.reading.read_tests.Statement.{statement}
 use Rattle.job_bytes.proofs.reading.read_tests.Tie as tie
+
+-- where the records end, the list, and the sets that they gave
+abbrev end : tie.After-end → ℕ
+end c = c .end .given .0 .0
+
+abbrev list : tie.After-end → List ℕ
+list c = c .before .before .before .read-records .last .1 .1 .1 .1 .0
+
+abbrev sets : tie.After-end → List ℕ
+sets c = take (c .before .before .before .before .before .before .before .before .args .head .tests) (list c)
+
+records : (c : tie.After-end)
+    → let a = c .before .before .before .before .before .before .before .before .args in
+    readRecords (a .head .curves) (a .head .tests) [] (a .start) (drop (a .start) (now (a .job))) ≡ done (got (sets c) (end c) (drop (end c) (now (a .job))))
+records c =
+    let k = c .before .before .before .before .before .before .before .before in
+    let a = k .args in
+    let r = c .before .before .before .read-records in
+    records-got (now (a .job)) (a .head .curves) (a .head .tests) (a .start) (end c) (sets c) (head-within (now (a .job)) (a .head) (a .start) (k .pre))
+    (count-done (r .result) _ (end c) (r .ensures .0) (c .end .given .1)) (r .ensures .1)
+
+some : (c : tie.After-end) → 0 < c .before .before .before .before .before .before .before .before .args .head .tests
+some c = omega (arith, c .before .before .before .before .before .if1 .left)
 
 returns : tie.Need-returns
 unfolding readOutcome number figure
 returns c =
     let k = c .before .before .before in
     let a = k .args in
-    let bs = now (a .job) in
-    let old = now (a .wants) in
-    let h = head-at bs (a .head) (k .pre) in
-    job-refused bs old 5 0 (whole-none bs (a .head) (headLength (getD bs 0 0)) (h .read) (c .if1 .taken))
-
-shared-slice-read-head-len : tie.Need-shared-slice-read-head-len
-shared-slice-read-head-len c =
-    let k = c .before .before .before .before in
-    let a = k .args in
-    let bs = now (a .job) in
-    let old = now (a .wants) in
-    let h = head-at bs (a .head) (k .pre) in
-    omega (arith, h .some)
-
-head-len-requires : tie.Need-head-len-requires
-head-len-requires c κs = search needs
+    job-refused (now (a .job)) (now (a .wants)) 5 0 (whole-none (now (a .job)) (a .head) (a .start) (k .pre) (c .if1 .taken))
 
 slice-aggregate-read-records : tie.Need-slice-aggregate-read-records
 slice-aggregate-read-records c = search needs
 
 read-records-requires : tie.Need-read-records-requires
 read-records-requires c κs =
-    let k = c .before .before .before .before .before .before in
+    let k = c .before .before .before .before in
     let a = k .args in
     let bs = now (a .job) in
-    let old = now (a .wants) in
-    let h = head-at bs (a .head) (k .pre) in
-    (omega (arith, c .before .head-len .ensures, h .within), h .tests, h .curves)
+    let h = head-range bs _ (k .pre) in
+    (head-within bs (a .head) (a .start) (k .pre), h .tests, h .curves .1)
 
 enum-known-r : tie.Need-enum-known-r
 enum-known-r c = search needs
@@ -56,61 +67,40 @@ enum-known-end c = search needs
 returns-2 : tie.Need-returns-2
 unfolding readOutcome number figure
 returns-2 c =
-    let k = c .before .before .before .before .before .before .before .before .before .before .before .before in
+    let k = c .before .before .before .before .before .before .before .before .before .before in
     let a = k .args in
-    let bs = now (a .job) in
-    let old = now (a .wants) in
-    let h = head-at bs (a .head) (k .pre) in
-    let n : c .before .before .before .before .before .before .before .head-len .result ≡ headLength (getD bs 0 0) = c .before .before .before .before .before .before .before .head-len .ensures in
-    let some : 0 < a .head .tests = omega (arith, c .before .before .before .before .before .before .before .before .before .if1 .left) in
-    let r = c .before .before .before .before .before .read-records in
-    let e = c .before .before .end .given .0 .0 in
-    let sets = take (a .head .tests) (r .last .1 .1 .1 .1 .0) in
-    let got = records-got bs (a .head .curves) (a .head .tests) (headLength (getD bs 0 0)) e sets (h .within) (rw n at (count-done (r .result) _ e (r .ensures .0) (c .before .before .end .given .1))) (rw n at (r .ensures .1)) in
-    job-refused bs old 6 e (whole-more bs (a .head) (headLength (getD bs 0 0)) (h .read) some sets e got (c .if2 .taken))
+    let d = c .before .before in
+    job-refused (now (a .job)) (now (a .wants)) 6 (end d)
+    (whole-more (now (a .job)) (a .head) (a .start) (k .pre) (some d) (sets d) (end d) (records d) (c .if2 .taken))
 
 returns-3 : tie.Need-returns-3
 unfolding readOutcome number figure
 returns-3 c =
-    let k = c .before .before .before .before .before .before .before .before .before .before .before .before .before in
+    let k = c .before .before .before .before .before .before .before .before .before .before .before in
     let a = k .args in
-    let bs = now (a .job) in
-    let old = now (a .wants) in
-    let h = head-at bs (a .head) (k .pre) in
-    let n : c .before .before .before .before .before .before .before .before .head-len .result ≡ headLength (getD bs 0 0) = c .before .before .before .before .before .before .before .before .head-len .ensures in
-    let some : 0 < a .head .tests = omega (arith, c .before .before .before .before .before .before .before .before .before .before .if1 .left) in
-    let r = c .before .before .before .before .before .before .read-records in
-    let e = c .before .before .before .end .given .0 .0 in
-    let sets = take (a .head .tests) (r .last .1 .1 .1 .1 .0) in
-    let got = records-got bs (a .head .curves) (a .head .tests) (headLength (getD bs 0 0)) e sets (h .within) (rw n at (count-done (r .result) _ e (r .ensures .0) (c .before .before .before .end .given .1))) (rw n at (r .ensures .1)) in
-    job-short bs old _ (whole-read bs (a .head) (headLength (getD bs 0 0)) (h .read) some sets e got (c .before .if2 .left)) (c .if3 .taken)
+    let d = c .before .before .before in
+    job-short (now (a .job)) (now (a .wants)) _
+    (whole-read (now (a .job)) (a .head) (a .start) (k .pre) (some d) (sets d) (end d) (records d) (c .before .if2 .left)) (c .if3 .taken)
 
 slice-aggregate-copy-front : tie.Need-slice-aggregate-copy-front
 slice-aggregate-copy-front c = search needs
 
 copy-front-requires : tie.Need-copy-front-requires
 copy-front-requires c κs =
-    let k = c .before .before .before .before .before .before .before .before .before .before .before .before .before .before .before in
-    let a = k .args in
-    let bs = now (a .job) in
-    let old = now (a .wants) in
-    let h = head-at bs (a .head) (k .pre) in
+    let k = c .before .before .before .before .before .before .before .before .before .before .before .before .before in
     let long : length (c .before .before .before .before .before .before .before .before .read-records .last .1 .1 .1 .1 .0) ≡ 256 = c .before .before .before .before .before .before .before .before .read-records .kept .1 .1 .1 .1 .0 in
-    (omega (arith, h .tests), c .before .before .if3 .left)
+    (omega (arith, head-range (now (k .args .job)) _ (k .pre) .tests), c .before .before .if3 .left)
 
 returns-4 : tie.Need-returns-4
 unfolding readOutcome
 returns-4 c =
-    let k = c .before .before .before .before .before .before .before .before .before .before .before in
+    let k = c .before .before .before .before .before .before .before .before .before in
     let a = k .args in
     let bs = now (a .job) in
     let old = now (a .wants) in
-    let h = head-at bs (a .head) (k .pre) in
-    let n : c .before .before .before .before .before .before .head-len .result ≡ headLength (getD bs 0 0) = c .before .before .before .before .before .before .head-len .ensures in
-    let some : 0 < a .head .tests = omega (arith, c .before .before .before .before .before .before .before .before .if1 .left) in
+    let some : 0 < a .head .tests = omega (arith, c .before .before .before .before .before .before .if1 .left) in
     let r = c .before .before .before .before .read-records in
-    let f = rw n at (mapped-refused _ _ _ _ (count-refused (r .result) _ _ (r .ensures .0) (c .before .r .given .1))) in
-    job-refused bs old _ _ (whole-fault bs (a .head) (headLength (getD bs 0 0)) (h .read) some _ _ f)
+    job-refused bs old _ _ (whole-fault bs (a .head) (a .start) (k .pre) some _ _ (mapped-refused _ _ _ _ (count-refused (r .result) _ _ (r .ensures .0) (c .before .r .given .1))))
 
 same-length : tie.Need-same-length
 same-length c = search needs
@@ -118,20 +108,13 @@ same-length c = search needs
 returns-5 : tie.Need-returns-5
 unfolding readOutcome
 returns-5 c =
-    let k = c .before .before .before .before .before .before .before .before .before .before .before .before .before .before .before .before .before .before in
+    let k = c .before .before .before .before .before .before .before .before .before .before .before .before .before .before .before .before in
     let a = k .args in
-    let bs = now (a .job) in
-    let old = now (a .wants) in
-    let h = head-at bs (a .head) (k .pre) in
-    let n : c .before .before .before .before .before .before .before .before .before .before .before .before .before .head-len .result ≡ headLength (getD bs 0 0) = c .before .before .before .before .before .before .before .before .before .before .before .before .before .head-len .ensures in
-    let some : 0 < a .head .tests = omega (arith, c .before .before .before .before .before .before .before .before .before .before .before .before .before .before .before .if1 .left) in
-    let r = c .before .before .before .before .before .before .before .before .before .before .before .read-records in
-    let e = c .before .before .before .before .before .before .before .before .end .given .0 .0 in
-    let sets = take (a .head .tests) (r .last .1 .1 .1 .1 .0) in
-    let got = records-got bs (a .head .curves) (a .head .tests) (headLength (getD bs 0 0)) e sets (h .within) (rw n at (count-done (r .result) _ e (r .ensures .0) (c .before .before .before .before .before .before .before .before .end .given .1))) (rw n at (r .ensures .1)) in
-    let long : length (r .last .1 .1 .1 .1 .0) ≡ 256 = r .kept .1 .1 .1 .1 .0 in
-    let count : length sets ≡ a .head .tests = length-take-le (a .head .tests) (r .last .1 .1 .1 .1 .0) (omega (arith, h .tests)) in
-    let w = job-fits bs old _ (whole-read bs (a .head) (headLength (getD bs 0 0)) (h .read) some sets e got (c .before .before .before .before .before .before .if2 .left)) (c .before .before .before .before .before .if3 .left) in
+    let d = c .before .before .before .before .before .before .before .before in
+    let long : length (list d) ≡ 256 = d .before .before .before .read-records .kept .1 .1 .1 .1 .0 in
+    let count : length (sets d) ≡ a .head .tests = length-take-le (a .head .tests) (list d) (omega (arith, head-range (now (a .job)) _ (k .pre) .tests)) in
+    let w = job-fits (now (a .job)) (now (a .wants)) _
+    (whole-read (now (a .job)) (a .head) (a .start) (k .pre) (some d) (sets d) (end d) (records d) (c .before .before .before .before .before .before .if2 .left)) (c .before .before .before .before .before .if3 .left) in
     (w .0, c .before .before .copy-front .ensures ∙ rw count at (w .1))
 
 pub read-tests-spec : {M : Type 1} → statement M
@@ -139,8 +122,6 @@ read-tests-spec =
     tie.close
     (tie.spec
     returns
-    shared-slice-read-head-len
-    head-len-requires
     slice-aggregate-read-records
     read-records-requires
     enum-known-r

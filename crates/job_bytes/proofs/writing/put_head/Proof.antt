@@ -1,121 +1,128 @@
--- `job_bytes::writing::put_head` meets its contract: the map, and each field where the last one ended.
-use mathlib.Core.Path.{_≡_, _∙_}
-use Prim.Native.Nat.{_+_, _*_}
+-- `job_bytes::writing::put_head` meets its contract. The invariant: storing the fields from the j-th on leads to the same buffer as storing all.
+use mathlib.Core.Path.{_≡_, refl, sym, ap, _∙_}
+use Prim.Native.Nat.{_+_, _-_, _≤_}
 use native.Mathlib.Omega.{arith}
-use lib.ListN.{length, length-set}
-use lib.Dec.{eqb}
+use lib.ListN.{length, getD, length-set}
+use lib.Seq.{length-sets}
 use denote.Ref.{now}
-use Rattle.job_bytes.proofs.JobRoundTrip.{bit-le}
-use Rattle.job_bytes.proofs.JobWritten.{headMap, head-sum, head-sets}
-use borrow.Author.Needs.{needs}
+use Rattle.job_bytes.specs.JobBytes.{fields, numberBytes, headBytes}
+use Rattle.job_bytes.proofs.Encoding.{sets-append}
+use Rattle.job_bytes.proofs.HeadRoundTrip.{fieldsBytes}
+use Rattle.job_bytes.proofs.Heads.{rows}
+use Rattle.job_bytes.proofs.JobWritten.{number-length, bytesFrom, absent-bytes, stands-bytes, stands-long, none, head-length}
 use Rattle.job_bytes.proofs.writing.put_head.Statement.{statement}
 use Rattle.job_bytes.proofs.writing.put_head.Tie as tie
 
--- the buffer keeps its length
-long-1 : (c : tie.After-put-field) → length (c .put-field .last .1 .1 .1 .1 .0) ≡ length (now (c .before .before .before .before .before .before .before .args .out))
-long-1 c = c .put-field .kept .1 .1 .1 .1 .0 ∙ simp length-set
+abbrev Inv-loop : tie.InvT-loop
+Inv-loop values map out₀ at₀ j₀ out at j =
+    record {
+      turns : j ≤ length fields;
+      long : length out ≡ length out₀;
+      fits : at + length (bytesFrom values j) ≤ length out₀;
+      goes : lib.Seq.sets out₀ 1 (bytesFrom values 0) ≡ lib.Seq.sets out at (bytesFrom values j);
+    }
 
-long-2 : (c : tie.After-put-field2) → length (c .put-field2 .last .1 .1 .1 .1 .0) ≡ length (now (c .before .before .before .before .before .before .before .before .before .before .before .args .out))
-long-2 c = c .put-field2 .kept .1 .1 .1 .1 .0 ∙ long-1 (c .before .before .before .before)
+abbrev μ-loop : tie.MeasureT-loop
+μ-loop values map out₀ at₀ j₀ out at j = length fields - j
 
-long-3 : (c : tie.After-put-field3) → length (c .put-field3 .last .1 .1 .1 .1 .0) ≡ length (now (c .before .before .before .before .before .before .before .before .before .before .before .before .before .before .before .args .out))
-long-3 c = c .put-field3 .kept .1 .1 .1 .1 .0 ∙ long-2 (c .before .before .before .before)
+slice-write-out : tie.Need-slice-write-out Inv-loop μ-loop
+slice-write-out c = omega (arith, head-length (now (c .before .before .args .values)), c .before .before .pre .2)
 
-long-4 : (c : tie.After-put-field4) → length (c .put-field4 .last .1 .1 .1 .1 .0) ≡ length (now (c .before .before .before .before .before .before .before .before .before .before .before .before .before .before .before .before .before .before .before .args .out))
-long-4 c = c .put-field4 .kept .1 .1 .1 .1 .0 ∙ long-3 (c .before .before .before .before)
+loop-holds : tie.Need-loop-holds Inv-loop μ-loop
+loop-holds c =
+    record { turns = omega arith; long = refl; fits = simp length-set (omega (arith, head-length (now (c .before .before .args .values)), c .before .before .pre .2)); goes = refl }
 
-field-bit-requires : tie.Need-field-bit-requires
-field-bit-requires c κs = search needs
+row-requires : tie.Need-row-requires Inv-loop μ-loop
+row-requires c κs = omega (arith, rows)
 
-field-bit-requires-2 : tie.Need-field-bit-requires-2
-field-bit-requires-2 c κs = search needs
+mul-value : tie.Need-mul-value Inv-loop μ-loop
+mul-value c = omega (arith, rows)
 
-mul-out : tie.Need-mul-out
-mul-out c =
-    let a = c .before .before .before .args in
-    omega (arith, c .field-bit2 .ensures, bit-le (eqb (a .head .curves) 64))
+shared-slice-read-value : tie.Need-shared-slice-read-value Inv-loop μ-loop
+shared-slice-read-value c = omega (arith, rows)
 
-add-out : tie.Need-add-out
-add-out c =
-    let a = c .before .before .before .args in
-    omega (arith, c .before .field-bit .ensures, bit-le (eqb (a .head .places) 8), c .field-bit2 .ensures, bit-le (eqb (a .head .curves) 64))
+add-j : tie.Need-add-j Inv-loop μ-loop
+add-j c = omega (arith, rows)
 
-field-bit-requires-3 : tie.Need-field-bit-requires-3
-field-bit-requires-3 c κs = search needs
+put-number-requires : tie.Need-put-number-requires Inv-loop μ-loop
+put-number-requires c κs =
+    let k = c .before .before .before .before .before .before in
+    let r = c .before .before .before .before .row in
+    let more = stands-long (now (k .before .before .before .args .values)) (k .loop .j) (r .result) (r .ensures .0) (omega (arith, rows)) (c .before .if1 .taken) in
+    omega (arith, k .loop .inv .long, k .loop .inv .fits)
 
-mul-out-2 : tie.Need-mul-out-2
-mul-out-2 c =
-    let a = c .before .before .before .before .args in
-    omega (arith, c .field-bit3 .ensures, bit-le (eqb (a .head .tests) 0))
+add-at : tie.Need-add-at Inv-loop μ-loop
+add-at c =
+    let k = c .before .before .before .before .before .before .before .before .before .before in
+    let a = k .before .before .before .args in
+    omega (arith, c .before .before .before .before .before .before .before .before .row .ensures .1, k .loop .inv .fits, length-set (now (a .out)) 0 (a .map))
 
-add-out-2 : tie.Need-add-out-2
-add-out-2 c =
-    let a = c .before .before .before .before .args in
-    omega (arith, c .before .before .field-bit .ensures, bit-le (eqb (a .head .places) 8), c .before .field-bit2 .ensures, bit-le (eqb (a .head .curves) 64), c .field-bit3 .ensures, bit-le (eqb (a .head .tests) 0))
+loop-less : tie.Need-loop-less Inv-loop μ-loop
+loop-less c = omega (arith, rows)
 
-field-bit-requires-4 : tie.Need-field-bit-requires-4
-field-bit-requires-4 c κs = search needs
+loop-again : tie.Need-loop-again Inv-loop μ-loop
+loop-again c =
+    let k = c .before .before .before .before .before .before .before .before .before .before in
+    let l = k .loop in
+    let vs = now (k .before .before .before .args .values) in
+    let r = c .before .before .before .before .before .before .before .before .row in
+    let v = getD vs (l .j) 0 in
+    let w = r .result .width in
+    let stands = c .before .before .before .before .before .if1 .taken in
+    let e = c .before .before .before .put-number .ensures in
+    let more = stands-long vs (l .j) (r .result) (r .ensures .0) (omega (arith, rows)) stands in
+    let next = ap (lib.Seq.sets (l .out) (l .at)) (stands-bytes vs (l .j) (r .result) (r .ensures .0) (omega (arith, rows)) stands) in
+    record {
+      turns = omega (arith, rows);
+      long = ap length e ∙ length-sets (l .out) (l .at) (numberBytes w v) ∙ l .inv .long;
+      fits = omega (arith, l .inv .fits);
+      goes = rw e (l .inv .goes ∙ next ∙ sets-append (numberBytes w v) (l .out) (bytesFrom vs (l .j + 1)) (l .at) ∙ rw (number-length w v) refl);
+    }
 
-mul-out-3 : tie.Need-mul-out-3
-mul-out-3 c =
-    let a = c .before .before .before .before .before .args in
-    omega (arith, c .field-bit4 .ensures, bit-le (eqb (a .head .method) 0))
+loop-less-2 : tie.Need-loop-less-2 Inv-loop μ-loop
+loop-less-2 c = omega (arith, rows)
 
-add-out-3 : tie.Need-add-out-3
-add-out-3 c =
-    let a = c .before .before .before .before .before .args in
-    omega (arith, c .before .before .before .field-bit .ensures, bit-le (eqb (a .head .places) 8), c .before .before .field-bit2 .ensures, bit-le (eqb (a .head .curves) 64), c .before .field-bit3 .ensures, bit-le (eqb (a .head .tests) 0), c .field-bit4 .ensures, bit-le (eqb (a .head .method) 0))
+loop-again-2 : tie.Need-loop-again-2 Inv-loop μ-loop
+loop-again-2 c =
+    let k = c .before .before .before .before .before in
+    let l = k .loop in
+    let r = c .before .before .before .row in
+    let same = absent-bytes (now (k .before .before .before .args .values)) (l .j) (r .result) (r .ensures .0) (omega (arith, rows)) (c .if1 .left) in
+    record {
+      turns = omega (arith, rows);
+      long = l .inv .long;
+      fits = omega (arith, l .inv .fits, ap length same);
+      goes = l .inv .goes ∙ ap (lib.Seq.sets (l .out) (l .at)) same;
+    }
 
-slice-write-out : tie.Need-slice-write-out
-slice-write-out c = omega (arith, head-sum (c .before .before .before .before .before .args .head))
+same-length : tie.Need-same-length Inv-loop μ-loop
+same-length c = c .before .loop .inv .long ∙ simp length-set
 
-put-field-requires : tie.Need-put-field-requires
-put-field-requires c κs = (omega arith, omega arith, simp length-set (omega (arith, head-sum (c .before .before .before .before .before .before .args .head), c .before .before .before .before .before .before .pre)))
-
-put-field-requires-2 : tie.Need-put-field-requires-2
-put-field-requires-2 c κs = (omega arith, omega arith, omega (arith, head-sum (c .before .before .before .before .before .before .before .before .before .before .args .head), c .before .before .before .before .before .before .before .before .before .before .pre, long-1 (c .before .before .before), c .before .before .before .put-field .ensures .0))
-
-put-field-requires-3 : tie.Need-put-field-requires-3
-put-field-requires-3 c κs = (omega arith, omega arith, omega (arith, head-sum (c .before .before .before .before .before .before .before .before .before .before .before .before .before .before .args .head), c .before .before .before .before .before .before .before .before .before .before .before .before .before .before .pre, long-2 (c .before .before .before), c .before .before .before .before .before .before .before .put-field .ensures .0, c .before .before .before .put-field2 .ensures .0))
-
-put-field-requires-4 : tie.Need-put-field-requires-4
-put-field-requires-4 c κs = (omega arith, omega arith, omega (arith, head-sum (c .before .before .before .before .before .before .before .before .before .before .before .before .before .before .before .before .before .before .args .head), c .before .before .before .before .before .before .before .before .before .before .before .before .before .before .before .before .before .before .pre, long-3 (c .before .before .before), c .before .before .before .before .before .before .before .before .before .before .before .put-field .ensures .0, c .before .before .before .before .before .before .before .put-field2 .ensures .0, c .before .before .before .put-field3 .ensures .0))
-
-same-length : tie.Need-same-length
-same-length c = long-4 (c .before .before)
-
-returns : tie.Need-returns
+returns : tie.Need-returns Inv-loop μ-loop
+unfolding headBytes fieldsBytes
 returns c =
-    let a = c .before .before .before .before .before .before .before .before .before .before .before .before .before .before .before .before .before .before .before .before .before .args in
-    let p₁ = c .before .before .before .before .before .before .before .before .before .before .before .before .before .before .put-field in
-    let p₂ = c .before .before .before .before .before .before .before .before .before .before .put-field2 in
-    let p₃ = c .before .before .before .before .before .before .put-field3 in
-    let p₄ = c .before .before .put-field4 in
-    let map = c .before .before .before .before .before .before .before .before .before .before .before .before .before .before .before .before .before .before .before .field-bit .result + 2 * c .before .before .before .before .before .before .before .before .before .before .before .before .before .before .before .before .before .before .field-bit2 .result + 4 * c .before .before .before .before .before .before .before .before .before .before .before .before .before .before .before .before .before .field-bit3 .result + 8 * c .before .before .before .before .before .before .before .before .before .before .before .before .before .before .before .before .field-bit4 .result in
-    let m : map ≡ headMap (a .head) = omega (arith, c .before .before .before .before .before .before .before .before .before .before .before .before .before .before .before .before .before .before .before .field-bit .ensures, c .before .before .before .before .before .before .before .before .before .before .before .before .before .before .before .before .before .before .field-bit2 .ensures, c .before .before .before .before .before .before .before .before .before .before .before .before .before .before .before .before .before .field-bit3 .ensures, c .before .before .before .before .before .before .before .before .before .before .before .before .before .before .before .before .field-bit4 .ensures) in (
-      omega (arith, head-sum (a .head), p₁ .ensures .0, p₂ .ensures .0, p₃ .ensures .0, p₄ .ensures .0),
-      head-sets (a .head) (now (a .out)) map (p₁ .result) (p₂ .result) (p₃ .result) _ _ _ _ m (p₁ .ensures .0) (p₂ .ensures .0) (p₃ .ensures .0) (p₁ .ensures .1) (p₂ .ensures .1) (p₃ .ensures .1)
-          (p₄ .ensures .1),
-    )
+    let k = c .before .before .before .before in
+    let l = c .before .loop in
+    let end = none (now (k .args .values)) (l .j) (rw rows (c .loop-test .left)) .1 in
+    rw (k .pre .1) at (sym (l .inv .goes ∙ ap (lib.Seq.sets (l .out) (l .at)) end))
 
 pub put-head-spec : {M : Type 1} → statement M
 put-head-spec =
     tie.close
     (tie.spec
-    field-bit-requires
-    field-bit-requires-2
-    mul-out
-    add-out
-    field-bit-requires-3
-    mul-out-2
-    add-out-2
-    field-bit-requires-4
-    mul-out-3
-    add-out-3
+    Inv-loop
+    μ-loop
     slice-write-out
-    put-field-requires
-    put-field-requires-2
-    put-field-requires-3
-    put-field-requires-4
+    loop-holds
+    row-requires
+    mul-value
+    shared-slice-read-value
+    add-j
+    put-number-requires
+    add-at
+    loop-less
+    loop-again
+    loop-less-2
+    loop-again-2
     same-length
     returns)
