@@ -2,6 +2,7 @@
 use libc::STDOUT_FILENO;
 ghost use mathlib.Core.List.{List};
 ghost use Prim.Native.Nat.{ℕ};
+ghost use Rattle.lists.specs.Lent.{after};
 ghost use Rattle.io.specs.Counts.{Counts};
 ghost use Rattle.report.specs.Audit.{audit};
 ghost use Rattle.report.specs.Input.{Enough};
@@ -28,16 +29,16 @@ fn open_argument(i: usize) -> i32 {
 
 // Reads the job's file, as much as can matter: whatever the whole of it is, and whatever the plan, the audit is that of the bytes read.
 fn read_job(file: i32, job: &mut [u8; JOB_INPUT]) -> usize
-    ensures count { λ n. ⌜ Counts n (now (job .exit)) ⌝ }
-    ensures enough { λ n. ⌜ ((plan : List ℕ) → Enough (λ whole. audit whole plan) n (now (job .exit))) ⌝ }
+    ensures count { λ n. ⌜ Counts n (after job) ⌝ }
+    ensures enough { λ n. ⌜ ((plan : List ℕ) → Enough (λ whole. audit whole plan) n (after job)) ⌝ }
 {
     io::read_full(file, job)
 }
 
 // Reads the plan's file, as much as can matter, whatever the job.
 fn read_plan(file: i32, plan: &mut [u8; PLAN_INPUT]) -> usize
-    ensures count { λ n. ⌜ Counts n (now (plan .exit)) ⌝ }
-    ensures enough { λ n. ⌜ ((job : List ℕ) → Enough (λ whole. audit job whole) n (now (plan .exit))) ⌝ }
+    ensures count { λ n. ⌜ Counts n (after plan) ⌝ }
+    ensures enough { λ n. ⌜ ((job : List ℕ) → Enough (λ whole. audit job whole) n (after plan)) ⌝ }
 {
     io::read_full(file, plan)
 }

@@ -9,7 +9,7 @@ use native.Mathlib.Omega.{arith}
 use lib.Arith.{bin-ind}
 use lib.Bits.{and-step, or-step, and-le-l}
 use lib.Count.{ones, ones-step}
-use Rattle.bitset.specs.Set.{_∩_, _∪_, _∖_, _∈_, _⊆_, size, bit}
+use Rattle.bitset.specs.Set.{_∩_, _∪_, _∖_, size, bit}
 
 -- ---- the bits of a set (`bit` is an `abbrev`, so that `omega` reads the `% 2` and knows by itself that a bit is 0 or 1)
 

@@ -2,15 +2,15 @@
 use mathlib.Core.Path.{_≡_, refl, sym, ap, _∙_, subst}
 use mathlib.Core.Logic.{_↔_, _⊎_, _≢_, inl, inr, ⊎-elim}
 use Prim.Native.Nat.{ℕ, zero, suc, _+_, _-_, _*_, _/_, _%_, _^_, _≤_, _<_, min, zero-le}
-use native.Mathlib.Nat.{mul-mod-right, mod-eq-of-lt, le-antisymm, le-trans, le-of-eq, add-mul, mul-le-mul-right}
+use native.Mathlib.Nat.{mul-mod-right, mod-eq-of-lt, le-antisymm, add-mul}
 use native.Mathlib.Decide.{ℕ-discrete, decLe}
 use native.Mathlib.Omega.{arith}
-use lib.Bits.{and-comm, and-self, and-step, and-mask, or-disjoint}
-use lib.Count.{ones, ones-step, ones-le, trailingZeros, under}
+use lib.Bits.{and-comm, and-self, and-step, or-disjoint}
+use lib.Count.{ones, ones-step, trailingZeros, under}
 use lib.Pow.{pow-add, pow-lt, pow-mono, pow-pos, shl-exact}
 use Rattle.bitset.specs.Set.{_∩_, _∪_, _∖_, _∈_, _⊆_, size, bit}
 use Rattle.bitset.proofs.Bits.{bit-zero, bit-suc, bit-single, bit-other, bit-empty, bit-beyond, bitwise, half-pow, same-by-bits, size-empty}
-use Rattle.bitset.proofs.Laws.{∈?, ∈-∖, ∈-∪, ⊆-bits, ⊆-by-bits, ⊆-le, size-split, size-disjoint, size-∩-le}
+use Rattle.bitset.proofs.Laws.{∈?, ∈-∖, ∈-∪, ⊆-bits, ⊆-by-bits, ⊆-le, size-split, size-disjoint}
 
 -- ---- one element
 
@@ -64,9 +64,6 @@ apart k s h = same-by-bits (s ∩ 2 ^ k) 0 (λ j. simp (bitwise, bit-empty) (at 
     at j (yes e) = subst (λ (x : ℕ). min (bit x s) (bit x (2 ^ k)) ≡ 0) (sym e) (omega arith)
     at j (no n) = omega (arith, bit-other j k n)
 
-pub remove-none : (k s : ℕ) → ¬ (k ∈ s) → s ∖ 2 ^ k ≡ s
-remove-none k s h = omega (arith, apart k s h)
-
 pub insert : (k s : ℕ) → ¬ (k ∈ s) → s ∪ 2 ^ k ≡ s + 2 ^ k
 insert k s h = or-disjoint s (2 ^ k) (apart k s h)
 
@@ -78,10 +75,6 @@ pub ∈-insert : (j k s : ℕ) → j ∈ s ∪ 2 ^ k ↔ (j ∈ s) ⊎ (j ≡ k)
   λ h. ⊎-elim inl (λ m. inr (∈-single j k .0 m)) (∈-∪ j s (2 ^ k) .0 h),
   λ h. ∈-∪ j s (2 ^ k) .1 (⊎-elim inl (λ m. inr (∈-single j k .1 m)) h),
 )
-
--- one element for another
-pub size-swap : (j k s : ℕ) → j ∈ s → ¬ (k ∈ s) → size (s ∖ 2 ^ j ∪ 2 ^ k) ≡ size s
-size-swap j k s m n = omega (arith, size-insert k (s ∖ 2 ^ j) (λ h. n (∈-remove k j s .0 h .0)), size-remove j s m)
 
 -- ---- the lowest element
 
@@ -117,15 +110,6 @@ below-pow (suc s) = omega (arith, below-pow s)
 pub some : (s : ℕ) → 0 < s → (k : ℕ) × (k ∈ s)
 some s h = (trailingZeros s s, lowest-in s s h (below-pow s))
 
--- the larger of two sets has an element that the other lacks
-pub some-more : (a b : ℕ) → size a < size b → (k : ℕ) × (k ∈ b) × ¬ (k ∈ a)
-some-more a b h =
-    let e = some (b ∖ a) (pos (b ∖ a) (omega (arith, size-split b a, size-∩-le a b, ap size (and-comm a b)))) in (e .0, ∈-∖ (e .0) b a .0 (e .1) .0, ∈-∖ (e .0) b a .0 (e .1) .1)
-  where
-    pos : (s : ℕ) → 0 < size s → 0 < s
-    pos zero h = omega (arith, size-empty)
-    pos (suc s) h = omega arith
-
 drop-step : (W s : ℕ) → 0 < s → s < 2 ^ W → s ∩ (s - 1) ≡ s - 2 ^ trailingZeros W s
 unfolding trailingZeros
 drop-step zero s p h = omega arith
@@ -143,10 +127,6 @@ drop-step (suc W) s p h = at (drop-step W (s / 2)) (s % 2) refl
 -- `s & (s - 1)` takes the lowest element out
 pub drop-lowest : (W s : ℕ) → 0 < s → s < 2 ^ W → s ∩ (s - 1) ≡ s ∖ 2 ^ trailingZeros W s
 drop-lowest W s p h = drop-step W s p h ∙ sym (remove (trailingZeros W s) s (lowest-in W s p h))
-
-pub size-drop : (s : ℕ) → 0 < s → size (s ∩ (s - 1)) + 1 ≡ size s
-size-drop s p =
-    ap (λ (x : ℕ). size x + 1) (drop-lowest s s p (below-pow s)) ∙ size-remove (trailingZeros s s) s (lowest-in s s p (below-pow s))
 
 -- ---- what code writes
 
@@ -176,10 +156,6 @@ pub ∩-single : (k s : ℕ) → k ∈ s ↔ s ∩ 2 ^ k ≢ 0
     there : Dec (k ∈ s) → s ∩ 2 ^ k ≢ 0 → k ∈ s
     there (yes m) h = m
     there (no n) h = absurd (h (apart k s n))
-
--- `(s >> k) & 1`
-pub shr-and-one : (k s : ℕ) → (s / 2 ^ k) ∩ 1 ≡ bit k s
-shr-and-one k s = and-mask (s / 2 ^ k) 1
 
 -- ---- sums over the numbers below a width
 
@@ -260,26 +236,9 @@ pub weigh-remove : (W : ℕ) (f : ℕ → ℕ) (k s : ℕ) → k < W → k ∈ s
 weigh-remove W f k s l h =
     omega (arith, weigh-split W f s (2 ^ k), ap (weigh W f) (and-comm s (2 ^ k) ∙ single-⊆ k s .0 h), weigh-single W f k l)
 
-pub weigh-mono : (W : ℕ) (f g : ℕ → ℕ) (s : ℕ) → ((k : ℕ) → k < W → k ∈ s → f k ≤ g k) → weigh W f s ≤ weigh W g s
-unfolding weigh
-weigh-mono W f g s h = sum-le W (λ k. bit k s * f k) (λ k. bit k s * g k) (λ k l. at (bit k s) (f k) (g k) (omega arith) (h k l))
-  where
-    at : (x y z : ℕ) → x ≤ 1 → (x ≡ 1 → y ≤ z) → x * y ≤ x * z
-    at zero y z l h = omega arith
-    at (suc x) y z l h = let e : x ≡ 0 = omega arith in rw e (omega (arith, h (ap suc e)))
-
 pub weigh-const : (W b s : ℕ) → s < 2 ^ W → weigh W (λ k. b) s ≡ size s * b
 unfolding weigh
 weigh-const W b s h = sum-mul W (λ k. bit k s) b ∙ ap (λ (x : ℕ). x * b) (sym (size-sum W s h))
-
-pub weigh-le : (W : ℕ) (f : ℕ → ℕ) (b s : ℕ) → s < 2 ^ W → ((k : ℕ) → k < W → f k ≤ b) → weigh W f s ≤ W * b
-weigh-le W f b s h l =
-    le-trans (weigh-mono W f (λ k. b) s (λ k p m. l k p)) (le-trans (le-of-eq (weigh-const W b s h)) (mul-le-mul-right b (ones-le W s h)))
-
-pub weigh-lowest : (W : ℕ) (f : ℕ → ℕ) (s : ℕ) → 0 < s → s < 2 ^ W → weigh W f s ≡ f (trailingZeros W s) + weigh W f (s ∩ (s - 1))
-weigh-lowest W f s p h =
-    weigh-remove W f (trailingZeros W s) s (lowest-lt W s p h) (lowest-in W s p h)
-    ∙ ap (λ (x : ℕ). f (trailingZeros W s) + weigh W f x) (sym (drop-lowest W s p h))
 
 -- `1 << k` at the width or beyond: nothing
 pub shl-none : (W k : ℕ) → W ≤ k → 2 ^ k % 2 ^ W ≡ 0

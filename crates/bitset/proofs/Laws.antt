@@ -2,7 +2,7 @@
 use mathlib.Core.Path.{_≡_, refl, sym, ap, _∙_}
 use mathlib.Core.Logic.{_↔_, _⊎_, inl, inr, ⊎-elim}
 use mathlib.Core.List.{[], _∷_}
-use Prim.Native.Nat.{ℕ, zero, suc, _+_, _-_, _/_, _%_, _^_, _≤_, _<_, max, zero-le}
+use Prim.Native.Nat.{ℕ, zero, suc, _+_, _-_, _^_, _≤_, _<_, max, zero-le}
 use native.Mathlib.Nat.{lt-of-le-of-lt, sub-le}
 use native.Mathlib.Decide.{ℕ-discrete}
 use native.Mathlib.Omega.{arith}
@@ -56,9 +56,6 @@ pub ⊆-trans : (a b c : ℕ) → a ⊆ b → b ⊆ c → a ⊆ c
 
 pub ⊆-antisym : (a b : ℕ) → a ⊆ b → b ⊆ a → a ≡ b
 ⊆-antisym a b h l = sym h ∙ and-comm a b ∙ l
-
-pub same-by-members : (a b : ℕ) → ((k : ℕ) → k ∈ a ↔ k ∈ b) → a ≡ b
-same-by-members a b h = ⊆-antisym a b (⊆-members a b .1 (λ k. h k .0)) (⊆-members b a .1 (λ k. h k .1))
 
 pub ⊆-le : (a b : ℕ) → a ⊆ b → a ≤ b
 ⊆-le a b h = omega (arith, and-le-r a b)
@@ -144,33 +141,6 @@ size-mono a b h = omega (arith, sizes-le (a ∷ []) (b ∷ []) (λ k. omega (ari
 
 pub size-∩-le : (a b : ℕ) → size (a ∩ b) ≤ size a
 size-∩-le a b = omega (arith, size-split a b)
-
-pub size-∖-le : (a b : ℕ) → size (a ∖ b) ≤ size a
-size-∖-le a b = omega (arith, size-split a b)
-
--- what s has of a union: what it has of w, and of u what is left
-pub size-in-union : (s w u : ℕ) → size (s ∩ (w ∪ u)) ≡ size (s ∩ w) + size ((s ∖ w) ∩ u)
-size-in-union s w u = omega (arith, sizes-eq (s ∩ (w ∪ u) ∷ []) (s ∩ w ∷ (s ∖ w) ∩ u ∷ []) (λ k. simp bitwise (omega arith)))
-
--- u is counted in a part w of s, and in the rest
-pub size-by-part : (w s u : ℕ) → w ⊆ s → size (s ∩ u) ≡ size (w ∩ u) + size ((s ∖ w) ∩ u)
-size-by-part w s u h = omega (arith, sizes-eq (s ∩ u ∷ []) (w ∩ u ∷ (s ∖ w) ∩ u ∷ []) (λ k. simp bitwise (omega (arith, ⊆-bits w s h k))))
-
--- a part p of b is kept, and l is added
-pub size-after : (p b l w u : ℕ) → p ⊆ b → size (((p ∪ l) ∖ w) ∩ u) ≤ size ((b ∖ w) ∩ u) + size (l ∖ w)
-size-after p b l w u h =
-    omega (arith, sizes-le (((p ∪ l) ∖ w) ∩ u ∷ []) ((b ∖ w) ∩ u ∷ l ∖ w ∷ []) (λ k. simp bitwise (omega (arith, ⊆-bits p b h k))))
-
-pub size-covered : (p b l w : ℕ) → p ⊆ b → w ⊆ p ∪ l → size w ≤ size (b ∩ w) + size (l ∩ w)
-size-covered p b l w h c =
-    omega (arith, sizes-le (w ∷ []) (b ∩ w ∷ l ∩ w ∷ []) (λ k. simp bitwise (omega (arith, ⊆-bits p b h k, simp bitwise at (⊆-bits w (p ∪ l) c k)))))
-
--- the same where the part is b without d
-pub size-refilled : (b d l w u : ℕ) → size (((b ∖ d ∪ l) ∖ w) ∩ u) ≤ size ((b ∖ w) ∩ u) + size (l ∖ w)
-size-refilled b d l w u = size-after (b ∖ d) b l w u (∖-⊆ b d)
-
-pub size-wanted : (b d l w : ℕ) → w ⊆ b ∖ d ∪ l → size w ≤ size (b ∩ w) + size (l ∩ w)
-size-wanted b d l w = size-covered (b ∖ d) b l w (∖-⊆ b d)
 
 -- a set of size 0 is empty, and a part as large as the whole is the whole
 pub size-none : (s : ℕ) → size s ≡ 0 → s ≡ 0

@@ -1,8 +1,8 @@
 -- The size of a set of numbers below W: a count that computes for any number of W digits (`ones` itself takes as many steps as the number is large).
-use mathlib.Core.Path.{_≡_, refl, sym, ap, _∙_}
-use Prim.Native.Nat.{ℕ, zero, suc, _+_, _/_, _%_, _^_, _<_}
+use mathlib.Core.Path.{_≡_, ap, _∙_}
+use Prim.Native.Nat.{ℕ, zero, suc, _/_, _^_, _<_}
 use native.Mathlib.Omega.{arith}
-use lib.Count.{ones, onesIn, ones-step}
+use lib.Count.{onesIn, ones-step}
 use Rattle.bitset.specs.Set.{size}
 use Rattle.bitset.proofs.Bits.{size-empty}
 

@@ -1,7 +1,7 @@
 -- What the call answers: which refusals come out, that counts and refusals never meet, and that the bytes written are a plan with the fewest loads.
 use mathlib.Core.Path.{_≡_, refl, sym, ap, _∙_}
 use mathlib.Core.Logic.{_⊎_, inl, inr}
-use mathlib.Core.List.{List, map}
+use mathlib.Core.List.{List}
 use Prim.Native.Nat.{ℕ, _+_, _*_, _/_, _%_, _≤_, _<_}
 use native.Mathlib.Omega.{arith}
 use native.Mathlib.Nat.{zero-add}
@@ -10,25 +10,28 @@ use lib.ListN.{length}
 use Rattle.bitset.specs.Set.{size}
 use Rattle.job.specs.declared.Refusal.{Refusal}
 use Rattle.job.specs.declared.Counted.{Counted}
-use Rattle.job.specs.Refusal.{Outcome, done, refused, number, figure, countOutcome, _>>=_, _>>_, mapped, demand, room}
+use Rattle.job.specs.Refusal.{Outcome, done, refused, number, figure, countOutcome, _>>=_, _>>_, mapped, room}
 use Rattle.job.specs.Handed.{each, wantsFit}
-use Rattle.job_bytes.specs.JobBytes.{Job, readBytes}
+use Rattle.job.specs.Words.{capacity}
+use Rattle.job_bytes.specs.JobBytes.{Request, jobIn, readBytes}
 use Rattle.job.proofs.Laws.{refused≢done, done-same, both-done, mapped-done, mapped-refused, count-done, count-refused}
 use Rattle.job.proofs.Refuses.{Refuses, refuses, refuses-demand, refuses-both}
 use Rattle.job.proofs.Faults.{Examines, faultless, faulty, Fails, each-examines}
 use Rattle.job_bytes.proofs.SetRoundTrip.{Bytes}
 use Rattle.job_bytes.proofs.ReadExact.{ReadJob, read-exact}
 use Rattle.job_bytes.proofs.JobBounds.{figure-short}
-use Rattle.drive.specs.Steps.{dropsOf, loadsOf, curveCount, loadCount}
+use Rattle.drive.specs.Steps.{loadCount}
+use Rattle.planning.specs.Plan.{handed}
 use Rattle.planning.specs.Planning.{checking}
 use Rattle.planning.proofs.Demand3.{our-least}
-use Rattle.plan_bytes.specs.PlanBytes.{Placed, planSteps, writePlan}
+use Rattle.plan_bytes.specs.PlanBytes.{writePlan}
 use Rattle.plan_bytes.proofs.PlanRoundTrip.{plan-back}
 use Rattle.plan_bytes.proofs.PlanLength.{passed-length}
-use Rattle.curveplan.specs.Call.{planJob, jobToPlan, numberOf, callAnswer, callPlan}
-use Rattle.curveplan.specs.Stages.{GivesPlan}
-use Rattle.curveplan.proofs.Composed.{orderOf, planOf, bytesOf, checked, call-written, call-too-large, call-unread}
-use Rattle.curveplan.proofs.ReadRefuses.{ByReading, read-refuses}
+use Rattle.curveplan.specs.Call.{jobToPlan, numberOf, callAnswer}
+use Rattle.curveplan.specs.Library.{WrittenPlan}
+use Rattle.planned.proofs.Composed.{orderOf, setsOf, checked}
+use Rattle.curveplan.proofs.Composed.{bytesOf, call-written, call-too-large, call-unread}
+use Rattle.job_bytes.proofs.ReadRefuses.{ByReading, read-refuses}
 
 -- a test that wants more curves than there are places, or none
 sizes : (places : ℕ) (wants : List ℕ) → (wantsFit places wants ≡ done tt) ⊎ ((t : ℕ) × (t < length wants) × (wantsFit places wants ≡ refused 7 t))
@@ -48,35 +51,35 @@ module _ (bs : List ℕ) (all : Bytes bs) (lent : ℕ) where
   pub call-refuses : Refuses CallRefusal (jobToPlan bs lent)
   call-refuses = go (readBytes bs) refl
     where
-      by-size : (j : Job) → readBytes bs ≡ done j
-          → (wantsFit (j .head .places) (j .wants) ≡ done tt) ⊎ ((t : ℕ) × (t < length (j .wants)) × (wantsFit (j .head .places) (j .wants) ≡ refused 7 t)) → Refuses CallRefusal (jobToPlan bs lent)
+      by-size : (j : Request) → readBytes bs ≡ done j
+          → (wantsFit (capacity (j .head .rig)) (j .wants) ≡ done tt) ⊎ ((t : ℕ) × (t < length (j .wants)) × (wantsFit (capacity (j .head .rig)) (j .wants) ≡ refused 7 t)) → Refuses CallRefusal (jobToPlan bs lent)
       by-size j e (inl f) =
           rw (call-written bs j all e f lent)
-          (refuses-both CallRefusal (room lent (length (bytesOf j))) (done (bytesOf j)) (unfold room in refuses-demand CallRefusal _ 9 (length (bytesOf j)) (inr refl, passed-length _ _ _ _ _ _ _ (checked j (read-exact bs j all e) f))) tt)
+          (refuses-both CallRefusal (room lent (length (bytesOf j))) (done (bytesOf j)) (unfold room in refuses-demand CallRefusal _ 9 (length (bytesOf j)) (inr refl, passed-length _ _ _ _ (checked j (read-exact bs j all e) f))) tt)
       by-size j e (inr x) =
           let r : ReadJob j = read-exact bs j all e in
           rw (call-too-large bs j all e 7 (x .0) (x .2) lent) (inl (omega arith, omega arith), omega (arith, x .1, r .is-job .tests-bounds .1))
 
-      go : (o : Outcome Job) → readBytes bs ≡ o → Refuses CallRefusal (jobToPlan bs lent)
+      go : (o : Outcome Request) → readBytes bs ≡ o → Refuses CallRefusal (jobToPlan bs lent)
       go (refused k i) e =
           let n = refuses ByReading (readBytes bs) k i (read-refuses bs) e in
           rw (call-unread bs k i e lent) (inl (n .0, omega (arith, n .1)), omega (arith, figure-short bs k i e .0))
-      go (done j) e = by-size j e (sizes (j .head .places) (j .wants))
+      go (done j) e = by-size j e (sizes (capacity (j .head .rig)) (j .wants))
 
   -- a plan takes no more than 5,120 bytes
   pub call-counts : (plan : List ℕ) → jobToPlan bs lent ≡ done plan → length plan ≤ 5120
   call-counts plan p = go (readBytes bs) refl
     where
-      by-size : (j : Job) → readBytes bs ≡ done j
-          → (wantsFit (j .head .places) (j .wants) ≡ done tt) ⊎ ((t : ℕ) × (t < length (j .wants)) × (wantsFit (j .head .places) (j .wants) ≡ refused 7 t)) → length plan ≤ 5120
+      by-size : (j : Request) → readBytes bs ≡ done j
+          → (wantsFit (capacity (j .head .rig)) (j .wants) ≡ done tt) ⊎ ((t : ℕ) × (t < length (j .wants)) × (wantsFit (capacity (j .head .rig)) (j .wants) ≡ refused 7 t)) → length plan ≤ 5120
       by-size j e (inr x) = absurd (refused≢done (sym (call-too-large bs j all e 7 (x .0) (x .2) lent) ∙ p))
       by-size j e (inl f) =
           let w = both-done (room lent (length (bytesOf j))) (done (bytesOf j)) plan (sym (call-written bs j all e f lent) ∙ p) in
-          rw (sym (done-same (w .1))) (passed-length _ _ _ _ _ _ _ (checked j (read-exact bs j all e) f))
+          rw (sym (done-same (w .1))) (passed-length _ _ _ _ (checked j (read-exact bs j all e) f))
 
-      go : (o : Outcome Job) → readBytes bs ≡ o → length plan ≤ 5120
+      go : (o : Outcome Request) → readBytes bs ≡ o → length plan ≤ 5120
       go (refused k i) e = absurd (refused≢done (sym (call-unread bs k i e lent) ∙ p))
-      go (done j) e = by-size j e (sizes (j .head .places) (j .wants))
+      go (done j) e = by-size j e (sizes (capacity (j .head .rig)) (j .wants))
 
   -- COUNTS AND REFUSALS NEVER MEET: an answer below 65,536 is the count of the bytes written, any other tells the refusal's number and figure
   pub call-tells : ((plan : List ℕ) → jobToPlan bs lent ≡ done plan → (numberOf (jobToPlan bs lent) ≡ length plan) × (length plan < 65536))
@@ -92,58 +95,37 @@ module _ (bs : List ℕ) (all : Bytes bs) (lent : ℕ) where
       told k i (inr b) l = (omega (arith, b), omega arith, omega arith)
 
   -- THE BYTES WRITTEN read back to a plan that passes the check, for the method's order, and no plan for that order that passes has fewer loads
-  pub record WrittenPlan (plan : List ℕ) : Type 0 where
-    pub job : Job
-    pub read : readBytes bs ≡ done job
-    pub steps : List Placed
-    pub reads-back : planSteps (job .head .curves) (length (job .wants)) plan ≡ done steps
-    pub in-order : map (λ s. s .step .test) steps ≡ orderOf job
-    pub count : ℕ
-    pub passes : checking (job .head .places) (job .head .curves) (job .wants) (orderOf job) (map (λ s. s .step .drops) steps) (map (λ s. s .step .loads) steps) ≡ done count
-    pub least : (drops loads : List ℕ) (m : ℕ) → checking (job .head .places) (job .head .curves) (job .wants) (orderOf job) drops loads ≡ done m → count ≤ curveCount loads
-
-  pub call-planned : (plan : List ℕ) → jobToPlan bs lent ≡ done plan → WrittenPlan plan
+  pub call-planned : (plan : List ℕ) → jobToPlan bs lent ≡ done plan → WrittenPlan bs plan
   call-planned plan p = go (readBytes bs) refl
     where
-      by-size : (j : Job) → readBytes bs ≡ done j
-          → (wantsFit (j .head .places) (j .wants) ≡ done tt) ⊎ ((t : ℕ) × (t < length (j .wants)) × (wantsFit (j .head .places) (j .wants) ≡ refused 7 t)) → WrittenPlan plan
-      by-size j e (inr x) = absurd (refused≢done (sym (call-too-large bs j all e 7 (x .0) (x .2) lent) ∙ p))
-      by-size j e (inl f) =
-          let r : ReadJob j = read-exact bs j all e in
-          let c = checked j r f in
-          let w : writePlan (j .head .places) (j .head .curves) (j .wants) (orderOf j) (dropsOf (planOf j)) (loadsOf (planOf j)) lent ≡ done plan =
-          written c ∙ sym (call-written bs j all e f lent) ∙ p in
-          let b = plan-back (j .head .places) (j .head .curves) (j .wants) (orderOf j) (dropsOf (planOf j)) (loadsOf (planOf j)) lent plan w in
+      by-size : (q : Request) → readBytes bs ≡ done q
+          → (wantsFit (capacity (q .head .rig)) (q .wants) ≡ done tt) ⊎ ((t : ℕ) × (t < length (q .wants)) × (wantsFit (capacity (q .head .rig)) (q .wants) ≡ refused 7 t)) → WrittenPlan bs plan
+      by-size q e (inr x) = absurd (refused≢done (sym (call-too-large bs q all e 7 (x .0) (x .2) lent) ∙ p))
+      by-size q e (inl f) =
+          let c = checked q (read-exact bs q all e) f in
+          let b = plan-back (jobIn q) (orderOf q) (handed (setsOf q)) lent plan (written c ∙ sym (call-written bs q all e f lent) ∙ p) in
           record {
-            job = j;
+            request = q;
             read = e;
             steps = b .0;
             reads-back = b .1;
             in-order = b .2;
-            count = loadCount (planOf j);
-            passes = rw (b .3, b .4) c;
-            least = λ ds ls m q. our-least (j .head .places) (j .head .curves) (j .wants) (orderOf j) ds ls m q;
+            count = loadCount (setsOf q);
+            passes = rw (b .3) c;
+            least = our-least (jobIn q) (orderOf q);
           }
         where
-          written : checking (j .head .places) (j .head .curves) (j .wants) (orderOf j) (dropsOf (planOf j)) (loadsOf (planOf j)) ≡ done (loadCount (planOf j))
-              → writePlan (j .head .places) (j .head .curves) (j .wants) (orderOf j) (dropsOf (planOf j)) (loadsOf (planOf j)) lent ≡ _>>_ (room lent (length (bytesOf j))) (done (bytesOf j))
+          written : checking (jobIn q) (orderOf q) (handed (setsOf q)) ≡ done (loadCount (setsOf q))
+              → writePlan (jobIn q) (orderOf q) (handed (setsOf q)) lent ≡ _>>_ (room lent (length (bytesOf q))) (done (bytesOf q))
           written c = unfold writePlan _>>=_ in (rw c refl)
 
-      go : (o : Outcome Job) → readBytes bs ≡ o → WrittenPlan plan
+      go : (o : Outcome Request) → readBytes bs ≡ o → WrittenPlan bs plan
       go (refused k i) e = absurd (refused≢done (sym (call-unread bs k i e lent) ∙ p))
-      go (done j) e = by-size j e (sizes (j .head .places) (j .wants))
+      go (done q) e = by-size q e (sizes (capacity (q .head .rig)) (q .wants))
 
--- ---- the answer as one number, of what the stages gave
+-- ---- the answer as one number, of what was counted
 
-module _ (bs old : List ℕ) (x : Counted) {new : List ℕ} (g : GivesPlan (planJob bs) old (countOutcome x) new) where
-  given : countOutcome x ≡ mapped length (jobToPlan bs (length old))
-  unfolding jobToPlan
-  given = g .answers
-
-  pub holds-plan : new ≡ callPlan bs old
-  unfolding callPlan jobToPlan
-  holds-plan = g .holds
-
+module _ (bs old : List ℕ) (x : Counted) (given : countOutcome x ≡ mapped length (jobToPlan bs (length old))) where
   pub answers-count : (n : ℕ) → x ≡ Counted.Count n → n ≡ callAnswer bs old
   unfolding callAnswer numberOf
   answers-count n e = let m = mapped-done length (jobToPlan bs (length old)) n (count-done x _ n given e) in rw (m .1) (sym (m .2))

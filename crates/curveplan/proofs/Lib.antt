@@ -1,11 +1,7 @@
--- What the call of the rig's host comes to.
---     Composed     reading, ordering, planning and writing in turn
---     Reading      reading into a list of 256 entries
---     Stages       the stages of the call, by what each function answered and left
---     ReadRefuses  reading refuses by 1 to 6 only
---     Answers      which refusals come out, and what the bytes written are
+-- What the call of the rig's host comes to, and what the library promises.
+--     Composed  reading, ordering, planning and writing in turn
+--     Answers   which refusals come out, and what the bytes written are
+--     Library   WHAT THE LIBRARY PROMISES, proved
 pub mod Composed
-pub mod Reading
-pub mod Stages
-pub mod ReadRefuses
 pub mod Answers
+pub mod Library

@@ -3,40 +3,13 @@ use mathlib.Core.List.{List}
 use Prim.Native.Nat.{ℕ, _+_, _*_}
 use lib.ListN.{length}
 use Rattle.job.specs.Refusal.{Outcome, done, refused, _>>=_, leaves}
-use Rattle.job_bytes.specs.JobBytes.{Job, readBytes}
-use Rattle.ordering.specs.Ordering.{ordering}
-use Rattle.drive.specs.Steps.{dropsOf, loadsOf}
-use Rattle.planning.specs.Planning.{planning}
+use Rattle.job_bytes.specs.JobBytes.{jobIn}
 use Rattle.plan_bytes.specs.PlanBytes.{writePlan}
-
--- a job, with an order of its tests and a plan for it, as the stages hand them on: the steps' tests, drops and loads
-pub record Planned : Type 0 where
-  pub job : Job
-  pub order : List ℕ
-  pub drops : List ℕ
-  pub loads : List ℕ
-
--- planning in a given order; the lists between are the call's own, with an entry for each test
-unfoldable pub planInOrder : Job → List ℕ → Outcome Planned
-planInOrder j order = do
-  plan ← planning (j .head .places) (j .head .curves) (j .wants) order (j .head .tests) (j .head .tests)
-  done (record { job = j; order = order; drops = dropsOf plan; loads = loadsOf plan })
-
--- ordering before that
-unfoldable pub orderAndPlan : Job → Outcome Planned
-orderAndPlan j = do
-  order ← ordering (j .head .places) (j .head .curves) (j .head .method) (j .wants) (j .head .tests)
-  planInOrder j order
-
--- reading before that
-unfoldable pub planJob : List ℕ → Outcome Planned
-planJob bs = do
-  j ← readBytes bs
-  orderAndPlan j
+use Rattle.planned.specs.Planned.{Planned, planJob}
 
 -- writing, into a buffer of so many bytes
 unfoldable pub written : ℕ → Planned → Outcome (List ℕ)
-written lent p = writePlan (p .job .head .places) (p .job .head .curves) (p .job .wants) (p .order) (p .drops) (p .loads) lent
+written lent p = writePlan (jobIn (p .request)) (p .order) (p .plan) lent
 
 -- "reading, ordering, planning, writing"
 unfoldable pub jobToPlan : List ℕ → ℕ → Outcome (List ℕ)

@@ -1,5 +1,5 @@
--- The call of the rig's host.
---     Call    reading, ordering, planning, writing; the one number it answers
---     Stages  what a stage of it gives
+-- The call of the rig's host, and what the library promises.
+--     Call     reading, ordering, planning, writing; the one number it answers
+--     Library  WHAT THE LIBRARY PROMISES
 pub mod Call
-pub mod Stages
+pub mod Library

@@ -129,10 +129,6 @@ pub record Least (capacity all h : ℕ) (ws : List ℕ) (n : ℕ) : Type 0 where
   pub reached : (ks : List ℕ) × Holds capacity all ws ks × (loadsFor h ks ≤ n)
   pub least : (ks : List ℕ) → Holds capacity all ws ks → n ≤ loadsFor h ks
 
--- two such numbers are one
-pub least-same : {capacity all h : ℕ} {ws : List ℕ} {m n : ℕ} → Least capacity all h ws m → Least capacity all h ws n → m ≡ n
-least-same a b = omega (arith, a .least (b .reached .0) (b .reached .1), b .reached .2, b .least (a .reached .0) (a .reached .1), a .reached .2)
-
 -- ---- a good choice
 module _ (all : ℕ) (pick : ℕ → List ℕ → Found ℕ) (good : Good all pick) where
   chosen : (e cs : ℕ) (ws : List ℕ) → e ≤ size cs → cs ≼ all → Chosen e cs ws (victims pick e cs ws)

@@ -6,10 +6,10 @@
 --     Best        the furthest next use is a good choice
 --     LeastUse    the next use is the least later step that wants the curve
 --     OurPlan     the victim is a maximum, exactly the excess is dropped, and all that is not wanted where the test is too large
---     Staying     the victims by those that stay
+--     Staying     the victims by those that go first, and by those that stay
+--     Groups      the candidates in groups by their next use
 --     Width       our plan does not depend on a bound on curves above the job's
 --     Turns       one turn of a loop
---     Scan        a walk over the elements of a set, and the best that it finds
 pub mod CheckExact
 pub mod Moves
 pub mod Holdings
@@ -18,6 +18,6 @@ pub mod Best
 pub mod LeastUse
 pub mod OurPlan
 pub mod Staying
+pub mod Groups
 pub mod Width
 pub mod Turns
-pub mod Scan

@@ -1,13 +1,12 @@
 -- Three lists as one list of moves.
 use mathlib.Core.Path.{_≡_, refl, sym, ap, _∙_}
 use mathlib.Core.List.{List, [], _∷_}
-use Prim.Native.Nat.{ℕ, suc, _≤_, zero-le}
+use Prim.Native.Nat.{ℕ, suc}
 use native.Mathlib.Omega.{arith}
 use lib.ListN.{length, drop, length-map}
-use Rattle.bitset.proofs.Bits.{size-empty}
 use Rattle.lists.specs.Choice.{Found}
 use Rattle.drive.specs.declared.Sets.{Sets}
-use Rattle.drive.specs.Steps.{Move, dropsOf, loadsOf, wantsOf, setsOf, moves, curveCount, loadCount}
+use Rattle.drive.specs.Steps.{Move, dropsOf, loadsOf, wantsOf, setsOf, moves}
 use Rattle.drive.specs.Plan.{planFrom}
 
 -- the moves that want ws and have these sets

@@ -2,16 +2,15 @@
 use mathlib.Core.Path.{_≡_, refl, sym, ap, _∙_}
 use mathlib.Core.Bool.{Bool, true, false}
 use mathlib.Core.List.{List, [], _∷_}
-use Prim.Native.Nat.{ℕ, suc, _+_, _-_, _^_, _≤_, _<_}
+use Prim.Native.Nat.{ℕ, suc, _+_, _-_, _≤_, _<_}
 use native.Mathlib.Omega.{arith}
+use native.Mathlib.Decide.{ℕ-discrete, decLe}
 use native.Mathlib.Numerals.{add-one}
 use native.Mathlib.Nat.{add-zero}
-use lib.ListN.{length, getD, drop, set, length-set, drop-of-length-le}
-use lib.Seq.{drop-cons, drop-drop, getD-drop, sets}
-use Rattle.bitset.specs.Set.{_∪_, _∖_, size, bit}
-use Rattle.bitset.proofs.Bits.{bit-∪, bit-empty, same-by-bits}
-use Rattle.bitset.proofs.Laws.{∪-assoc}
-use Rattle.lists.specs.Choice.{Found, found}
+use lib.ListN.{length, getD, drop, set, length-set, drop-of-length-le, List·getD-eq-default}
+use lib.Seq.{drop-cons, drop-drop, getD-drop, getD-set-same, getD-set-other, ext-getD, sets}
+use Rattle.bitset.specs.Set.{_∪_, size, bit}
+use Rattle.lists.specs.Choice.{Found}
 use Rattle.lists.proofs.Overwritten.{sets-cons}
 use Rattle.drive.specs.declared.Sets.{Sets}
 use Rattle.drive.specs.declared.Checked.the-variants.{Ends, Breaks}
@@ -20,7 +19,8 @@ use Rattle.drive.specs.declared.choice.NextUse.the-variants.{At, Never}
 use Rattle.drive.specs.Steps.{moved, heldAfter, dropsOf, loadsOf, moves}
 use Rattle.drive.specs.Check.{orBreaks, keeps, checkFrom}
 use Rattle.drive.specs.Uses.{later, useBy, nextUse}
-use Rattle.drive.specs.Plan.{andThen, victims, dropsFor, next, planFrom}
+use Rattle.drive.specs.Plan.{victims, dropsFor, next, planFrom}
+use Rattle.drive.specs.Contracts.{together}
 
 -- ---- step i of our plan, with h held; the drops and loads of the steps before it are written
 module _ (pick : ℕ → List ℕ → Found ℕ) (capacity start : ℕ) (ws drops₀ loads₀ : List ℕ) where
@@ -61,6 +61,29 @@ module _ (pick : ℕ → List ℕ → Found ℕ) (capacity start : ℕ) (ws drop
           ),
         )
 
+-- what is overwritten does not matter: two lists that differ only from entry i on, in as many entries as are written
+pub sets-over : (xs l m : List ℕ) (i : ℕ) → length l ≡ length m → ((j : ℕ) → j < i → getD l j 0 ≡ getD m j 0) → ((j : ℕ) → i + length xs ≤ j → getD l j 0 ≡ getD m j 0)
+    → sets l i xs ≡ sets m i xs
+sets-over [] l m i e before behind = ext-getD 0 l m e (λ j h. go j (decLe i j))
+  where
+    go : (j : ℕ) → Dec (i ≤ j) → getD l j 0 ≡ getD m j 0
+    go j (yes p) = behind j (omega arith)
+    go j (no p) = before j (omega arith)
+sets-over (x ∷ xs) l m i e before behind =
+    let long = length-set l i x ∙ e ∙ sym (length-set m i x) in
+    sets-over xs (set l i x) (set m i x) (suc i) long (λ j h. go j h (ℕ-discrete j i)) (λ j h. other j (λ q. omega arith) (behind j (omega arith)))
+  where
+    other : (j : ℕ) → (j ≡ i → ⊥) → getD l j 0 ≡ getD m j 0 → getD (set l i x) j 0 ≡ getD (set m i x) j 0
+    other j q same = getD-set-other l i j x 0 q ∙ same ∙ sym (getD-set-other m i j x 0 q)
+
+    written : Dec (length l ≤ i) → getD (set l i x) i 0 ≡ getD (set m i x) i 0
+    written (yes p) = List·getD-eq-default (set l i x) 0 (omega (arith, length-set l i x)) ∙ sym (List·getD-eq-default (set m i x) 0 (omega (arith, length-set m i x)))
+    written (no p) = getD-set-same l i x 0 (omega arith) ∙ sym (getD-set-same m i x 0 (omega arith))
+
+    go : (j : ℕ) → j < suc i → Dec (j ≡ i) → getD (set l i x) j 0 ≡ getD (set m i x) j 0
+    go j h (yes q) = rw q (written (decLe (length l) i))
+    go j h (no q) = other j q (before j (omega arith))
+
 -- ---- the check of step i, with h held, d dropped and l loaded; b is whether it keeps the rules
 module _ (capacity all h i : ℕ) (ws ds ls : List ℕ) (d l : ℕ) (b : Bool) (below : i < length ws) (drops : d ≡ getD ds i 0) (loads : l ≡ getD ls i 0)
     (asked : b ≡ keeps capacity all h (record { want = getD ws i 0; sets = record { drops = d; loads = l } })) where
@@ -84,16 +107,6 @@ module _ (capacity all h i : ℕ) (ws ds ls : List ℕ) (d l : ℕ) (b : Bool) (
 pub check-end : (capacity all h i : ℕ) (ws ds ls : List ℕ) → length ws ≤ i → checkFrom capacity all i h (moves (drop i ws) ds ls) ≡ Ends h
 unfolding checkFrom moves
 check-end capacity all h i ws ds ls e = rw (drop-of-length-le ws e) refl
-
--- ---- dropping one by one: acc is dropped so far
-pub victims-next : (pick : ℕ → List ℕ → Found ℕ) (acc e cs v : ℕ) (ws : List ℕ) → pick cs ws ≡ found v
-    → acc ∪ victims pick (suc e) cs ws ≡ (acc ∪ 2 ^ v) ∪ victims pick e (cs ∖ 2 ^ v) ws
-unfolding victims andThen
-victims-next pick acc e cs v ws p = rw p (sym (∪-assoc acc (2 ^ v) (victims pick e (cs ∖ 2 ^ v) ws)))
-
-pub victims-end : (pick : ℕ → List ℕ → Found ℕ) (acc cs : ℕ) (ws : List ℕ) → acc ∪ victims pick 0 cs ws ≡ acc
-unfolding victims
-victims-end pick acc cs ws = same-by-bits (acc ∪ 0) acc (λ c. omega (arith, bit-∪ c acc 0, bit-empty c))
 
 -- ---- no drops where all have room
 pub no-drops : (pick : ℕ → List ℕ → Found ℕ) (capacity h w : ℕ) (ws : List ℕ) → size (h ∪ w) ≤ capacity → dropsFor pick capacity h w ws ≡ 0
@@ -120,3 +133,14 @@ use-later c s ws h b = rw (add-one s, drop-cons ws s 0 h, b) (go (nextUse c (dro
 pub use-never : (c s : ℕ) (ws : List ℕ) → length ws ≤ s → stepOf s (nextUse c (drop s ws)) ≡ Never
 unfolding stepOf nextUse
 use-never c s ws h = rw (drop-of-length-le ws h) refl
+
+-- ---- what the steps from i on want together
+pub together-end : (ws : List ℕ) (i : ℕ) → length ws ≤ i → together (drop i ws) ≡ 0
+unfolding together
+together-end ws i h = rw (drop-of-length-le ws h) refl
+
+pub together-back : (ws : List ℕ) (i u : ℕ) → 0 < i → i ≤ length ws → u ≡ together (drop i ws) → getD ws (i - 1) 0 ∪ u ≡ together (drop (i - 1) ws)
+unfolding together
+together-back ws i u p h e =
+    let s : i ≡ suc (i - 1) = omega arith in
+    ap (λ (x : ℕ). getD ws (i - 1) 0 ∪ x) (e ∙ ap (λ (n : ℕ). together (drop n ws)) s) ∙ sym (ap together (drop-cons ws (i - 1) 0 (omega arith)))

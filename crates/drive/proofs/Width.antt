@@ -1,19 +1,29 @@
 -- Our plan is the same whether the victim is looked for among the job's curves or among all numbers below a larger bound.
 use mathlib.Core.Path.{_≡_, refl, ap}
+use mathlib.Core.Bool.{Bool}
 use mathlib.Core.List.{List, [], _∷_}
-use Prim.Native.Nat.{ℕ, zero, suc, _-_, _^_, _≤_, _<_}
+use Prim.Native.Nat.{ℕ, zero, suc, _+_, _-_, _^_, _≤_, _<_}
 use native.Mathlib.Omega.{arith}
+use lib.Dec.{eqb}
 use lib.Pow.{pow-mono}
 use lib.ListN.{length, getD}
-use Rattle.bitset.specs.Set.{_∪_, _∖_, size}
+use borrow.Author.Tests.{ne-eqb}
+use Rattle.bitset.specs.Set.{_∪_, _∖_, size, bit}
 use Rattle.bitset.proofs.Bits.{bit-beyond}
 use Rattle.bitset.proofs.Laws.{∪-lt, ∖-lt}
-use Rattle.lists.specs.Choice.{Found, nobody, found}
+use Rattle.lists.specs.Choice.{Found, nobody, found, bestOf}
+use Rattle.lists.proofs.Chosen.{best-skip}
 use Rattle.drive.specs.declared.Sets.{Sets}
 use Rattle.drive.specs.Steps.{moved}
 use Rattle.drive.specs.Uses.{nextUse, further}
 use Rattle.drive.specs.Plan.{furthest, andThen, victims, dropsFor, next, planFrom}
-use Rattle.drive.proofs.Scan.{skip}
+
+-- no candidate from n on
+skip : (better : ℕ → ℕ → Bool) (cs n m : ℕ) → n ≤ m → ((c : ℕ) → n ≤ c → c < m → bit c cs ≡ 0)
+    → bestOf (λ c. eqb (bit c cs) 1) better (λ c. c) m nobody ≡ bestOf (λ c. eqb (bit c cs) 1) better (λ c. c) n nobody
+skip better cs n m h none =
+    let e : (m - n) + n ≡ m = omega arith in
+    rw (← e) (best-skip (λ c. eqb (bit c cs) 1) better (λ c. c) nobody (m - n) n (λ c l u. ne-eqb (bit c cs) 1 (λ q. omega (arith, none c l (omega arith)))))
 
 module _ (n m : ℕ) (wider : n ≤ m) where
   furthest-width : (cs : ℕ) (ws : List ℕ) → cs < 2 ^ n → furthest m cs ws ≡ furthest n cs ws

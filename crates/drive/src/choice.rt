@@ -1,14 +1,13 @@
 // Which curves a step drops.
 ghost use mathlib.Core.Path.{_≡_};
 ghost use mathlib.Core.List.{List};
-ghost use Prim.Native.Nat.{ℕ, _-_, _≤_, _<_};
-ghost use lib.ListN.{length, getD};
-ghost use Rattle.bitset.specs.Set.{size, bit};
+ghost use Prim.Native.Nat.{ℕ, _+_, _-_, _^_, _≤_, _<_};
+ghost use lib.ListN.{length};
+ghost use Rattle.bitset.specs.Set.{_∖_, size, bit};
 ghost use Rattle.lists.specs.Lent.{was, after};
-ghost use Rattle.lists.specs.Choice.{found};
 ghost use Rattle.drive.specs.Uses.{further};
 ghost use Rattle.drive.specs.Plan.{furthest, victims, dropsFor};
-ghost use Rattle.drive.specs.Noted.{Noted, GoesBefore};
+ghost use Rattle.drive.specs.Contracts.{together, Grouped, UsedAt, GoesFirst};
 
 // Document 01: "its next use, which is a later step or never". At(0) is the step after the present one.
 pub enum NextUse {
@@ -20,58 +19,6 @@ pub enum NextUse {
 pub struct Candidate {
     pub curve: usize,
     pub next: NextUse,
-}
-
-// Notes step k for each of the curves.
-fn note(curves: u64, k: usize, uses: &mut [usize])
-    requires { ⌜ length (now uses) ≡ 64 ⌝ }
-    ensures { λ _. ⌜ ((c : ℕ) → bit c curves ≡ 1 → getD (after uses) c 0 ≡ k) ⌝ }
-    ensures { λ _. ⌜ ((c : ℕ) → bit c curves ≡ 0 → getD (after uses) c 0 ≡ getD (was uses) c 0) ⌝ }
-{
-    let mut left = curves;
-    while left != 0 {
-        let c = bitset::lowest(left);
-        uses[c] = k;
-        left = bitset::without_lowest(left);
-    }
-}
-
-// The next use of each candidate, by one walk over the later steps: noted in `uses`, or never for those in the answer.
-fn next_uses(candidates: u64, later: &[u64], uses: &mut [usize]) -> u64
-    requires { ⌜ length (now uses) ≡ 64 ⌝ }
-    ensures { λ r. ⌜ Noted candidates r (after uses) (was later) ⌝ }
-{
-    let mut left = candidates;
-    let mut k: usize = 0;
-    while k < later.len() {
-        if left == 0 {
-            return left;
-        }
-        let want = later[k];
-        note(bitset::common(left, want), k, uses);
-        left = bitset::without(left, want);
-        k += 1;
-    }
-    left
-}
-
-// A curve with its next use: never, or the step that is noted for it.
-fn with_next_use(curve: usize, never: u64, uses: &[usize; 64]) -> Candidate
-    requires { ⌜ curve < 64 ⌝ }
-    ensures { λ r. ⌜ r .curve ≡ curve ⌝ }
-    ensures { λ r. ⌜ (bit curve never ≡ 1 → r .next ≡ NextUse.Never) ⌝ }
-    ensures { λ r. ⌜ (bit curve never ≡ 0 → r .next ≡ NextUse.At (getD (was uses) curve 0)) ⌝ }
-{
-    if bitset::has(never, curve) {
-        return Candidate {
-            curve,
-            next: NextUse::Never,
-        };
-    }
-    Candidate {
-        curve,
-        next: NextUse::At(uses[curve]),
-    }
 }
 
 // Whether the next use of `a` is further than that of `b`: "never is furthest".
@@ -92,100 +39,217 @@ fn further(a: Candidate, b: Candidate) -> bool
     }
 }
 
-// The candidate "whose next use in a later step is furthest", the lowest of several: for whatever later steps the next uses are those of `never` and `uses`.
-fn furthest(candidates: u64, never: u64, uses: &[usize; 64]) -> Candidate
-    requires { ⌜ 0 < candidates ⌝ }
-    ensures { λ r. ⌜ bit (r .curve) candidates ≡ 1 ⌝ }
-    ensures { λ r. ⌜ ((ws : List ℕ) → Noted candidates never (was uses) ws → furthest 64 candidates ws ≡ found (r .curve)) ⌝ }
+// ---- curves with the same next use
+
+// The one that goes first: "Ties go to the lowest curve number".
+fn first_to_go(same: u64) -> usize
+    ensures { λ r. ⌜ (0 < same → bit r same ≡ 1) ⌝ }
+    ensures { λ r. ⌜ ((c : ℕ) → bit c same ≡ 1 → r ≤ c) ⌝ }
 {
-    let mut best = with_next_use(bitset::lowest(candidates), never, uses);
-    let mut rest = bitset::without_lowest(candidates);
-    while rest != 0 {
-        let next = with_next_use(bitset::lowest(rest), never, uses);
-        if further(next, best) {
-            best = next;
-        }
-        rest = bitset::without_lowest(rest);
-    }
-    best
+    bitset::lowest(same)
 }
 
-// The candidate whose next use is soonest, the highest of several: each other one goes before it.
-fn soonest(candidates: u64, never: u64, uses: &[usize; 64]) -> Candidate
-    requires { ⌜ 0 < candidates ⌝ }
-    ensures { λ r. ⌜ bit (r .curve) candidates ≡ 1 ⌝ }
-    ensures { λ r. ⌜ ((ws : List ℕ) → Noted candidates never (was uses) ws → (c : ℕ) → bit c candidates ≡ 1 → GoesBefore ws c (r .curve)) ⌝ }
+// Those that are left when so many have gone.
+fn left_after(same: u64, gone: usize) -> u64
+    requires { ⌜ gone ≤ size same ⌝ }
+    ensures { λ r. ⌜ size r + gone ≡ size same ⌝ }
+    ensures { λ r. ⌜ ((c : ℕ) → bit c r ≤ bit c same) ⌝ }
+    ensures { λ r. ⌜ ((c d : ℕ) → bit c same ≡ 1 → bit c r ≡ 0 → bit d r ≡ 1 → c < d) ⌝ }
 {
-    let mut best = with_next_use(bitset::lowest(candidates), never, uses);
-    let mut rest = bitset::without_lowest(candidates);
-    while rest != 0 {
-        let next = with_next_use(bitset::lowest(rest), never, uses);
-        if !further(next, best) {
-            best = next;
-        }
-        rest = bitset::without_lowest(rest);
+    let mut left = same;
+    let mut n = gone;
+    while 0 < n {
+        left = bitset::without(left, bitset::single(first_to_go(left)));
+        n -= 1;
     }
-    best
+    left
 }
 
-// So many of the candidates, "one by one: each time the curve whose next use in a later step is furthest".
-fn drop_furthest(excess: usize, candidates: u64, never: u64, uses: &[usize; 64]) -> u64
-    requires { ⌜ excess ≤ size candidates ⌝ }
-    ensures { λ r. ⌜ ((ws : List ℕ) → Noted candidates never (was uses) ws → r ≡ victims (furthest 64) excess candidates ws) ⌝ }
+// ---- every candidate's next use
+
+// What some steps want together.
+pub(crate) fn together(wants: &[u64]) -> u64
+    ensures { λ r. ⌜ r ≡ together (was wants) ⌝ }
+{
+    let mut all: u64 = 0;
+    let mut i = wants.len();
+    while 0 < i {
+        i -= 1;
+        all = bitset::union(wants[i], all);
+    }
+    all
+}
+
+// 1 where the set has elements, else 0.
+fn any(set: u64) -> usize
+    ensures { λ r. ⌜ (set ≡ 0 → r ≡ 0) ⌝ }
+    ensures { λ r. ⌜ (0 < set → r ≡ 1) ⌝ }
+{
+    if set == 0 { 0 } else { 1 }
+}
+
+// The next use of every candidate, by one walk over the later steps: the candidates in groups, and how many groups. `used` is what the later steps want
+// together: the walk ends where each candidate that is used again is found.
+fn find_uses(
+    candidates: u64,
+    used: u64,
+    later: &[u64],
+    groups: &mut [u64],
+    when: &mut [usize],
+) -> usize
+    requires { ⌜ (used ≡ together (now later)) × ((64 ≤ length (now groups)) × (64 ≤ length (now when))) ⌝ }
+    ensures { λ r. ⌜ Grouped candidates (candidates ∖ used) r (after groups) (after when) (was later) ⌝ }
+{
+    let mut left = bitset::common(candidates, used);
+    let mut count: usize = 0;
+    let mut k: usize = 0;
+    while left != 0 {
+        let group = bitset::common(left, later[k]);
+        groups[count] = group;
+        when[count] = k;
+        count += any(group);
+        left = bitset::without(left, group);
+        k += 1;
+    }
+    count
+}
+
+// ---- the choice
+
+// One less; 0 of 0.
+fn one_less(n: usize) -> usize
+    ensures { λ r. ⌜ r ≡ n - 1 ⌝ }
+{
+    if n == 0 { 0 } else { n - 1 }
+}
+
+// How many groups have candidates, where `rest` is what is left of the last of so many.
+fn groups_left(rest: u64, count: usize) -> usize
+    ensures { λ r. ⌜ (rest ≡ 0 → r ≡ count - 1) ⌝ }
+    ensures { λ r. ⌜ (0 < rest → r ≡ count) ⌝ }
+{
+    if rest == 0 {
+        return one_less(count);
+    }
+    count
+}
+
+// The candidate "whose next use in a later step is furthest": the first of those never used against the first of a group, whose next use is `step`.
+fn furthest(never: u64, group: u64, step: usize) -> Candidate
+    ensures { λ r. ⌜ ((ws : List ℕ) → 0 < never → UsedAt NextUse.Never never ws → GoesFirst ws never r) ⌝ }
+    ensures { λ r. ⌜ ((ws : List ℕ) → never ≡ 0 → 0 < group → UsedAt (NextUse.At step) group ws → GoesFirst ws group r) ⌝ }
+{
+    let sooner = Candidate {
+        curve: first_to_go(group),
+        next: NextUse::At(step),
+    };
+    if never == 0 {
+        return sooner;
+    }
+    let latest = Candidate {
+        curve: first_to_go(never),
+        next: NextUse::Never,
+    };
+    if further(latest, sooner) {
+        return latest;
+    }
+    sooner
+}
+
+// So many of the candidates, "one by one: each time the curve whose next use in a later step is furthest". Where no group is left, those never used are further
+// than whatever stands in entry 0.
+fn drop_from_far(excess: usize, unused: u64, found: usize, groups: &[u64], when: &[usize]) -> u64
+    requires { ⌜ (found ≤ 64) × ((64 ≤ length (now groups)) × (64 ≤ length (now when))) ⌝ }
+    ensures { λ r. ⌜ ((cs : ℕ) (ws : List ℕ) → Grouped cs unused found (was groups) (was when) ws → cs < 2 ^ 64 → excess ≤ size cs
+        → r ≡ victims (furthest 64) excess cs ws) ⌝ }
 {
     let mut chosen: u64 = 0;
-    let mut left = candidates;
+    let mut count = found;
     let mut more = excess;
     while 0 < more {
-        let best = furthest(left, never, uses);
+        let last = one_less(count);
+        let group = bitset::without(groups[last], chosen);
+        let best = furthest(bitset::without(unused, chosen), group, when[last]);
         let victim = bitset::single(best.curve);
         chosen = bitset::union(chosen, victim);
-        left = bitset::without(left, victim);
+        count = groups_left(bitset::without(group, victim), count);
         more -= 1;
     }
     chosen
 }
 
-// The same drops, found by those that stay: so many of the candidates, each time the one whose next use is soonest. The answer has the others.
-fn keep_soonest(spare: usize, candidates: u64, never: u64, uses: &[usize; 64]) -> u64
-    requires { ⌜ spare ≤ size candidates ⌝ }
-    ensures { λ r. ⌜ ((ws : List ℕ) → Noted candidates never (was uses) ws → r ≡ victims (furthest 64) (size candidates - spare) candidates ws) ⌝ }
+// The same drops, found by those that stay: whole groups from the near end, and of the last one those that go last.
+fn keep_from_near(excess: usize, candidates: u64, count: usize, groups: &[u64]) -> u64
+    requires { ⌜ (count ≤ length (now groups)) × (excess < size candidates) ⌝ }
+    ensures { λ r. ⌜ ((unused : ℕ) (when ws : List ℕ) → Grouped candidates unused count (was groups) when ws
+        → r ≡ victims (furthest 64) excess candidates ws) ⌝ }
 {
     let mut left = candidates;
-    let mut more = spare;
-    while 0 < more {
-        let best = soonest(left, never, uses);
-        left = bitset::without(left, bitset::single(best.curve));
-        more -= 1;
+    let mut j: usize = 0;
+    while j < count {
+        let group = groups[j];
+        let behind = bitset::without(left, group);
+        let n = bitset::size(behind);
+        if n <= excess {
+            return bitset::without(left, left_after(bitset::common(left, group), excess - n));
+        }
+        left = behind;
+        j += 1;
     }
-    left
+    bitset::without(left, left_after(left, excess))
 }
 
-// So many of the candidates, all of them where there are not more: the drops are chosen one by one, or those that stay are, where these are fewer.
-fn choose_drops(excess: usize, candidates: u64, later: &[u64]) -> u64
-    ensures { λ r. ⌜ r ≡ victims (furthest 64) excess candidates (was later) ⌝ }
+// "If held and wanted curves together exceed the places, drop exactly the excess, from held curves that the test doesn't want"; where there are not more of
+// these, as where the test alone exceeds the places, all of them. The drops are chosen one by one, or those that stay are counted off, where these are fewer.
+// `used` is what the later steps want together; in `groups` and `when` the candidates are noted.
+pub(crate) fn drops_with(
+    capacity: usize,
+    held: u64,
+    want: u64,
+    used: u64,
+    later: &[u64],
+    groups: &mut [u64],
+    when: &mut [usize],
+) -> u64
+    requires { ⌜ (used ≡ together (now later)) × ((64 ≤ length (now groups)) × (64 ≤ length (now when))) ⌝ }
+    ensures { λ r. ⌜ r ≡ dropsFor (furthest 64) capacity held want (was later) ⌝ }
 {
-    let count = bitset::size(candidates);
-    if count <= excess {
+    let all = bitset::size(bitset::union(held, want));
+    if all <= capacity {
+        return 0;
+    }
+    let excess = all - capacity;
+    let candidates = bitset::without(held, want);
+    let size = bitset::size(candidates);
+    if size <= excess {
         return candidates;
     }
-    let mut uses = [0usize; 64];
-    let never = next_uses(candidates, later, &mut uses);
-    let spare = count - excess;
-    if excess <= spare {
-        return drop_furthest(excess, candidates, never, &uses);
+    let count = find_uses(candidates, used, later, groups, when);
+    if size - excess < excess {
+        return keep_from_near(excess, candidates, count, groups);
     }
-    keep_soonest(spare, candidates, never, &uses)
+    drop_from_far(
+        excess,
+        bitset::without(candidates, used),
+        count,
+        groups,
+        when,
+    )
 }
 
-// "If held and wanted curves together exceed the places, drop exactly the excess, from held curves that the test doesn't want"; where the test alone exceeds
-// them, all of those.
+// The drops of a step by itself.
 pub fn drops_for(capacity: usize, held: u64, want: u64, later: &[u64]) -> u64
     ensures { λ r. ⌜ r ≡ dropsFor (furthest 64) capacity held want (was later) ⌝ }
 {
-    let together = bitset::size(bitset::union(held, want));
-    if together <= capacity {
-        return 0;
-    }
-    choose_drops(together - capacity, bitset::without(held, want), later)
+    let mut groups = [0u64; 64];
+    let mut when = [0usize; 64];
+    drops_with(
+        capacity,
+        held,
+        want,
+        together(later),
+        later,
+        &mut groups,
+        &mut when,
+    )
 }

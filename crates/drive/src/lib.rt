@@ -1,12 +1,14 @@
 // One drive: what a step drops and loads, all steps, and the check of steps. It knows no jobs, refusals and bytes.
 ghost use mathlib.Core.Path.{_≡_};
-ghost use Prim.Native.Nat.{_+_, _<_};
-ghost use lib.ListN.{length, drop};
+ghost use Prim.Native.Nat.{ℕ, _+_, _≤_, _<_};
+ghost use lib.ListN.{length, getD, drop};
 ghost use lib.Seq.{sets};
+ghost use Rattle.bitset.specs.Set.{_∖_};
 ghost use Rattle.lists.specs.Lent.{was, after};
 ghost use Rattle.drive.specs.Steps.{moved, heldAfter, dropsOf, loadsOf, moves};
 ghost use Rattle.drive.specs.Check.{keeps, checkFrom};
 ghost use Rattle.drive.specs.Plan.{furthest, next, planFrom};
+ghost use Rattle.drive.specs.Contracts.{together};
 
 pub mod choice;
 
@@ -31,14 +33,46 @@ pub fn moved(held: u64, sets: Sets) -> u64
 
 // ---- our plan
 
-// The next step of our plan, with `held` in the drive, for a test that wants `want` and later ones that want `later`: "Load what is wanted and not held."
+// The sets of a step with these drops, with `held` in the drive, for a test that wants `want`: "Load what is wanted and not held."
+fn with_drops(held: u64, want: u64, drops: u64) -> Sets
+    ensures { λ r. ⌜ r ≡ record { drops = drops; loads = want ∖ held } ⌝ }
+{
+    Sets {
+        drops,
+        loads: bitset::without(want, held),
+    }
+}
+
+// The next step of our plan, with `held` in the drive, for a test that wants `want` and later ones that want `later`.
 pub fn step(capacity: usize, held: u64, want: u64, later: &[u64]) -> Sets
     ensures { λ r. ⌜ r ≡ next (furthest 64) capacity held want (was later) ⌝ }
 {
-    Sets {
-        drops: choice::drops_for(capacity, held, want, later),
-        loads: bitset::without(want, held),
+    with_drops(held, want, choice::drops_for(capacity, held, want, later))
+}
+
+// Writes for each step what the steps after it want together, as far as the list has entries.
+fn write_later(wants: &[u64], list: &mut [u64])
+    ensures { λ _. ⌜ ((i : ℕ) → i < length (was wants) → i < length (was list) → getD (after list) i 0 ≡ together (drop (i + 1) (was wants))) ⌝ }
+    ensures { λ _. ⌜ ((i : ℕ) → length (was wants) ≤ i → getD (after list) i 0 ≡ getD (was list) i 0) ⌝ }
+{
+    let mut all: u64 = 0;
+    let mut i = wants.len();
+    while 0 < i {
+        i -= 1;
+        lists::put(list, i, all);
+        all = bitset::union(wants[i], all);
     }
+}
+
+// What the steps after step i, which want `later`, want together: the entry of the list, where it has one.
+fn wanted_later(list: &[u64], i: usize, later: &[u64]) -> u64
+    requires { ⌜ (i < length (now list) → getD (now list) i 0 ≡ together (now later)) ⌝ }
+    ensures { λ r. ⌜ r ≡ together (was later) ⌝ }
+{
+    if i < list.len() {
+        return list[i];
+    }
+    choice::together(later)
 }
 
 // The wants of the steps after step i.
@@ -51,7 +85,7 @@ fn later(wants: &[u64], i: usize) -> &[u64]
 }
 
 // All steps of our plan, with `start` held before the first: what is held at the end. Their drops and loads go into the first entries of the lists lent, as far
-// as these have entries.
+// as these have entries. At first the list of loads has what the steps after each want together; an entry is read before its step's loads are written there.
 pub fn plan_steps(
     capacity: usize,
     start: u64,
@@ -63,10 +97,25 @@ pub fn plan_steps(
     ensures dropped { λ _. ⌜ after drops ≡ sets (was drops) 0 (dropsOf (planFrom (furthest 64) capacity start (was wants))) ⌝ }
     ensures loaded { λ _. ⌜ after loads ≡ sets (was loads) 0 (loadsOf (planFrom (furthest 64) capacity start (was wants))) ⌝ }
 {
+    write_later(wants, loads);
+    let mut groups = [0u64; 64];
+    let mut when = [0usize; 64];
     let mut held = start;
     let mut i: usize = 0;
     while i < wants.len() {
-        let sets = step(capacity, held, wants[i], later(wants, i));
+        let behind = later(wants, i);
+        let used = wanted_later(loads, i, behind);
+        let want = wants[i];
+        let dropped = choice::drops_with(
+            capacity,
+            held,
+            want,
+            used,
+            behind,
+            &mut groups,
+            &mut when,
+        );
+        let sets = with_drops(held, want, dropped);
         lists::put(drops, i, sets.drops);
         lists::put(loads, i, sets.loads);
         held = moved(held, sets);

@@ -9,7 +9,6 @@ use Rattle.exports.specs.Numbers.{numbered, headOf}
 
 -- a refusal's number takes five bits
 pub number-small : (r : Refusal) → number r ≤ 31
-unfolding number
 number-small (Refusal.Truncated i) = omega arith
 number-small (Refusal.BadHeader i) = omega arith
 number-small (Refusal.EmptyGroup i) = omega arith

@@ -3,45 +3,45 @@
 use mathlib.Core.Path.{_≡_, refl, ap, _∙_, subst}
 use mathlib.Core.Bool.{not, _&&_}
 use mathlib.Core.List.{List, [], _∷_, _++_}
-use Prim.Native.Nat.{ℕ, suc, _+_, _*_, _/_, _%_, _^_, _≤_, _<_, min}
+use Prim.Native.Nat.{ℕ, _+_, _/_, _%_, _^_, _≤_, _<_, min}
 use native.Mathlib.Omega.{arith}
 use borrow.Author.Tests.{ltb-true}
 use lib.Dec.{ltb}
 use lib.ListN.{length, length-append}
-use Rattle.bitset.specs.Set.{_∖_}
-use Rattle.bitset.proofs.Laws.{⊆-∪-r, size-mono}
 use Rattle.job.specs.declared.Head.{Head}
+use Rattle.job.specs.declared.Rig.{Rig}
 use Rattle.job.specs.Refusal.{Outcome, done, refused, _>>_, mapped, demand, room}
-use Rattle.job.specs.Handed.{listed, someTests, placesKnown, curvesKnown, testsKnown, methodKnown, wantsKnown, wantsFit, numbersKnown, jobKnown, jobKnownBy, countsKnown, allCurves}
+use Rattle.job.specs.Words.{Job, capacity}
+use Rattle.job.specs.Handed.{listed, someTests, placesKnown, curvesKnown, testsKnown, methodKnown, wantsKnown, wantsFit, numbersKnown, jobKnownBy, countsKnown, allCurves}
+use Rattle.job.specs.Order.{orderFrom}
+use Rattle.job.specs.Calls.{orderingKnown, checkingKnown, planningKnown}
 use Rattle.job.proofs.Laws.{both, demand-true, both-done, bind-done, mapped-done, done-same, done-both, done-room}
 use Rattle.job.proofs.Examination.{known-bounds}
-use Rattle.job.proofs.Orders.{order-length}
+use Rattle.job.proofs.JobExact.{job-by-exact}
 use Rattle.job.proofs.Refuses.{Refuses, refuses, refuses-demand, refuses-both, refuses-bind, refuses-mapped, refuses-each}
-use Rattle.job_bytes.specs.JobBytes.{Job, readBytes, readJob, readJobAnswer, jobBytes, jobOf, writeJob, writeJobAnswer}
+use Rattle.job_bytes.specs.JobBytes.{Request, request, readBytes, readJob, readJobAnswer, jobBytes, writeJob, writeJobAnswer}
 use Rattle.job_bytes.proofs.JobBounds.{Bounded, read, read-bounded, figure-short, written-short}
+use Rattle.job_bytes.proofs.ReadRefuses.{ByReading, read-refuses}
 use Rattle.job_bytes.proofs.SetRoundTrip.{Bytes}
 use Rattle.ordering.specs.Methods.{orderBy}
 use Rattle.ordering.specs.Ordering.{ordering, orderAnswer}
-use Rattle.ordering.proofs.Complete.{order-complete}
-use Rattle.planning.specs.Order.{orderFrom, orderKnown}
+use Rattle.ordering.proofs.Ordered.{order-entries}
 use Rattle.drive.specs.declared.Checked.{Checked}
 use Rattle.drive.specs.declared.Checked.the-variants.{Ends, Breaks}
 use Rattle.drive.specs.Steps.{Move, moves}
 use Rattle.drive.specs.Check.{checkFrom}
 use Rattle.drive.proofs.CheckExact.{fault-within}
 use Rattle.drive.proofs.Moves.{length-moves}
-use Rattle.planning.specs.Plan.{inOrder}
+use Rattle.planning.specs.Plan.{Plan, entries, inOrder}
 use Rattle.planning.specs.Planning.{setsKnown, checkedOutcome, checking, planning, planAnswer}
 use Rattle.planning.proofs.CheckExact.{passed, check-few}
 use Rattle.planning.proofs.Demand3.{demand3}
-use Rattle.planning.proofs.Sequence.{order-long}
-use Rattle.planning.proofs.Turns.{length-inOrder}
-use Rattle.plan_bytes.specs.PlanBytes.{Placed, planBytes, writePlan, writePlanAnswer, readPlanBytes, planSteps, readPlan, readPlanAnswer}
+use Rattle.planning.proofs.Sequence.{known-exact, planning-parts, steps-length}
+use Rattle.plan_bytes.specs.PlanBytes.{Placed, planBytes, writePlan, writePlanAnswer, readPlanBytes, planSteps, readPlan, planRead, readPlanAnswer}
 use Rattle.plan_bytes.proofs.PlanBounds.{plan-figure, plan-eleven}
 use Rattle.plan_bytes.proofs.PlanLength.{passed-length, written-length}
 use Rattle.plan_bytes.proofs.ReadPlan.{plan-count}
 use Rattle.plan_bytes.proofs.Steps.{counts-bounds}
-use Rattle.curveplan.proofs.ReadRefuses.{ByReading, read-refuses}
 use Rattle.report.specs.Report.{sheet, writeSheet, sheetAnswer}
 use Rattle.report.specs.Audit.{audit, auditText, writeAudit, auditAnswer}
 use Rattle.report.proofs.Longest.{sheet-longest}
@@ -83,9 +83,9 @@ counts-told curves tests =
     refuses-both Figures _ _ (refuses-demand Figures _ 5 0 (omega arith, omega arith))
     (refuses-both Figures _ _ (refuses-demand Figures _ 10 1 (omega arith, omega arith)) (refuses-demand Figures _ 10 2 (omega arith, omega arith)))
 
-numbers-told : (places curves tests : ℕ) → Refuses Figures (numbersKnown places curves tests)
+numbers-told : (rig : Rig) (tests : ℕ) → Refuses Figures (numbersKnown rig tests)
 unfolding numbersKnown someTests placesKnown curvesKnown testsKnown
-numbers-told places curves tests =
+numbers-told rig tests =
     refuses-both Figures _ _ (refuses-demand Figures _ 5 0 (omega arith, omega arith))
     (refuses-both Figures _ _ (refuses-demand Figures _ 10 0 (omega arith, omega arith))
     (refuses-both Figures _ _ (refuses-demand Figures _ 10 1 (omega arith, omega arith)) (refuses-demand Figures _ 10 2 (omega arith, omega arith))))
@@ -98,24 +98,15 @@ fit-told : (places : ℕ) (wants : List ℕ) → length wants ≤ 256 → Refuse
 unfolding wantsFit
 fit-told places wants l = refuses-each Figures _ 7 0 wants (λ t h. (omega arith, omega arith))
 
-module _ (places curves : ℕ) (wants : List ℕ) where
-  few : jobKnown places curves wants ≡ done tt → length wants ≤ 256
-  unfolding jobKnown
-  few e = known-bounds places curves (length wants) (both-done (numbersKnown places curves (length wants)) _ tt e .0) .1
+module _ (method : ℕ) (j : Job) where
+  few : jobKnownBy method j ≡ done tt → length (j .wants) ≤ 256
+  few e = job-by-exact j method .0 e .0 .tests-bounds .1
 
-  few-by : (method : ℕ) → jobKnownBy places curves method wants ≡ done tt → length wants ≤ 256
-  unfolding jobKnownBy
-  few-by method e = known-bounds places curves (length wants) (both-done (numbersKnown places curves (length wants)) _ tt e .0) .1
-
-  job-told : Refuses Figures (jobKnown places curves wants)
-  unfolding jobKnown
-  job-told = then _ _ (numbers-told places curves (length wants)) (λ e. wants-told curves wants (known-bounds places curves (length wants) e .1))
-
-  job-by-told : (method : ℕ) → Refuses Figures (jobKnownBy places curves method wants)
+  job-told : Refuses Figures (jobKnownBy method j)
   unfolding jobKnownBy methodKnown
-  job-by-told method =
-      then _ _ (numbers-told places curves (length wants))
-      (λ e. refuses-both Figures _ _ (refuses-demand Figures _ 10 3 (omega arith, omega arith)) (wants-told curves wants (known-bounds places curves (length wants) e .1)))
+  job-told =
+      then _ _ (numbers-told (j .rig) (length (j .wants)))
+      (λ e. refuses-both Figures _ _ (refuses-demand Figures _ 10 3 (omega arith, omega arith)) (wants-told (j .rig .curves) (j .wants) (known-bounds (j .rig) (length (j .wants)) e .1)))
 
 -- 8 names one of the positions, or the one behind them
 order-told : (n : ℕ) (before rest : List ℕ) → n ≤ 256 → length before ≤ n → Refuses Figures (orderFrom n before rest)
@@ -139,16 +130,16 @@ steps-told places all ms l = go (checkFrom places all 0 0 ms) refl
 -- ---- jobs and orders
 
 module _ (bs old : List ℕ) where
-  read-few : (j : Job) → readBytes bs ≡ done j → j .head .tests ≤ 256
+  read-few : (j : Request) → readBytes bs ≡ done j → j .head .tests ≤ 256
   read-few j e = of (subst (Bounded bs) e (read-bounded bs))
     where
-      of : {j : Job} → Bounded bs (done j) → j .head .tests ≤ 256
+      of : {j : Request} → Bounded bs (done j) → j .head .tests ≤ 256
       of (read j l t) = t
 
   read-told : Refuses Figures (readBytes bs)
   read-told = go (readBytes bs) refl
     where
-      go : (o : Outcome Job) → readBytes bs ≡ o → Refuses Figures o
+      go : (o : Outcome Request) → readBytes bs ≡ o → Refuses Figures o
       go (done j) e = tt
       go (refused k i) e = (refuses ByReading (readBytes bs) k i (read-refuses bs) e .0, omega (arith, figure-short bs k i e .0))
 
@@ -158,95 +149,102 @@ module _ (bs old : List ℕ) where
       told _
       (λ n e.
       let h = mapped-done (λ (h : Head). h .tests) (readJobAnswer bs old) n e in
-      let j = mapped-done (λ (j : Job). j .head) (readJob bs (length old)) (h .0) (h .1) in
+      let j = mapped-done (λ (j : Request). j .head) (readJob bs (length old)) (h .0) (h .1) in
       let b = bind-done (readBytes bs) _ (j .0) (j .1) in
       let r = both-done (room (length old) (b .0 .head .tests)) (done (b .0)) (j .0) (b .2) in
-      omega (arith, read-few (b .0) (b .1), ap (λ (j : Job). j .head .tests) (done-same (r .1)), ap (λ (h : Head). h .tests) (j .2), h .2))
+      omega (arith, read-few (b .0) (b .1), ap (λ (j : Request). j .head .tests) (done-same (r .1)), ap (λ (h : Head). h .tests) (j .2), h .2))
       (refuses-mapped Figures _ _ (refuses-mapped Figures _ _
       (refuses-bind Figures (readBytes bs) _ read-told (λ j e. asked (length old) (j .head .tests) (done j) (omega (arith, read-few j e)) tt))))
 
-module _ (places curves method : ℕ) (wants old : List ℕ) where
-  pub write-job-told : Told (writeJobAnswer places curves method wants old)
+-- what every call is examined for before anything is made
+module _ (j : Job) where
+  ordering-told : (method : ℕ) → Refuses Figures (orderingKnown method j)
+  unfolding orderingKnown
+  ordering-told method = then _ _ (job-told method j) (λ e. fit-told (capacity (j .rig)) (j .wants) (few method j e))
+
+  module _ (order : List ℕ) where
+    checking-told : Refuses Figures (checkingKnown j order)
+    unfolding checkingKnown
+    checking-told = then _ _ (job-told 0 j) (λ e. order-told (length (j .wants)) [] order (few 0 j e) (omega arith))
+
+    planning-told : Refuses Figures (planningKnown j order)
+    unfolding planningKnown
+    planning-told = then _ _ checking-told (λ e. fit-told (capacity (j .rig)) (j .wants) (known-exact j order e .0 .tests-bounds .1))
+
+module _ (method : ℕ) (j : Job) (old : List ℕ) where
+  pub write-job-told : Told (writeJobAnswer method j old)
   unfolding writeJobAnswer
   write-job-told =
       told _
-      (λ n e. let b = mapped-done length (writeJob places curves method wants (length old)) n e in
-      omega (arith, b .2, written-short places curves method wants (length old) (b .0) (b .1)))
+      (λ n e. let b = mapped-done length (writeJob method j (length old)) n e in
+      omega (arith, b .2, written-short method j (length old) (b .0) (b .1)))
       (refuses-mapped Figures _ _ writing)
     where
       bytes : List ℕ
-      bytes = jobBytes (jobOf places curves method wants)
+      bytes = jobBytes (request method j)
 
-      short : jobKnownBy places curves method wants ≡ done tt → length bytes ≤ 2310
-      short e =
-          written-short places curves method wants (length bytes) bytes
-          (unfold writeJob in (done-both _ _ e ∙ done-both _ _ (done-room (length bytes) (length bytes) (omega arith))))
+      short : jobKnownBy method j ≡ done tt → length bytes ≤ 2310
+      short e = written-short method j (length bytes) bytes (unfold writeJob in (done-both _ _ e ∙ done-both _ _ (done-room (length bytes) (length bytes) (omega arith))))
 
-      writing : Refuses Figures (writeJob places curves method wants (length old))
-      writing =
-          unfold writeJob in then _ _ (job-by-told places curves wants method) (λ e. asked (length old) (length bytes) (done bytes) (omega (arith, short e)) tt)
+      writing : Refuses Figures (writeJob method j (length old))
+      writing = unfold writeJob in then _ _ (job-told method j) (λ e. asked (length old) (length bytes) (done bytes) (omega (arith, short e)) tt)
 
-  pub order-tests-told : Told (orderAnswer places curves method wants old)
-  unfolding orderAnswer ordering
-  order-tests-told = told _ (λ n e. counted n (mapped-done length (ordering places curves method wants (length old)) n e)) (refuses-mapped Figures _ _ refusing)
+  pub order-tests-told : Told (orderAnswer method j old)
+  unfolding orderAnswer orderingKnown ordering
+  order-tests-told = told _ (λ n e. counted n (mapped-done length (ordering method j (length old)) n e)) (refuses-mapped Figures _ _ refusing)
     where
-      counted : (n : ℕ) → (order : List ℕ) × (ordering places curves method wants (length old) ≡ done order) × (length order ≡ n) → n < 2 ^ 48
+      counted : (n : ℕ) → (order : List ℕ) × (ordering method j (length old) ≡ done order) × (length order ≡ n) → n < 2 ^ 48
       counted n x =
-          let a = both-done (jobKnownBy places curves method wants) _ (x .0) (x .1) in
-          let b = both-done (wantsFit places wants) _ (x .0) (a .1) in
-          let c = bind-done (room (length old) (length wants)) (λ _. done (orderBy method places wants)) (x .0) (b .1) in
-          omega (arith, x .2, ap length (done-same (c .2)), order-length (length wants) (orderBy method places wants) (order-complete method places wants), few-by places curves wants method (a .0))
+          let a = both-done (orderingKnown method j) _ (x .0) (x .1) in
+          let k = both-done (jobKnownBy method j) _ tt (a .0) in
+          let c = bind-done (room (length old) (length (j .wants))) (λ _. done (orderBy method (capacity (j .rig)) (j .wants))) (x .0) (a .1) in
+          omega (arith, x .2, ap length (done-same (c .2)), order-entries method (capacity (j .rig)) (j .wants), few method j (k .0))
 
-      refusing : Refuses Figures (ordering places curves method wants (length old))
+      refusing : Refuses Figures (ordering method j (length old))
       refusing =
-          unfold ordering room in then _ _ (job-by-told places curves wants method)
-          (λ e. let l = few-by places curves wants method e in
-          refuses-both Figures _ _ (fit-told places wants l) (refuses-bind Figures _ _ (refuses-demand Figures _ 9 (length wants) (omega arith, omega arith)) (λ _ e. tt)))
+          unfold ordering room in then _ _ (ordering-told j method)
+          (λ e. let l = few method j (both-done (jobKnownBy method j) _ tt e .0) in
+          refuses-bind Figures _ _ (refuses-demand Figures _ 9 (length (j .wants)) (omega arith, omega arith)) (λ _ e. tt))
 
 -- ---- plans
 
-module _ (places curves : ℕ) (wants order drops loads : List ℕ) where
-  few-loads : (n : ℕ) → checking places curves wants order drops loads ≡ done n → n < 2 ^ 48
-  few-loads n e =
-      omega (arith, check-few places curves wants order drops loads n e, passed places curves wants order drops loads n e .is-job .tests-bounds .1)
+module _ (j : Job) (order : List ℕ) (p : Plan) where
+  few-loads : (n : ℕ) → checking j order p ≡ done n → n < 2 ^ 48
+  few-loads n e = omega (arith, check-few j order p n e, passed j order p n e .is-job .tests-bounds .1)
 
-  check-refuses : Refuses Figures (checking places curves wants order drops loads)
+  check-refuses : Refuses Figures (checking j order p)
   unfolding checking setsKnown
   check-refuses =
-      then _ _ (job-told places curves wants)
-      (λ j. let l = few places curves wants j in
-      then (orderKnown (length wants) order) _ (order-told (length wants) [] order l (omega arith))
-      (λ o. refuses-both Figures _ _ (refuses-demand Figures _ 12 (min (min (length drops) (length loads)) (length wants)) (omega arith, omega arith))
-      (refuses-both Figures _ _ (steps-told places (allCurves curves) (moves (inOrder wants order) drops loads)
-      (omega (arith, length-moves (inOrder wants order) drops loads, length-inOrder wants order, order-long (length wants) order o))) tt)))
+      then _ _ (checking-told j order)
+      (λ e. let l = known-exact j order e .0 .tests-bounds .1 in
+      refuses-both Figures _ _ (refuses-demand Figures _ 12 (min (min (length (p .drops)) (length (p .loads))) (length (j .wants))) (omega arith, omega arith))
+      (refuses-both Figures _ _ (steps-told (capacity (j .rig)) (allCurves (j .rig .curves)) (moves (inOrder (j .wants) order) (p .drops) (p .loads))
+      (omega (arith, length-moves (inOrder (j .wants) order) (p .drops) (p .loads), steps-length j order e))) tt))
 
-  pub check-told : Told (checking places curves wants order drops loads)
+  pub check-told : Told (checking j order p)
   check-told = told _ few-loads check-refuses
 
-  pub write-plan-told : (old : List ℕ) → Told (writePlanAnswer places curves wants order drops loads old)
+  pub write-plan-told : (old : List ℕ) → Told (writePlanAnswer j order p old)
   unfolding writePlanAnswer
   write-plan-told old =
       told _
-      (λ n e. let b = mapped-done length (writePlan places curves wants order drops loads (length old)) n e in
-      omega (arith, b .2, written-length places curves wants order drops loads (length old) (b .0) (b .1)))
-      (refuses-mapped Figures _ _ (unfold writePlan in refuses-bind Figures (checking places curves wants order drops loads) _ check-refuses
-      (λ m e. asked (length old) (length (planBytes order drops loads)) _ (omega (arith, passed-length places curves wants order drops loads m e)) tt)))
+      (λ n e. let b = mapped-done length (writePlan j order p (length old)) n e in
+      omega (arith, b .2, written-length j order p (length old) (b .0) (b .1)))
+      (refuses-mapped Figures _ _ (unfold writePlan in refuses-bind Figures (checking j order p) _ check-refuses
+      (λ m e. asked (length old) (length (planBytes order (p .drops) (p .loads))) _ (omega (arith, passed-length j order p m e)) tt)))
 
-module _ (places curves : ℕ) (wants order drops loads : List ℕ) where
+module _ (j : Job) (order : List ℕ) (lent : Plan) where
   -- a plan that was made passes the check
-  pub plan-told : Told (planAnswer places curves wants order drops loads)
+  pub plan-told : Told (planAnswer j order lent)
   plan-told =
       told _
-      (λ n e. few-loads places curves wants order _ _ n (demand3 places curves wants order drops loads .passes n e))
+      (λ n e. few-loads j order _ n (demand3 j order lent .passes n e))
       (unfold planAnswer planning room in refuses-mapped Figures _ _
-      (then _ _ (job-told places curves wants)
-      (λ j. let l = few places curves wants j in
-      refuses-both Figures _ _ (order-told (length wants) [] order l (omega arith))
-      (refuses-both Figures _ _ (fit-told places wants l)
-      (refuses-both Figures _ _ (refuses-demand Figures _ 9 (length wants) (omega arith, omega arith))
-      (refuses-bind Figures _ _ (refuses-demand Figures _ 9 (length wants) (omega arith, omega arith)) (λ _ e. tt)))))))
+      (then _ _ (planning-told j order)
+      (λ e. let l = known-exact j order (planning-parts j order e .0) .0 .tests-bounds .1 in
+      refuses-bind Figures _ _ (refuses-demand Figures _ 9 (length (j .wants)) (omega arith, omega arith)) (λ _ e. tt))))
 
-module _ (curves tests : ℕ) (bs order drops loads : List ℕ) where
+module _ (curves tests : ℕ) (bs order : List ℕ) (lent : Plan) where
   bytes-told : tests ≤ 256 → Refuses Figures (readPlanBytes curves tests bs)
   bytes-told l = go (readPlanBytes curves tests bs) refl
     where
@@ -259,21 +257,19 @@ module _ (curves tests : ℕ) (bs order drops loads : List ℕ) where
   unfolding planSteps
   steps-few ss e = let c = both-done (countsKnown curves tests) _ ss e in (plan-count curves tests bs ss (c .1), counts-bounds curves tests (c .0) .1)
 
-  pub read-plan-told : Told (readPlanAnswer curves tests bs order drops loads)
+  pub read-plan-told : Told (readPlanAnswer curves tests bs order lent)
   unfolding readPlanAnswer readPlan
   read-plan-told =
       told _
       (λ n e.
-      let x = mapped-done length (readPlan curves tests bs (length order) (length drops) (length loads)) n e in
+      let x = mapped-done length (planRead curves tests bs order lent) n e in
       let s = bind-done (planSteps curves tests bs) _ (x .0) (x .1) in
-      let a = both-done (room (length order) tests) _ (x .0) (s .2) in
-      let b = both-done (room (length drops) tests) _ (x .0) (a .1) in
-      let c = both-done (room (length loads) tests) (done (s .0)) (x .0) (b .1) in
+      let c = both-done (room (min (length order) (entries lent)) tests) (done (s .0)) (x .0) (s .2) in
       let f = steps-few (s .0) (s .1) in
       omega (arith, x .2, ap length (done-same (c .1)), f .0, f .1))
       (refuses-mapped Figures _ _ (refuses-bind Figures (planSteps curves tests bs) _ steps-refuse
       (λ ss e. let l : tests < 2 ^ 48 = omega (arith, steps-few ss e .1) in
-      asked (length order) tests _ l (asked (length drops) tests _ l (asked (length loads) tests (done ss) l tt)))))
+      asked (min (length order) (entries lent)) tests (done ss) l tt)))
     where
       steps-refuse : Refuses Figures (planSteps curves tests bs)
       steps-refuse = unfold planSteps in then _ _ (counts-told curves tests) (λ e. bytes-told (counts-bounds curves tests e .1))

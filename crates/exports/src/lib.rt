@@ -4,6 +4,7 @@ use job::Counted;
 use job::Examined;
 use job::JobRead;
 use job::Refusal;
+use job::Rig;
 use job_bytes::set_bytes::GroupRead;
 use plan_bytes::StepPart;
 ghost use mathlib.Core.Path.{_≡_};
@@ -12,6 +13,7 @@ ghost use Prim.Native.Nat.{_%_, _^_, min};
 ghost use lib.ListN.{length};
 ghost use lib.Dec.{eqb};
 ghost use lib.Count.{trailingZeros};
+ghost use Rattle.lists.specs.Lent.{was, after};
 ghost use Rattle.bitset.specs.Set.{_∩_, _∪_, _∖_, size, bit, inside, below};
 ghost use Rattle.job.specs.Refusal.{refused, number, figure, readOutcome, countOutcome, examinedOutcome, mapped, room, leaves};
 ghost use Rattle.job.specs.Handed.{jobKnown, jobKnownBy, countsKnown, wantsFit};
@@ -21,11 +23,12 @@ ghost use Rattle.job_bytes.specs.JobBytes.{readJobAnswer, readJobWants, writeJo
 ghost use Rattle.packages.specs.Tests.{upTo, entered};
 ghost use Rattle.packages.specs.Packages.{packages};
 ghost use Rattle.ordering.specs.Ordering.{orderAnswer, orderList};
-ghost use Rattle.planning.specs.Planning.{checking, planAnswer, planDrops, planLoads};
-ghost use Rattle.plan_bytes.specs.PlanBytes.{writePlanAnswer, writePlanBuffer, readPlanAnswer, readPlanOrder, readPlanDrops, readPlanLoads, stepPart};
+ghost use Rattle.planning.specs.Plan.{planOf};
+ghost use Rattle.planning.specs.Planning.{checking, planAnswer, planLists};
+ghost use Rattle.plan_bytes.specs.PlanBytes.{writePlanAnswer, writePlanBuffer, readPlanAnswer, readPlanOrder, readPlanLists, stepPart};
 ghost use Rattle.report.specs.Report.{sheetAnswer, sheetBuffer};
 ghost use Rattle.report.specs.Audit.{auditAnswer, auditBuffer};
-ghost use Rattle.exports.specs.Numbers.{numbered, passing, headOf, groupAt, leavesOne};
+ghost use Rattle.exports.specs.Numbers.{job, numbered, passing, headOf, groupAt, leavesOne};
 
 // ---- outcomes as numbers
 
@@ -36,7 +39,7 @@ const SCALE: u64 = 281_474_976_710_656;
 fn refusal(r: Refusal) -> u64
     ensures { λ n. ⌜ n ≡ numbered (refused (number r) (figure r)) ⌝ }
 {
-    curveplan::number_of(r) * SCALE + curveplan::figure_of(r) % SCALE
+    job::number_of(r) * SCALE + job::figure_of(r) % SCALE
 }
 
 // A count is itself.
@@ -84,8 +87,8 @@ fn head_of(r: JobRead) -> JobHead
     match r {
         JobRead::Read(h) => JobHead {
             answer: h.tests as u64,
-            places: h.places,
-            curves: h.curves,
+            places: h.rig.places,
+            curves: h.rig.curves,
             tests: h.tests,
             method: h.method,
         },
@@ -101,8 +104,8 @@ fn head_of(r: JobRead) -> JobHead
 
 #[no_mangle]
 pub extern "C" fn curveplan_read_job(job: &[u8], wants: &mut [u64]) -> JobHead
-    ensures answer { λ r. ⌜ r ≡ headOf (readJobAnswer (now (job .entry)) (now (wants .entry))) ⌝ }
-    ensures wants { λ _. ⌜ now (wants .exit) ≡ readJobWants (now (job .entry)) (now (wants .entry)) ⌝ }
+    ensures answer { λ r. ⌜ r ≡ headOf (readJobAnswer (was job) (was wants)) ⌝ }
+    ensures wants { λ _. ⌜ after wants ≡ readJobWants (was job) (was wants) ⌝ }
 {
     head_of(job_bytes::read_job(job, wants))
 }
@@ -115,10 +118,10 @@ pub extern "C" fn curveplan_write_job(
     wants: &[u64],
     out: &mut [u8],
 ) -> u64
-    ensures answer { λ r. ⌜ r ≡ numbered (writeJobAnswer places curves method (now (wants .entry)) (now (out .entry))) ⌝ }
-    ensures bytes { λ _. ⌜ now (out .exit) ≡ writeJobBuffer places curves method (now (wants .entry)) (now (out .entry)) ⌝ }
+    ensures answer { λ r. ⌜ r ≡ numbered (writeJobAnswer method (job places curves (was wants)) (was out)) ⌝ }
+    ensures bytes { λ _. ⌜ after out ≡ writeJobBuffer method (job places curves (was wants)) (was out) ⌝ }
 {
-    counted(job_bytes::write_job(places, curves, method, wants, out))
+    counted(job_bytes::write_job(Rig { places, curves }, method, wants, out))
 }
 
 #[no_mangle]
@@ -129,10 +132,10 @@ pub extern "C" fn curveplan_order_tests(
     wants: &[u64],
     order: &mut [u16],
 ) -> u64
-    ensures answer { λ r. ⌜ r ≡ numbered (orderAnswer places curves method (now (wants .entry)) (now (order .entry))) ⌝ }
-    ensures order { λ _. ⌜ now (order .exit) ≡ orderList places curves method (now (wants .entry)) (now (order .entry)) ⌝ }
+    ensures answer { λ r. ⌜ r ≡ numbered (orderAnswer method (job places curves (was wants)) (was order)) ⌝ }
+    ensures order { λ _. ⌜ after order ≡ orderList method (job places curves (was wants)) (was order) ⌝ }
 {
-    counted(ordering::order_tests(places, curves, method, wants, order))
+    counted(ordering::order_tests(Rig { places, curves }, method, wants, order))
 }
 
 #[no_mangle]
@@ -144,11 +147,10 @@ pub extern "C" fn curveplan_plan_order(
     drops: &mut [u64],
     loads: &mut [u64],
 ) -> u64
-    ensures answer { λ r. ⌜ r ≡ numbered (planAnswer places curves (now (wants .entry)) (now (order .entry)) (now (drops .entry)) (now (loads .entry))) ⌝ }
-    ensures drops { λ _. ⌜ now (drops .exit) ≡ planDrops places curves (now (wants .entry)) (now (order .entry)) (now (drops .entry)) (now (loads .entry)) ⌝ }
-    ensures loads { λ _. ⌜ now (loads .exit) ≡ planLoads places curves (now (wants .entry)) (now (order .entry)) (now (drops .entry)) (now (loads .entry)) ⌝ }
+    ensures answer { λ r. ⌜ r ≡ numbered (planAnswer (job places curves (was wants)) (was order) (planOf (was drops) (was loads))) ⌝ }
+    ensures lists { λ _. ⌜ planOf (after drops) (after loads) ≡ planLists (job places curves (was wants)) (was order) (planOf (was drops) (was loads)) ⌝ }
 {
-    counted(planning::plan(places, curves, wants, order, drops, loads))
+    counted(planning::plan(Rig { places, curves }, wants, order, drops, loads))
 }
 
 #[no_mangle]
@@ -160,9 +162,9 @@ pub extern "C" fn curveplan_check_plan(
     drops: &[u64],
     loads: &[u64],
 ) -> u64
-    ensures { λ r. ⌜ r ≡ numbered (checking places curves (now (wants .entry)) (now (order .entry)) (now (drops .entry)) (now (loads .entry))) ⌝ }
+    ensures { λ r. ⌜ r ≡ numbered (checking (job places curves (was wants)) (was order) (planOf (was drops) (was loads))) ⌝ }
 {
-    counted(planning::check_plan(places, curves, wants, order, drops, loads))
+    counted(planning::check_plan(Rig { places, curves }, wants, order, drops, loads))
 }
 
 #[no_mangle]
@@ -175,10 +177,10 @@ pub extern "C" fn curveplan_write_plan(
     loads: &[u64],
     out: &mut [u8],
 ) -> u64
-    ensures answer { λ r. ⌜ r ≡ numbered (writePlanAnswer places curves (now (wants .entry)) (now (order .entry)) (now (drops .entry)) (now (loads .entry)) (now (out .entry))) ⌝ }
-    ensures bytes { λ _. ⌜ now (out .exit) ≡ writePlanBuffer places curves (now (wants .entry)) (now (order .entry)) (now (drops .entry)) (now (loads .entry)) (now (out .entry)) ⌝ }
+    ensures answer { λ r. ⌜ r ≡ numbered (writePlanAnswer (job places curves (was wants)) (was order) (planOf (was drops) (was loads)) (was out)) ⌝ }
+    ensures bytes { λ _. ⌜ after out ≡ writePlanBuffer (job places curves (was wants)) (was order) (planOf (was drops) (was loads)) (was out) ⌝ }
 {
-    counted(plan_bytes::write_plan(places, curves, wants, order, drops, loads, out))
+    counted(plan_bytes::write_plan(Rig { places, curves }, wants, order, drops, loads, out))
 }
 
 #[no_mangle]
@@ -190,10 +192,9 @@ pub extern "C" fn curveplan_read_plan(
     drops: &mut [u64],
     loads: &mut [u64],
 ) -> u64
-    ensures answer { λ r. ⌜ r ≡ numbered (readPlanAnswer curves tests (now (plan .entry)) (now (order .entry)) (now (drops .entry)) (now (loads .entry))) ⌝ }
-    ensures order { λ _. ⌜ now (order .exit) ≡ readPlanOrder curves tests (now (plan .entry)) (now (order .entry)) (now (drops .entry)) (now (loads .entry)) ⌝ }
-    ensures drops { λ _. ⌜ now (drops .exit) ≡ readPlanDrops curves tests (now (plan .entry)) (now (order .entry)) (now (drops .entry)) (now (loads .entry)) ⌝ }
-    ensures loads { λ _. ⌜ now (loads .exit) ≡ readPlanLoads curves tests (now (plan .entry)) (now (order .entry)) (now (drops .entry)) (now (loads .entry)) ⌝ }
+    ensures answer { λ r. ⌜ r ≡ numbered (readPlanAnswer curves tests (was plan) (was order) (planOf (was drops) (was loads))) ⌝ }
+    ensures order { λ _. ⌜ after order ≡ readPlanOrder curves tests (was plan) (was order) (planOf (was drops) (was loads)) ⌝ }
+    ensures lists { λ _. ⌜ planOf (after drops) (after loads) ≡ readPlanLists curves tests (was plan) (was order) (planOf (was drops) (was loads)) ⌝ }
 {
     counted(plan_bytes::read_plan(curves, tests, plan, order, drops, loads))
 }
@@ -206,23 +207,23 @@ pub extern "C" fn curveplan_step_bytes(
     plan: &[u8],
     position: usize,
 ) -> StepPart
-    ensures { λ r. ⌜ r ≡ stepPart curves tests (now (plan .entry)) position ⌝ }
+    ensures { λ r. ⌜ r ≡ stepPart curves tests (was plan) position ⌝ }
 {
     plan_bytes::step_part(curves, tests, plan, position)
 }
 
 #[no_mangle]
 pub extern "C" fn curveplan_sheet(job: &[u8], out: &mut [u8]) -> u64
-    ensures answer { λ r. ⌜ r ≡ numbered (sheetAnswer (now (job .entry)) (now (out .entry))) ⌝ }
-    ensures text { λ _. ⌜ now (out .exit) ≡ sheetBuffer (now (job .entry)) (now (out .entry)) ⌝ }
+    ensures answer { λ r. ⌜ r ≡ numbered (sheetAnswer (was job) (was out)) ⌝ }
+    ensures text { λ _. ⌜ after out ≡ sheetBuffer (was job) (was out) ⌝ }
 {
     counted(report::write_report(job, out))
 }
 
 #[no_mangle]
 pub extern "C" fn curveplan_audit(job: &[u8], plan: &[u8], out: &mut [u8]) -> u64
-    ensures answer { λ r. ⌜ r ≡ numbered (auditAnswer (now (job .entry)) (now (plan .entry)) (now (out .entry))) ⌝ }
-    ensures text { λ _. ⌜ now (out .exit) ≡ auditBuffer (now (job .entry)) (now (plan .entry)) (now (out .entry)) ⌝ }
+    ensures answer { λ r. ⌜ r ≡ numbered (auditAnswer (was job) (was plan) (was out)) ⌝ }
+    ensures text { λ _. ⌜ after out ≡ auditBuffer (was job) (was plan) (was out) ⌝ }
 {
     counted(report::audit::write_audit(job, plan, out))
 }
@@ -231,9 +232,9 @@ pub extern "C" fn curveplan_audit(job: &[u8], plan: &[u8], out: &mut [u8]) -> u6
 
 #[no_mangle]
 pub extern "C" fn curveplan_examine(places: usize, curves: usize, wants: &[u64]) -> u64
-    ensures { λ r. ⌜ r ≡ passing (jobKnown places curves (now (wants .entry))) ⌝ }
+    ensures { λ r. ⌜ r ≡ passing (jobKnown (job places curves (was wants))) ⌝ }
 {
-    examined(job::examine(places, curves, wants))
+    examined(job::examine_job(Rig { places, curves }, 0, wants))
 }
 
 #[no_mangle]
@@ -243,9 +244,9 @@ pub extern "C" fn curveplan_examine_by(
     method: usize,
     wants: &[u64],
 ) -> u64
-    ensures { λ r. ⌜ r ≡ passing (jobKnownBy places curves method (now (wants .entry))) ⌝ }
+    ensures { λ r. ⌜ r ≡ passing (jobKnownBy method (job places curves (was wants))) ⌝ }
 {
-    examined(job::examine_by(places, curves, method, wants))
+    examined(job::examine_job(Rig { places, curves }, method, wants))
 }
 
 #[no_mangle]
@@ -257,7 +258,7 @@ pub extern "C" fn curveplan_examine_counts(curves: usize, tests: usize) -> u64
 
 #[no_mangle]
 pub extern "C" fn curveplan_examine_sizes(places: usize, wants: &[u64]) -> u64
-    ensures { λ r. ⌜ r ≡ passing (wantsFit places (now (wants .entry))) ⌝ }
+    ensures { λ r. ⌜ r ≡ passing (wantsFit places (was wants)) ⌝ }
 {
     examined(job::examine_sizes(places, wants))
 }
@@ -273,8 +274,8 @@ pub extern "C" fn curveplan_read_group(
     curves: usize,
     set: &mut u64,
 ) -> u64
-    ensures answer { λ r. ⌜ r ≡ passing (groupAt (now (rest .entry)) at group curves) ⌝ }
-    ensures set { λ _. ⌜ now (set .exit) ≡ leavesOne (groupAt (now (rest .entry)) at group curves) (now (set .entry)) ⌝ }
+    ensures answer { λ r. ⌜ r ≡ passing (groupAt (was rest) at group curves) ⌝ }
+    ensures set { λ _. ⌜ after set ≡ leavesOne (groupAt (was rest) at group curves) (was set) ⌝ }
 {
     match job_bytes::set_bytes::read_group(rest, at, group, curves) {
         GroupRead::Owed => SCALE,
@@ -304,7 +305,7 @@ pub extern "C" fn curveplan_set_len(s: u64) -> u64
 #[no_mangle]
 pub extern "C" fn curveplan_put_set(s: u64, out: &mut [u8]) -> u64
     ensures count { λ r. ⌜ r ≡ length (setBytes s) ⌝ }
-    ensures bytes { λ _. ⌜ now (out .exit) ≡ leaves (mapped (λ _. setBytes s) (room (length (now (out .entry))) (length (setBytes s)))) (now (out .entry)) ⌝ }
+    ensures bytes { λ _. ⌜ after out ≡ leaves (mapped (λ _. setBytes s) (room (length (was out)) (length (setBytes s)))) (was out) ⌝ }
 {
     job_bytes::set_bytes::put_set(s, out) as u64
 }
@@ -385,21 +386,21 @@ pub extern "C" fn curveplan_below(n: usize) -> u64
 
 #[no_mangle]
 pub extern "C" fn curveplan_reverse(xs: &mut [u16])
-    ensures { λ _. ⌜ now (xs .exit) ≡ reverse (now (xs .entry)) ⌝ }
+    ensures { λ _. ⌜ after xs ≡ reverse (was xs) ⌝ }
 {
     packages::reverse(xs);
 }
 
 #[no_mangle]
 pub extern "C" fn curveplan_listed_order(tests: usize, order: &mut [u16])
-    ensures { λ _. ⌜ now (order .exit) ≡ entered (upTo tests) (now (order .entry)) ⌝ }
+    ensures { λ _. ⌜ after order ≡ entered (upTo tests) (was order) ⌝ }
 {
     packages::listed_order(tests, order);
 }
 
 #[no_mangle]
 pub extern "C" fn curveplan_package_order(places: usize, wants: &[u64], order: &mut [u16])
-    ensures { λ _. ⌜ now (order .exit) ≡ entered (packages places (now (wants .entry))) (now (order .entry)) ⌝ }
+    ensures { λ _. ⌜ after order ≡ entered (packages places (was wants)) (was order) ⌝ }
 {
     packages::package_order(places, wants, order);
 }

@@ -1,45 +1,45 @@
 -- The examination of handed numbers, test by test: which refusal the tests so far come to.
-use mathlib.Core.Path.{_≡_, refl, sym, ap, _∙_}
-use mathlib.Core.Bool.{Bool, true, false}
-use mathlib.Core.List.{List}
+use mathlib.Core.Path.{_≡_, refl, sym, _∙_}
+use mathlib.Core.Bool.{true, false}
 use Prim.Native.Nat.{ℕ, _≤_, _<_}
-use native.Mathlib.Omega.{arith}
-use lib.Dec.{leb, ltb}
+use lib.Dec.{leb}
 use lib.ListN.{length}
-use borrow.Author.Tests.{lt-ltb, le-ltb, le-leb, lt-leb, leb-true}
+use borrow.Author.Tests.{lt-ltb, le-leb, lt-leb, leb-true}
 use Rattle.job.specs.declared.Refusal.{Refusal}
 use Rattle.job.specs.declared.Examined.{Examined}
 use Rattle.job.specs.Refusal.{Outcome, done, refused, number, figure, examinedOutcome, _>>_, demand}
-use Rattle.job.specs.Handed.{between, someTests, placesKnown, curvesKnown, testsKnown, methodKnown, wantsKnown, numbersKnown, jobKnown, jobKnownBy, countsKnown}
-use Rattle.job.proofs.Laws.{both, both-done, done-both, demand-true}
+use Rattle.job.specs.declared.Rig.{Rig}
+use Rattle.job.specs.Words.{Job}
+use Rattle.job.specs.Handed.{between, someTests, placesKnown, curvesKnown, testsKnown, methodKnown, wantsKnown, numbersKnown, jobKnownBy, countsKnown}
+use Rattle.job.proofs.Laws.{both, both-done, demand-true}
 
 -- a sequence whose first part is refused
 pub refused-both : {A B : Type 0} (a : Outcome A) (b : Outcome B) (k i : ℕ) → a ≡ refused k i → _>>_ a b ≡ refused k i
 unfolding _>>_
 refused-both a b k i e = rw e refl
 
-module _ (places curves tests : ℕ) where
-  pub no-tests : tests ≡ 0 → numbersKnown places curves tests ≡ refused 5 0
+module _ (rig : Rig) (tests : ℕ) where
+  pub no-tests : tests ≡ 0 → numbersKnown rig tests ≡ refused 5 0
   unfolding numbersKnown someTests demand _>>_
   no-tests e = rw e refl
 
   module _ (some : 0 < tests) where
-    pub bad-places : between 1 64 places ≡ false → numbersKnown places curves tests ≡ refused 10 0
+    pub bad-places : between 1 64 (rig .places) ≡ false → numbersKnown rig tests ≡ refused 10 0
     unfolding numbersKnown someTests placesKnown demand _>>_
     bad-places e = rw (lt-ltb 0 tests some, e) refl
 
     -- the rest is the examination of curves and tests
-    pub numbers-counts : between 1 64 places ≡ true → numbersKnown places curves tests ≡ countsKnown curves tests
+    pub numbers-counts : between 1 64 (rig .places) ≡ true → numbersKnown rig tests ≡ countsKnown (rig .curves) tests
     unfolding numbersKnown countsKnown someTests placesKnown demand _>>_
     numbers-counts p = rw (lt-ltb 0 tests some, p) refl
 
-  pub known-bounds : numbersKnown places curves tests ≡ done tt → (curves ≤ 64) × (tests ≤ 256)
+  pub known-bounds : numbersKnown rig tests ≡ done tt → (rig .curves ≤ 64) × (tests ≤ 256)
   unfolding numbersKnown curvesKnown testsKnown between
   known-bounds e =
       let a = both-done (someTests tests) _ tt e in
-      let b = both-done (placesKnown places) _ tt (a .1) in
-      let c = both-done (curvesKnown curves) _ tt (b .1) in
-      (leb-true curves 64 (both (leb 1 curves) (leb curves 64) (demand-true _ 10 1 (c .0)) .1), leb-true tests 256 (demand-true _ 10 2 (c .1)))
+      let b = both-done (placesKnown (rig .places)) _ tt (a .1) in
+      let c = both-done (curvesKnown (rig .curves)) _ tt (b .1) in
+      (leb-true _ 64 (both (leb 1 (rig .curves)) (leb (rig .curves) 64) (demand-true _ 10 1 (c .0)) .1), leb-true tests 256 (demand-true _ 10 2 (c .1)))
 
 module _ (curves tests : ℕ) where
   pub counts-none : tests ≡ 0 → countsKnown curves tests ≡ refused 5 0
@@ -60,27 +60,19 @@ module _ (curves tests : ℕ) where
     counts-known q h = rw (lt-ltb 0 tests some, q, le-leb tests 256 h) refl
 
 -- ---- the whole, by its parts
-module _ (places curves : ℕ) (wants : List ℕ) where
-  pub job-refused : (k i : ℕ) → numbersKnown places curves (length wants) ≡ refused k i → jobKnown places curves wants ≡ refused k i
-  unfolding jobKnown
-  job-refused k i e = refused-both _ _ k i e
+module _ (method : ℕ) (job : Job) where
+  pub by-refused : (k i : ℕ) → numbersKnown (job .rig) (length (job .wants)) ≡ refused k i → jobKnownBy method job ≡ refused k i
+  unfolding jobKnownBy
+  by-refused k i e = refused-both _ _ k i e
 
-  pub job-rest : numbersKnown places curves (length wants) ≡ done tt → jobKnown places curves wants ≡ wantsKnown curves wants
-  unfolding jobKnown
-  job-rest e = done-both _ _ e
-
-  module _ (method : ℕ) where
-    pub by-refused : (k i : ℕ) → numbersKnown places curves (length wants) ≡ refused k i → jobKnownBy places curves method wants ≡ refused k i
-    unfolding jobKnownBy
-    by-refused k i e = refused-both _ _ k i e
-
-    pub by-method : numbersKnown places curves (length wants) ≡ done tt → 3 < method → jobKnownBy places curves method wants ≡ refused 10 3
+  module _ (e : numbersKnown (job .rig) (length (job .wants)) ≡ done tt) where
+    pub by-method : 3 < method → jobKnownBy method job ≡ refused 10 3
     unfolding jobKnownBy methodKnown demand _>>_
-    by-method e h = rw (e, lt-leb method 3 h) refl
+    by-method h = rw (e, lt-leb method 3 h) refl
 
-    pub by-rest : numbersKnown places curves (length wants) ≡ done tt → method ≤ 3 → jobKnownBy places curves method wants ≡ wantsKnown curves wants
+    pub by-rest : method ≤ 3 → jobKnownBy method job ≡ wantsKnown (job .rig .curves) (job .wants)
     unfolding jobKnownBy methodKnown demand _>>_
-    by-rest e h = rw (e, le-leb method 3 h) refl
+    by-rest h = rw (e, le-leb method 3 h) refl
 
 -- ---- an examination that a function answered
 pub examined-refused : (e : Examined) (r : Refusal) (o : Outcome (Unit {0})) → e ≡ Examined.Refused r → examinedOutcome e ≡ o → o ≡ refused (number r) (figure r)

@@ -1,20 +1,19 @@
--- Places, curves and wants, with a method or without, pass the examination exactly where they are a job.
-use mathlib.Core.Path.{_≡_, refl, _∙_}
+-- What is handed over passes the examination exactly where it is a job, with a known method or without.
+use mathlib.Core.Path.{_≡_, _∙_}
 use mathlib.Core.Logic.{_↔_}
-use mathlib.Core.Bool.{true, _&&_}
-use mathlib.Core.List.{List}
+use mathlib.Core.Bool.{true}
 use Prim.Native.Nat.{ℕ, _^_, _≤_, _<_}
 use native.Mathlib.Omega.{arith}
 use native.Mathlib.Nat.{mod-eq-of-lt, mod-lt}
-use lib.Dec.{leb, ltb}
+use lib.Dec.{leb}
 use lib.Pow.{pow-pos}
 use lib.Bits.{and-mask}
 use lib.ListN.{length, getD}
 use borrow.Author.Tests.{ltb-true, leb-true, lt-ltb, le-leb, eqb-true, eq-eqb}
 use Rattle.bitset.specs.Set.{_∖_, inside}
-use Rattle.job.specs.Refusal.{done, _>>_, demand}
+use Rattle.job.specs.Refusal.{done}
 use Rattle.job.specs.Handed.{between, allCurves, someTests, placesKnown, curvesKnown, testsKnown, methodKnown, wantsKnown, numbersKnown, jobKnown, jobKnownBy}
-use Rattle.job.specs.Words.{IsJob}
+use Rattle.job.specs.Words.{Job, IsJob}
 use Rattle.job.proofs.Laws.{both, and, demand-true, demand-done, both-done, done-both, each-true, true-each}
 
 -- ---- curves below the number of curves
@@ -28,60 +27,50 @@ unfolding inside
 inside-below c w e = omega (arith, and-mask w c, eqb-true (w ∖ allCurves c) 0 e, mod-lt w (pow-pos c))
 
 -- ---- what passes the examination
-module _ (places curves : ℕ) (wants : List ℕ) where
-  some-done : IsJob places curves wants → someTests (length wants) ≡ done tt
-  unfolding someTests
-  some-done j = demand-done _ 5 0 (lt-ltb 0 (length wants) (j .tests-bounds .0))
+module _ (j : Job) where
+  abbrev n : ℕ
+  n = length (j .wants)
 
-  places-done : IsJob places curves wants → placesKnown places ≡ done tt
-  unfolding placesKnown between
-  places-done j = demand-done _ 10 0 (and _ _ (le-leb 1 places (j .places-bounds .0)) (le-leb places 64 (j .places-bounds .1)))
+  module _ (is : IsJob j) where
+    some-done : someTests n ≡ done tt
+    unfolding someTests
+    some-done = demand-done _ 5 0 (lt-ltb 0 n (is .tests-bounds .0))
 
-  curves-done : IsJob places curves wants → curvesKnown curves ≡ done tt
-  unfolding curvesKnown between
-  curves-done j = demand-done _ 10 1 (and _ _ (le-leb 1 curves (j .curves-bounds .0)) (le-leb curves 64 (j .curves-bounds .1)))
+    places-done : placesKnown (j .rig .places) ≡ done tt
+    unfolding placesKnown between
+    places-done = demand-done _ 10 0 (and _ _ (le-leb 1 _ (is .places-bounds .0)) (le-leb _ 64 (is .places-bounds .1)))
 
-  tests-done : IsJob places curves wants → testsKnown (length wants) ≡ done tt
-  unfolding testsKnown
-  tests-done j = demand-done _ 10 2 (le-leb (length wants) 256 (j .tests-bounds .1))
+    curves-done : curvesKnown (j .rig .curves) ≡ done tt
+    unfolding curvesKnown between
+    curves-done = demand-done _ 10 1 (and _ _ (le-leb 1 _ (is .curves-bounds .0)) (le-leb _ 64 (is .curves-bounds .1)))
 
-  wants-done : IsJob places curves wants → wantsKnown curves wants ≡ done tt
-  unfolding wantsKnown
-  wants-done j = true-each (λ w. inside w (allCurves curves)) 10 4 wants (λ t l. below-inside curves (getD wants t 0) (j .own-curves t l))
+    tests-done : testsKnown n ≡ done tt
+    unfolding testsKnown
+    tests-done = demand-done _ 10 2 (le-leb n 256 (is .tests-bounds .1))
 
-  is-job : someTests (length wants) ≡ done tt → placesKnown places ≡ done tt → curvesKnown curves ≡ done tt → testsKnown (length wants) ≡ done tt → wantsKnown curves wants ≡ done tt
-      → IsJob places curves wants
-  unfolding someTests placesKnown curvesKnown testsKnown wantsKnown between
-  is-job a b c d e =
-      let p = both (leb 1 places) (leb places 64) (demand-true _ 10 0 b) in
-      let q = both (leb 1 curves) (leb curves 64) (demand-true _ 10 1 c) in
+    wants-done : wantsKnown (j .rig .curves) (j .wants) ≡ done tt
+    unfolding wantsKnown
+    wants-done = true-each (λ w. inside w (allCurves (j .rig .curves))) 10 4 (j .wants) (λ t l. below-inside (j .rig .curves) (getD (j .wants) t 0) (is .own-curves t l))
+
+    numbers-done : numbersKnown (j .rig) n ≡ done tt
+    unfolding numbersKnown
+    numbers-done = done-both _ _ some-done ∙ done-both _ _ places-done ∙ done-both _ _ curves-done ∙ tests-done
+
+  is-job : numbersKnown (j .rig) n ≡ done tt → wantsKnown (j .rig .curves) (j .wants) ≡ done tt → IsJob j
+  unfolding numbersKnown someTests placesKnown curvesKnown testsKnown wantsKnown between
+  is-job e w =
+      let a = both-done (someTests n) _ tt e in
+      let b = both-done (placesKnown (j .rig .places)) _ tt (a .1) in
+      let c = both-done (curvesKnown (j .rig .curves)) _ tt (b .1) in
+      let p = both (leb 1 (j .rig .places)) (leb (j .rig .places) 64) (demand-true _ 10 0 (b .0)) in
+      let q = both (leb 1 (j .rig .curves)) (leb (j .rig .curves) 64) (demand-true _ 10 1 (c .0)) in
       record {
-        places-bounds = (leb-true 1 places (p .0), leb-true places 64 (p .1));
-        curves-bounds = (leb-true 1 curves (q .0), leb-true curves 64 (q .1));
-        tests-bounds = (ltb-true 0 (length wants) (demand-true _ 5 0 a), leb-true (length wants) 256 (demand-true _ 10 2 d));
-        own-curves = λ t l. inside-below curves (getD wants t 0) (each-true (λ w. inside w (allCurves curves)) 10 4 wants e t l);
+        places-bounds = (leb-true 1 _ (p .0), leb-true _ 64 (p .1));
+        curves-bounds = (leb-true 1 _ (q .0), leb-true _ 64 (q .1));
+        tests-bounds = (ltb-true 0 n (demand-true _ 5 0 (a .0)), leb-true n 256 (demand-true _ 10 2 (c .1)));
+        own-curves = λ t l. inside-below (j .rig .curves) (getD (j .wants) t 0) (each-true (λ v. inside v (allCurves (j .rig .curves))) 10 4 (j .wants) w t l);
       }
 
-  numbers-done : IsJob places curves wants → numbersKnown places curves (length wants) ≡ done tt
-  unfolding numbersKnown
-  numbers-done j = done-both _ _ (some-done j) ∙ done-both _ _ (places-done j) ∙ done-both _ _ (curves-done j) ∙ tests-done j
-
-  is-job-by : numbersKnown places curves (length wants) ≡ done tt → wantsKnown curves wants ≡ done tt → IsJob places curves wants
-  unfolding numbersKnown
-  is-job-by n w =
-      let a = both-done (someTests (length wants)) _ tt n in
-      let b = both-done (placesKnown places) _ tt (a .1) in
-      let c = both-done (curvesKnown curves) _ tt (b .1) in
-      is-job (a .0) (b .0) (c .0) (c .1) w
-
-  pub job-exact : jobKnown places curves wants ≡ done tt ↔ IsJob places curves wants
-  unfolding jobKnown
-  job-exact = (
-    λ e. let a = both-done (numbersKnown places curves (length wants)) _ tt e in is-job-by (a .0) (a .1),
-    λ j. done-both _ _ (numbers-done j) ∙ wants-done j,
-  )
-
-  -- the same with a method
   module _ (method : ℕ) where
     method-le : methodKnown method ≡ done tt → method ≤ 3
     unfolding methodKnown
@@ -91,12 +80,15 @@ module _ (places curves : ℕ) (wants : List ℕ) where
     unfolding methodKnown
     method-done h = demand-done _ 10 3 (le-leb method 3 h)
 
-    pub job-by-exact : jobKnownBy places curves method wants ≡ done tt ↔ (IsJob places curves wants × (method ≤ 3))
+    pub job-by-exact : jobKnownBy method j ≡ done tt ↔ (IsJob j × (method ≤ 3))
     unfolding jobKnownBy
     job-by-exact = (
       λ e.
-          let a = both-done (numbersKnown places curves (length wants)) _ tt e in
+          let a = both-done (numbersKnown (j .rig) n) _ tt e in
           let m = both-done (methodKnown method) _ tt (a .1) in
-          (is-job-by (a .0) (m .1), method-le (m .0)),
-      λ j. done-both _ _ (numbers-done (j .0)) ∙ done-both _ _ (method-done (j .1)) ∙ wants-done (j .0),
+          (is-job (a .0) (m .1), method-le (m .0)),
+      λ x. done-both _ _ (numbers-done (x .0)) ∙ done-both _ _ (method-done (x .1)) ∙ wants-done (x .0),
     )
+
+  pub job-exact : jobKnown j ≡ done tt ↔ IsJob j
+  job-exact = (λ e. job-by-exact 0 .0 e .0, λ is. job-by-exact 0 .1 (is, omega arith))

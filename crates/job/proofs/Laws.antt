@@ -1,6 +1,6 @@
 -- Laws of outcomes: what a sequence that is done, or refused, says of its parts.
 use mathlib.Core.Path.{_≡_, refl, sym, _∙_, subst}
-use mathlib.Core.Bool.{Bool, true, false, _&&_, false≢true}
+use mathlib.Core.Bool.{Bool, true, false}
 use mathlib.Core.List.{List, [], _∷_}
 use Prim.Native.Nat.{ℕ, zero, suc, _+_, _≤_, _<_}
 use lib.Dec.{leb}
@@ -10,7 +10,6 @@ use lib.ListN.{length, getD, drop, drop-of-length-le}
 use lib.Seq.{drop-cons}
 use native.Mathlib.Numerals.{add-one}
 use Rattle.job.specs.declared.Refusal.{Refusal}
-use Rattle.job.specs.declared.Refusal.the-variants.{Truncated, BadHeader, EmptyGroup, UnknownCurve, NoTests, TrailingBytes, TestTooLarge, BadOrder, BufferTooSmall, BadArgument, BadPlanBytes, PlanRejected}
 use Rattle.job.specs.declared.Head.{Head}
 use Rattle.job.specs.declared.JobRead.{JobRead}
 use Rattle.job.specs.declared.Counted.{Counted}
@@ -143,6 +142,16 @@ pub leaves-refused : {A : Type 0} (f : A → List ℕ) (a : Outcome A) (k i : �
 unfolding mapped leaves
 leaves-refused f a k i old e = rw e refl
 
+-- ---- a call that makes a list: what it answers, and what the lent list holds afterwards
+
+pub made-refused : (made : Outcome (List ℕ)) (old : List ℕ) (k i : ℕ) → made ≡ refused k i → (refused k i ≡ mapped length made) × (old ≡ leaves made old)
+unfolding mapped leaves
+made-refused made old k i e = (rw e refl, rw e refl)
+
+pub made-done : (made : Outcome (List ℕ)) (old new : List ℕ) → made ≡ done new → (done (length new) ≡ mapped length made) × (overwritten new old ≡ leaves made old)
+unfolding mapped leaves
+made-done made old new e = (rw e refl, rw e refl)
+
 -- ---- what an answer says of the outcome that it stands for
 
 pub count-done : (r : Counted) (o : Outcome ℕ) (n : ℕ) → countOutcome r ≡ o → r ≡ Counted.Count n → o ≡ done n
@@ -160,38 +169,3 @@ read-done r o h p e = sym p ∙ rw e refl
 pub read-refused : (r : JobRead) (o : Outcome Head) (x : Refusal) → readOutcome r ≡ o → r ≡ JobRead.Refused x → o ≡ refused (number x) (figure x)
 unfolding readOutcome
 read-refused r o x p e = sym p ∙ rw e refl
-
--- ---- the number and the figure name the refusal
-
-unfoldable pub named : ℕ → ℕ → Refusal
-named zero i = NoTests
-named (suc zero) i = Truncated i
-named (suc (suc zero)) i = BadHeader i
-named (suc (suc (suc zero))) i = EmptyGroup i
-named (suc (suc (suc (suc zero)))) i = UnknownCurve i
-named (suc (suc (suc (suc (suc zero))))) i = NoTests
-named (suc (suc (suc (suc (suc (suc zero)))))) i = TrailingBytes i
-named (suc (suc (suc (suc (suc (suc (suc zero))))))) i = TestTooLarge i
-named (suc (suc (suc (suc (suc (suc (suc (suc zero)))))))) i = BadOrder i
-named (suc (suc (suc (suc (suc (suc (suc (suc (suc zero))))))))) i = BufferTooSmall i
-named (suc (suc (suc (suc (suc (suc (suc (suc (suc (suc zero)))))))))) i = BadArgument i
-named (suc (suc (suc (suc (suc (suc (suc (suc (suc (suc (suc zero))))))))))) i = BadPlanBytes i
-named (suc (suc (suc (suc (suc (suc (suc (suc (suc (suc (suc (suc k)))))))))))) i = PlanRejected i
-
-pub named-refusal : (r : Refusal) → named (number r) (figure r) ≡ r
-unfolding named number figure
-named-refusal (Truncated i) = refl
-named-refusal (BadHeader i) = refl
-named-refusal (EmptyGroup i) = refl
-named-refusal (UnknownCurve i) = refl
-named-refusal NoTests = refl
-named-refusal (TrailingBytes i) = refl
-named-refusal (TestTooLarge i) = refl
-named-refusal (BadOrder i) = refl
-named-refusal (BufferTooSmall i) = refl
-named-refusal (BadArgument i) = refl
-named-refusal (BadPlanBytes i) = refl
-named-refusal (PlanRejected i) = refl
-
-pub same-refusal : (r s : Refusal) → number r ≡ number s → figure r ≡ figure s → r ≡ s
-same-refusal r s n f = sym (named-refusal r) ∙ rw (n, f) (named-refusal s)

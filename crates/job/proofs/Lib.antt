@@ -5,9 +5,17 @@
 --     Orders        counting in lists of tests
 --     JobExact      what passes the examination is a job, and a job passes
 --     Faults        a refusal names the first position with a fault
+--     Marks         flags of the tests that were met
+--     OrderTurns    one turn of the examination of an order
+--     OrderExact    refusal 8 is not given exactly where an order names each test once
+--     OrderFault    refusal 8 names the first position with a fault
 pub mod Laws
 pub mod Examination
 pub mod Refuses
 pub mod Orders
 pub mod JobExact
 pub mod Faults
+pub mod Marks
+pub mod OrderTurns
+pub mod OrderExact
+pub mod OrderFault

@@ -1,13 +1,15 @@
 -- Which refusals can come out: a property of the number and the figure that every refusal of an outcome has.
-use mathlib.Core.Path.{_≡_, refl, sym, ap, _∙_, subst}
+use mathlib.Core.Path.{_≡_, refl}
 use mathlib.Core.Logic.{_⊎_, inl, inr}
 use mathlib.Core.Bool.{Bool, true, false}
 use mathlib.Core.List.{List, [], _∷_}
-use Prim.Native.Nat.{ℕ, zero, suc, _+_, _≤_, _<_}
+use Prim.Native.Nat.{ℕ, suc, _+_, _<_}
 use native.Mathlib.Omega.{arith}
 use lib.ListN.{length}
-use Rattle.job.specs.Refusal.{Outcome, done, refused, _>>=_, _>>_, mapped, demand, room}
-use Rattle.job.specs.Handed.{each, someTests, placesKnown, curvesKnown, testsKnown, methodKnown, wantsKnown, numbersKnown, wantsFit, jobKnown, jobKnownBy, countsKnown}
+use Rattle.job.specs.Refusal.{Outcome, done, refused, _>>=_, _>>_, mapped, demand}
+use Rattle.job.specs.declared.Rig.{Rig}
+use Rattle.job.specs.Words.{Job}
+use Rattle.job.specs.Handed.{each, someTests, placesKnown, curvesKnown, testsKnown, methodKnown, wantsKnown, numbersKnown, jobKnownBy}
 
 abbrev pub Refuses : {A : Type 0} → (ℕ → ℕ → Type 0) → Outcome A → Type 0
 Refuses P (done a) = Unit {0}
@@ -50,9 +52,9 @@ module _ (P : ℕ → ℕ → Type 0) where
 abbrev pub HandedRefusal : ℕ → ℕ → Type 0
 HandedRefusal k i = (k ≡ 5) ⊎ (k ≡ 10)
 
-numbers-refuse : (places curves tests : ℕ) → Refuses HandedRefusal (numbersKnown places curves tests)
+numbers-refuse : (rig : Rig) (tests : ℕ) → Refuses HandedRefusal (numbersKnown rig tests)
 unfolding numbersKnown someTests placesKnown curvesKnown testsKnown
-numbers-refuse places curves tests =
+numbers-refuse rig tests =
     refuses-both HandedRefusal _ _ (refuses-demand HandedRefusal _ 5 0 (inl refl)) (refuses-both HandedRefusal _ _ (refuses-demand HandedRefusal _ 10 0 (inr refl))
     (refuses-both HandedRefusal _ _ (refuses-demand HandedRefusal _ 10 1 (inr refl)) (refuses-demand HandedRefusal _ 10 2 (inr refl))))
 
@@ -60,11 +62,8 @@ wants-refuse : (curves : ℕ) (wants : List ℕ) → Refuses HandedRefusal (want
 unfolding wantsKnown
 wants-refuse curves wants = refuses-each HandedRefusal _ 10 4 wants (λ t l. inr refl)
 
-pub job-refuses : (places curves : ℕ) (wants : List ℕ) → Refuses HandedRefusal (jobKnown places curves wants)
-unfolding jobKnown
-job-refuses places curves wants = refuses-both HandedRefusal _ _ (numbers-refuse places curves (length wants)) (wants-refuse curves wants)
-
-pub job-by-refuses : (places curves method : ℕ) (wants : List ℕ) → Refuses HandedRefusal (jobKnownBy places curves method wants)
+pub job-by-refuses : (method : ℕ) (j : Job) → Refuses HandedRefusal (jobKnownBy method j)
 unfolding jobKnownBy methodKnown
-job-by-refuses places curves method wants =
-    refuses-both HandedRefusal _ _ (numbers-refuse places curves (length wants)) (refuses-both HandedRefusal _ _ (refuses-demand HandedRefusal _ 10 3 (inr refl)) (wants-refuse curves wants))
+job-by-refuses method j =
+    refuses-both HandedRefusal _ _ (numbers-refuse (j .rig) (length (j .wants)))
+    (refuses-both HandedRefusal _ _ (refuses-demand HandedRefusal _ 10 3 (inr refl)) (wants-refuse (j .rig .curves) (j .wants)))

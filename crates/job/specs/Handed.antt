@@ -5,7 +5,9 @@ use Prim.Native.Nat.{ℕ, suc}
 use lib.ListN.{length}
 use lib.Dec.{leb, ltb, eqb}
 use Rattle.bitset.specs.Set.{size, inside, below}
-use Rattle.job.specs.Refusal.{Outcome, done, refused, _>>_, demand}
+use Rattle.job.specs.declared.Rig.{Rig}
+use Rattle.job.specs.Refusal.{Outcome, done, _>>_, demand}
+use Rattle.job.specs.Words.{Job}
 
 -- whether x is one of low..high
 unfoldable pub between : ℕ → ℕ → ℕ → Bool
@@ -53,25 +55,23 @@ unfoldable pub wantsFit : ℕ → List ℕ → Outcome (Unit {0})
 wantsFit places wants = each (λ w. leb (size w) places) 7 0 wants
 
 -- "5, 10 in its own order": as far as the number of tests
-unfoldable pub numbersKnown : ℕ → ℕ → ℕ → Outcome (Unit {0})
-numbersKnown places curves tests = do
+unfoldable pub numbersKnown : Rig → ℕ → Outcome (Unit {0})
+numbersKnown rig tests = do
   someTests tests
-  placesKnown places
-  curvesKnown curves
+  placesKnown (rig .places)
+  curvesKnown (rig .curves)
   testsKnown tests
 
--- of places, curves and wants, as planning and checking are handed them
-unfoldable pub jobKnown : ℕ → ℕ → List ℕ → Outcome (Unit {0})
-jobKnown places curves wants = do
-  numbersKnown places curves (length wants)
-  wantsKnown curves wants
-
--- of places, curves, method and wants, as ordering and writing a job are handed them
-unfoldable pub jobKnownBy : ℕ → ℕ → ℕ → List ℕ → Outcome (Unit {0})
-jobKnownBy places curves method wants = do
-  numbersKnown places curves (length wants)
+-- of a job and a method, as ordering and writing a job are handed them
+unfoldable pub jobKnownBy : ℕ → Job → Outcome (Unit {0})
+jobKnownBy method j = do
+  numbersKnown (j .rig) (length (j .wants))
   methodKnown method
-  wantsKnown curves wants
+  wantsKnown (j .rig .curves) (j .wants)
+
+-- of a job alone: what is refused of a job is refused whatever the known method, so 0 stands for it
+abbrev pub jobKnown : Job → Outcome (Unit {0})
+jobKnown j = jobKnownBy 0 j
 
 -- of curves and a number of tests, as reading and fetching from plan bytes are handed them
 unfoldable pub countsKnown : ℕ → ℕ → Outcome (Unit {0})

@@ -1,9 +1,8 @@
 -- What a call comes to, in the numbers of document 01: "When the rig says no".
 -- A call ends in a value, or in a refusal with its number and its figure.
-use mathlib.Core.Path.{_≡_, refl}
 use mathlib.Core.Bool.{Bool, true, false}
 use mathlib.Core.List.{List}
-use Prim.Native.Nat.{ℕ, zero, suc}
+use Prim.Native.Nat.{ℕ}
 use lib.Dec.{leb}
 unfoldable pub use Rattle.lists.specs.Lent.{overwritten}
 use Rattle.job.specs.declared.Refusal.{Refusal}
@@ -20,7 +19,7 @@ pub data Outcome (A : Type 0) : Type 0 where
 -- ---- the table: "returned"
 
 -- the refusal's number ..
-unfoldable pub number : Refusal → ℕ
+abbrev pub number : Refusal → ℕ
 number (Truncated i) = 1
 number (BadHeader i) = 2
 number (EmptyGroup i) = 3
@@ -35,7 +34,7 @@ number (BadPlanBytes i) = 11
 number (PlanRejected i) = 12
 
 -- .. and its figure
-unfoldable pub figure : Refusal → ℕ
+abbrev pub figure : Refusal → ℕ
 figure (Truncated i) = i
 figure (BadHeader i) = i
 figure (EmptyGroup i) = i

@@ -2,8 +2,22 @@
 ghost use mathlib.Core.Path.{_≡_};
 ghost use Prim.Native.Nat.{_≤_};
 ghost use lib.ListN.{length};
-ghost use Rattle.job.specs.Refusal.{examinedOutcome};
-ghost use Rattle.job.specs.Handed.{between, numbersKnown, wantsKnown, wantsFit, jobKnown, jobKnownBy, countsKnown};
+ghost use Rattle.lists.specs.Lent.{was};
+ghost use Rattle.job.specs.Refusal.{number, figure, examinedOutcome};
+ghost use Rattle.job.specs.Words.{jobOf};
+ghost use Rattle.job.specs.Handed.{between, numbersKnown, wantsKnown, wantsFit, jobKnownBy, countsKnown};
+ghost use Rattle.job.specs.Order.{orderKnown};
+ghost use Rattle.job.specs.Calls.{orderingKnown, checkingKnown, planningKnown};
+
+// "Places in the drive 1 to 64. Curves 1 to 64, numbered from 0. Tests 1 to 256, numbered from 0."
+pub const MOST_PLACES: usize = 64;
+
+pub const MOST_CURVES: usize = 64;
+
+pub const MOST_TESTS: usize = 256;
+
+// The methods are 0 to 3.
+pub const LAST_METHOD: usize = 3;
 
 // Why a call is refused: the rows of document 01's table in its order, each with the figure that is returned beside its number.
 // The comment gives the table's own word.
@@ -34,10 +48,55 @@ pub enum Refusal {
     PlanRejected(usize),
 }
 
-// The four numbers of a job.
-pub struct Head {
+// The number of a refusal in document 01's table.
+pub fn number_of(r: Refusal) -> u64
+    ensures { λ n. ⌜ n ≡ number r ⌝ }
+{
+    match r {
+        Refusal::Truncated(_) => 1,
+        Refusal::BadHeader(_) => 2,
+        Refusal::EmptyGroup(_) => 3,
+        Refusal::UnknownCurve(_) => 4,
+        Refusal::NoTests => 5,
+        Refusal::TrailingBytes(_) => 6,
+        Refusal::TestTooLarge(_) => 7,
+        Refusal::BadOrder(_) => 8,
+        Refusal::BufferTooSmall(_) => 9,
+        Refusal::BadArgument(_) => 10,
+        Refusal::BadPlanBytes(_) => 11,
+        Refusal::PlanRejected(_) => 12,
+    }
+}
+
+// The figure that goes with it.
+pub fn figure_of(r: Refusal) -> u64
+    ensures { λ n. ⌜ n ≡ figure r ⌝ }
+{
+    match r {
+        Refusal::Truncated(i) => i as u64,
+        Refusal::BadHeader(i) => i as u64,
+        Refusal::EmptyGroup(i) => i as u64,
+        Refusal::UnknownCurve(i) => i as u64,
+        Refusal::NoTests => 0,
+        Refusal::TrailingBytes(i) => i as u64,
+        Refusal::TestTooLarge(i) => i as u64,
+        Refusal::BadOrder(i) => i as u64,
+        Refusal::BufferTooSmall(i) => i as u64,
+        Refusal::BadArgument(i) => i as u64,
+        Refusal::BadPlanBytes(i) => i as u64,
+        Refusal::PlanRejected(i) => i as u64,
+    }
+}
+
+// What a rig offers a list of tests: the places of its drive, and the number of curves.
+pub struct Rig {
     pub places: usize,
     pub curves: usize,
+}
+
+// The numbers of a job's bytes.
+pub struct Head {
+    pub rig: Rig,
     pub tests: usize,
     pub method: usize,
 }
@@ -60,11 +119,13 @@ pub enum Counted {
     Refused(Refusal),
 }
 
+// ---- 5 and 10
+
 // "Places in the drive 1 to 64. Curves 1 to 64".
-fn in_bounds(x: usize) -> bool
-    ensures { λ r. ⌜ r ≡ between 1 64 x ⌝ }
+fn in_bounds(x: usize, most: usize) -> bool
+    ensures { λ r. ⌜ r ≡ between 1 most x ⌝ }
 {
-    if x < 1 { false } else { x <= 64 }
+    if x < 1 { false } else { x <= most }
 }
 
 // 5 and 10, of curves and a number of tests.
@@ -74,32 +135,32 @@ pub fn examine_counts(curves: usize, tests: usize) -> Examined
     if tests == 0 {
         return Examined::Refused(Refusal::NoTests);
     }
-    if !in_bounds(curves) {
+    if !in_bounds(curves, MOST_CURVES) {
         return Examined::Refused(Refusal::BadArgument(1));
     }
-    if 256 < tests {
+    if MOST_TESTS < tests {
         return Examined::Refused(Refusal::BadArgument(2));
     }
     Examined::Passed
 }
 
 // "5, 10 in its own order": as far as the number of tests.
-fn examine_numbers(places: usize, curves: usize, tests: usize) -> Examined
-    ensures { λ r. ⌜ examinedOutcome r ≡ numbersKnown places curves tests ⌝ }
+fn examine_numbers(rig: Rig, tests: usize) -> Examined
+    ensures { λ r. ⌜ examinedOutcome r ≡ numbersKnown rig tests ⌝ }
 {
     if tests == 0 {
         return Examined::Refused(Refusal::NoTests);
     }
-    if !in_bounds(places) {
+    if !in_bounds(rig.places, MOST_PLACES) {
         return Examined::Refused(Refusal::BadArgument(0));
     }
-    examine_counts(curves, tests)
+    examine_counts(rig.curves, tests)
 }
 
 // 10, 4 + t: "wants of test t name a foreign curve".
 fn examine_wants(curves: usize, wants: &[u64]) -> Examined
     requires { ⌜ (curves ≤ 64) × (length (now wants) ≤ 256) ⌝ }
-    ensures { λ r. ⌜ examinedOutcome r ≡ wantsKnown curves (now (wants .entry)) ⌝ }
+    ensures { λ r. ⌜ examinedOutcome r ≡ wantsKnown curves (was wants) ⌝ }
 {
     let all = bitset::below(curves);
     let mut t = 0;
@@ -113,9 +174,24 @@ fn examine_wants(curves: usize, wants: &[u64]) -> Examined
     Examined::Passed
 }
 
+// 5 and 10, of a job and a method: what writing a job is handed. With method 0, of a job alone.
+pub fn examine_job(rig: Rig, method: usize, wants: &[u64]) -> Examined
+    ensures { λ r. ⌜ examinedOutcome r ≡ jobKnownBy method (jobOf rig (was wants)) ⌝ }
+{
+    if let Examined::Refused(r) = examine_numbers(rig, wants.len()) {
+        return Examined::Refused(r);
+    }
+    if LAST_METHOD < method {
+        return Examined::Refused(Refusal::BadArgument(3));
+    }
+    examine_wants(rig.curves, wants)
+}
+
+// ---- 7 and 8
+
 // 7: "a test wants more curves than places", with the lowest such test.
 pub fn examine_sizes(places: usize, wants: &[u64]) -> Examined
-    ensures { λ r. ⌜ examinedOutcome r ≡ wantsFit places (now (wants .entry)) ⌝ }
+    ensures { λ r. ⌜ examinedOutcome r ≡ wantsFit places (was wants) ⌝ }
 {
     let mut t = 0;
     while t < wants.len() {
@@ -127,27 +203,61 @@ pub fn examine_sizes(places: usize, wants: &[u64]) -> Examined
     Examined::Passed
 }
 
-// 5 and 10, of places, curves and wants.
-pub fn examine(places: usize, curves: usize, wants: &[u64]) -> Examined
-    ensures { λ r. ⌜ examinedOutcome r ≡ jobKnown places curves (now (wants .entry)) ⌝ }
+// 8: "first position with a number out of range or seen before, or first missing or surplus position, the smaller".
+fn examine_order(tests: usize, order: &[u16]) -> Examined
+    requires { ⌜ tests ≤ 256 ⌝ }
+    ensures { λ r. ⌜ examinedOutcome r ≡ orderKnown tests (was order) ⌝ }
 {
-    match examine_numbers(places, curves, wants.len()) {
-        Examined::Refused(r) => Examined::Refused(r),
-        Examined::Passed => examine_wants(curves, wants),
+    let mut seen = [false; MOST_TESTS];
+    let mut i: usize = 0;
+    while i < order.len() {
+        if tests <= i {
+            return Examined::Refused(Refusal::BadOrder(i));
+        }
+        let t = order[i] as usize;
+        if tests <= t {
+            return Examined::Refused(Refusal::BadOrder(i));
+        }
+        if seen[t] {
+            return Examined::Refused(Refusal::BadOrder(i));
+        }
+        seen[t] = true;
+        i += 1;
     }
+    if i < tests {
+        return Examined::Refused(Refusal::BadOrder(i));
+    }
+    Examined::Passed
 }
 
-// 5 and 10, of places, curves, method and wants.
-pub fn examine_by(places: usize, curves: usize, method: usize, wants: &[u64]) -> Examined
-    ensures { λ r. ⌜ examinedOutcome r ≡ jobKnownBy places curves method (now (wants .entry)) ⌝ }
+// ---- what the other calls are handed
+
+// Of what ordering is handed: 5, 10, 7.
+pub fn examine_ordering(rig: Rig, method: usize, wants: &[u64]) -> Examined
+    ensures { λ r. ⌜ examinedOutcome r ≡ orderingKnown method (jobOf rig (was wants)) ⌝ }
 {
-    match examine_numbers(places, curves, wants.len()) {
-        Examined::Refused(r) => Examined::Refused(r),
-        Examined::Passed => {
-            if 3 < method {
-                return Examined::Refused(Refusal::BadArgument(3));
-            }
-            examine_wants(curves, wants)
-        }
+    if let Examined::Refused(r) = examine_job(rig, method, wants) {
+        return Examined::Refused(r);
     }
+    examine_sizes(rig.places, wants)
+}
+
+// Of what the plan check is handed, but for the plan: 5, 10, 8.
+pub fn examine_checking(rig: Rig, wants: &[u64], order: &[u16]) -> Examined
+    ensures { λ r. ⌜ examinedOutcome r ≡ checkingKnown (jobOf rig (was wants)) (was order) ⌝ }
+{
+    if let Examined::Refused(r) = examine_job(rig, 0, wants) {
+        return Examined::Refused(r);
+    }
+    examine_order(wants.len(), order)
+}
+
+// Of what planning is handed: 5, 10, 8, 7.
+pub fn examine_planning(rig: Rig, wants: &[u64], order: &[u16]) -> Examined
+    ensures { λ r. ⌜ examinedOutcome r ≡ planningKnown (jobOf rig (was wants)) (was order) ⌝ }
+{
+    if let Examined::Refused(r) = examine_checking(rig, wants, order) {
+        return Examined::Refused(r);
+    }
+    examine_sizes(rig.places, wants)
 }

@@ -1,13 +1,14 @@
 -- One turn of a loop that writes a set's bytes: what the rules of `SetBytes` come to with j groups behind it; and runs of stores.
 use mathlib.Core.Path.{_≡_, refl, sym, ap, _∙_}
-use mathlib.Core.List.{List, [], _∷_, _++_, append-nil}
+use mathlib.Core.List.{List, [], _∷_, _++_}
 use Prim.Native.Nat.{ℕ, zero, suc, _+_, _-_, _*_, _/_, _%_, _<_, _≤_}
 use native.Mathlib.Omega.{arith}
-use native.Mathlib.Nat.{add-zero, mul-assoc, mul-add, mul-one, add-assoc, mul-zero}
+use native.Mathlib.Nat.{add-zero, mul-assoc, mul-add, add-assoc, mul-zero}
 use native.Mathlib.Numerals.{add-one}
-use lib.ListN.{length, take, drop, set, take-append-drop, length-drop, drop-of-length-le}
-use lib.Seq.{sets, sets-eq, drop-set-add, take-set-le, take-all}
+use lib.ListN.{length, getD, take, drop, set, length-drop}
+use lib.Seq.{sets, sets-eq, length-sets, getD-take, set-set, set-comm, take-set-le, take-all}
 use borrow.Author.Tests.{lt-leb}
+use Rattle.lists.proofs.Overwritten.{sets-front}
 use Rattle.job.specs.Refusal.{mapped, demand, room, leaves, overwritten}
 use Rattle.job.proofs.Laws.{done-room, leaves-done, leaves-refused}
 use Rattle.job_bytes.specs.SetBytes.{groupOf, stands, groupBytes, groupMap, setBytes}
@@ -25,36 +26,50 @@ unfolding stands
 stands-le zero = omega arith
 stands-le (suc x) = omega arith
 
-pub group-some : (x : ℕ) (l : List ℕ) → (x ≡ 0 → ⊥) → groupOf x l ≡ x ∷ l
+-- .. as the code reckons it
+abbrev pub mark : ℕ → ℕ
+mark x = (x + 255) / 256
+
+pub at-most : (x d : ℕ) → d ≤ 1 → x * d ≤ x
+at-most x zero h = omega arith
+at-most x (suc zero) h = omega arith
+at-most x (suc (suc d)) h = absurd (omega arith)
+
+mark-stands : (x : ℕ) → x < 256 → stands x ≡ mark x
+unfolding stands
+mark-stands zero h = refl
+mark-stands (suc x) h = omega arith
+
+-- a run of one store or more begins where a zero was stored
+over-zero : (l vs : List ℕ) (i x : ℕ) → sets l i (vs ++ (x ∷ [])) ≡ sets (set l i 0) i (vs ++ (x ∷ []))
+over-zero l [] i x = sym (set-set l i 0 x)
+over-zero l (v ∷ vs) i x = ap (λ (k : List ℕ). sets k (suc i) (vs ++ (x ∷ []))) (sym (set-set l i 0 v))
+
+one-group : (x : ℕ) (l vs : List ℕ) (i : ℕ) → x < 256 → sets l i (groupOf x vs ++ (0 ∷ [])) ≡ sets (set l i x) (i + mark x) (vs ++ (0 ∷ []))
 unfolding groupOf
-group-some zero l h = absurd (h refl)
-group-some (suc x) l h = refl
+one-group zero l vs i h = let e : i + mark 0 ≡ i = omega arith in rw e (over-zero l vs i 0)
+one-group (suc x) l vs i h = let e : i + mark (suc x) ≡ suc i = omega arith in rw e refl
 
+group-long : (x : ℕ) (vs : List ℕ) → x < 256 → length (groupOf x vs) ≡ mark x + length vs
+unfolding groupOf
+group-long zero vs h = omega arith
+group-long (suc x) vs h = omega arith
+
+-- group j: its byte is stored and may be written over, its bit is added to the map
 module _ (j n : ℕ) (h : j < 8) where
-  map-none : n % 256 ≡ 0 → groupMap (8 - j) n ≡ 2 * groupMap (8 - (j + 1)) (n / 256)
-  unfolding groupMap stands
-  map-none e = rw (less j h, e) (omega arith)
-
-  map-some : (n % 256 ≡ 0 → ⊥) → groupMap (8 - j) n ≡ 1 + 2 * groupMap (8 - (j + 1)) (n / 256)
-  unfolding groupMap
-  map-some e = rw (less j h, stands-some (n % 256) e)
-
-  -- the bytes that are still to come
-  pub bytes-none : n % 256 ≡ 0 → groupBytes (8 - j) n ≡ groupBytes (8 - (j + 1)) (n / 256)
-  unfolding groupBytes groupOf
-  bytes-none e = rw (less j h, e)
-
-  pub bytes-some : (n % 256 ≡ 0 → ⊥) → groupBytes (8 - j) n ≡ n % 256 ∷ groupBytes (8 - (j + 1)) (n / 256)
+  bytes-turn : groupBytes (8 - j) n ≡ groupOf (n % 256) (groupBytes (8 - (j + 1)) (n / 256))
   unfolding groupBytes
-  bytes-some e = rw (less j h, group-some (n % 256) _ e)
+  bytes-turn = rw (less j h) refl
 
-  -- the map of the groups behind, and that of the groups to come at the place of the next bit
-  module _ (map bit : ℕ) where
-    pub map-skip : n % 256 ≡ 0 → map + bit * groupMap (8 - j) n ≡ map + (bit * 2) * groupMap (8 - (j + 1)) (n / 256)
-    map-skip e = rw (map-none e, mul-assoc)
+  pub stores-turn : (l : List ℕ) (i : ℕ) → sets l i (groupBytes (8 - j) n ++ (0 ∷ [])) ≡ sets (set l i (n % 256)) (i + mark (n % 256)) (groupBytes (8 - (j + 1)) (n / 256) ++ (0 ∷ []))
+  stores-turn l i = rw bytes-turn (one-group (n % 256) l (groupBytes (8 - (j + 1)) (n / 256)) i (omega arith))
 
-    pub map-take : (n % 256 ≡ 0 → ⊥) → map + bit * groupMap (8 - j) n ≡ (map + bit) + (bit * 2) * groupMap (8 - (j + 1)) (n / 256)
-    map-take e = rw (map-some e, mul-assoc, mul-add, mul-one, add-assoc)
+  pub long-turn : length (groupBytes (8 - j) n) ≡ mark (n % 256) + length (groupBytes (8 - (j + 1)) (n / 256))
+  long-turn = ap length bytes-turn ∙ group-long (n % 256) (groupBytes (8 - (j + 1)) (n / 256)) (omega arith)
+
+  pub map-turn : (map bit : ℕ) → map + bit * groupMap (8 - j) n ≡ (map + bit * mark (n % 256)) + (bit * 2) * groupMap (8 - (j + 1)) (n / 256)
+  unfolding groupMap
+  map-turn map bit = rw (less j h, mark-stands (n % 256) (omega arith), mul-assoc, mul-add, add-assoc) refl
 
 pub map-end : (j n map bit : ℕ) → j ≡ 8 → map + bit * groupMap (8 - j) n ≡ map
 unfolding groupMap
@@ -86,33 +101,51 @@ set-le s = omega (arith, set-length s, groups-le 8 s)
 
 -- ---- runs of stores
 
--- one store more, at the code's i + 1
-pub sets-cons : (l : List ℕ) (i v : ℕ) (vs : List ℕ) → sets l i (v ∷ vs) ≡ sets (set l i v) (i + 1) vs
-sets-cons l i v vs = rw (add-one i)
-
 pub sets-append : (xs l ys : List ℕ) (i : ℕ) → sets l i (xs ++ ys) ≡ sets (sets l i xs) (i + length xs) ys
 sets-append [] l ys i = rw add-zero
 sets-append (x ∷ xs) l ys i =
     let e : suc i + length xs ≡ i + suc (length xs) = omega arith in
     rw (← e) (sets-append xs (set l i x) ys (suc i))
 
--- a run of stores in the part from i on, said of the whole
-pub sets-part : (l vs : List ℕ) (i k : ℕ) → take i l ++ sets (drop i l) k vs ≡ sets l (i + k) vs
-sets-part l [] i k = take-append-drop i l
-sets-part l (v ∷ vs) i k =
-    let n : i + suc k ≡ suc (i + k) = omega arith in
-    rw (← drop-set-add i l k v, ← take-set-le i l (i + k) v (omega arith)) (sets-part (set l (i + k) v) vs i (suc k) ∙ rw n refl)
+-- .. behind a run that has a zero behind it
+pub next-over : (vs ws l : List ℕ) (i x : ℕ) → sets (sets l i (vs ++ (0 ∷ []))) (i + length vs) (ws ++ (x ∷ [])) ≡ sets l i (vs ++ (ws ++ (x ∷ [])))
+next-over vs ws l i x =
+    rw (sets-append vs l (0 ∷ []) i) (sym (over-zero (sets l i vs) ws (i + length vs) x)) ∙ sym (sets-append vs l (ws ++ (x ∷ [])) i)
+
+-- a store before a run of stores
+store-before : (vs l : List ℕ) (i k v : ℕ) → k < i → set (sets l i vs) k v ≡ sets (set l k v) i vs
+store-before [] l i k v h = refl
+store-before (x ∷ vs) l i k v h = store-before vs (set l i x) (suc i) k v (omega arith) ∙ ap (λ (y : List ℕ). sets y (suc i) vs) (set-comm l i k x v (omega arith))
+
+-- the map is stored last
+pub map-last : (s i : ℕ) (l : List ℕ) → set (sets l (i + 1) (groupBytes 8 s ++ (0 ∷ []))) i (groupMap 8 s) ≡ sets l i (setBytes s ++ (0 ∷ []))
+unfolding setBytes
+map-last s i l = rw (add-one i) (store-before (groupBytes 8 s ++ (0 ∷ [])) l (suc i) i (groupMap 8 s) (omega arith))
+
+-- what was stored from the start of a list l, with a zero byte behind it
+module _ (new l out : List ℕ) (n : ℕ) (end : n ≡ 0 + length new) (stored : out ≡ sets l 0 (new ++ (0 ∷ []))) (h : length new < length l) where
+  pub own-bytes : take n out ≡ new
+  own-bytes =
+      rw (stored, sets-append new l (0 ∷ []) 0, take-set-le n (sets l 0 new) (0 + length new) 0 (omega arith))
+      (sets-front new l n (omega arith) (omega arith))
+
+  pub own-fits : n ≤ length out
+  own-fits = omega (arith, ap length stored, length-sets l 0 (new ++ (0 ∷ [])))
+
+pub own-map : (s n : ℕ) (out : List ℕ) → n ≡ 0 + length (setBytes s) → take n out ≡ setBytes s → getD out 0 0 ≡ groupMap 8 s
+own-map s n out end e = sym (getD-take n out 0 0 (omega (arith, set-length s))) ∙ ap (λ (x : List ℕ). getD x 0 0) (e ∙ set-bytes s)
 
 -- ---- what writing leaves: the new entries if the list takes them, else nothing new
 module _ (new old : List ℕ) where
   abbrev pub put : List ℕ
   put = leaves (mapped {A = Unit {0}} (λ _. new) (room (length old) (length new))) old
 
-  pub put-fits : length new ≤ length old → put ≡ sets old 0 new
+  pub put-front : length new ≤ length old → put ≡ new ++ drop (length new) old
   unfolding overwritten
-  put-fits h =
-      let z : 0 + length new ≡ length new = omega arith in
-      leaves-done {A = Unit {0}} (λ _. new) (room (length old) (length new)) tt old (done-room (length old) (length new) h) ∙ sym (rw z at (sets-eq new old 0 (omega arith)))
+  put-front h = leaves-done {A = Unit {0}} (λ _. new) (room (length old) (length new)) tt old (done-room (length old) (length new) h)
+
+  pub put-fits : length new ≤ length old → put ≡ sets old 0 new
+  put-fits h = let z : 0 + length new ≡ length new = omega arith in put-front h ∙ sym (rw z at (sets-eq new old 0 (omega arith)))
 
   pub put-short : length old < length new → put ≡ old
   unfolding room demand
@@ -124,11 +157,3 @@ rest-is l k = take-all (length l - k) (drop k l) (rw length-drop (omega arith))
 
 pub rest-long : (l : List ℕ) (k : ℕ) → length (take (length l - k) (drop k l)) ≡ length l - k
 rest-long l k = rw (rest-is, length-drop)
-
--- new entries that are put into that part, with the part back in its place
-pub put-part : (new l : List ℕ) (k : ℕ) → k + length new ≤ length l → take k l ++ (put new (take (length l - k) (drop k l)) ++ drop (length l - k) (drop k l)) ≡ sets l k new
-put-part new l k h =
-    let none : drop (length l - k) (drop k l) ≡ [] = drop-of-length-le (drop k l) {i = length l - k} (omega (arith, length-drop k l)) in
-    let fits : put new (drop k l) ≡ sets (drop k l) 0 new = put-fits new (drop k l) (omega (arith, length-drop k l)) in
-    let z : k + 0 ≡ k = omega arith in
-    rw (rest-is l k, none, append-nil, fits) (sets-part l new k 0 ∙ rw z refl)

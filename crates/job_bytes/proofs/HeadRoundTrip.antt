@@ -16,7 +16,7 @@ use Rattle.job.specs.Refusal.{done, refused, _>>=_, _>>_, demand}
 use Rattle.job.specs.Handed.{between}
 use Rattle.job_bytes.specs.declared.fields.Field.{Field}
 use Rattle.job_bytes.specs.SetBytes.{Got, got, byteAt}
-use Rattle.job_bytes.specs.JobBytes.{fields, headOf, readNumber, readField, readFields, readHead, numberBytes, headBytes}
+use Rattle.job_bytes.specs.JobBytes.{fields, headOf, valuesOf, readNumber, readField, readFields, readHead, numberBytes, headBytes}
 use Rattle.job.proofs.Laws.{both, done-same, refused≢done, demand-true, both-done, bind-done}
 use Rattle.job_bytes.proofs.SetRoundTrip.{Bytes}
 
@@ -40,9 +40,6 @@ fieldsBytes fs vs = flatten (zipWith bytesOf fs vs)
 pub head-bytes : (vs : List ℕ) → headBytes vs ≡ fieldsMap fields vs ∷ fieldsBytes fields vs
 unfolding headBytes fieldsMap fieldsBytes
 head-bytes vs = refl
-
-abbrev pub valuesOf : Head → List ℕ
-valuesOf h = h .places ∷ h .curves ∷ h .tests ∷ h .method ∷ []
 
 -- ---- what a field can have: its absent value, or one that it holds
 
@@ -242,8 +239,8 @@ head-read (M ∷ bs) g e =
 
 -- the numbers of a head that was read are in range
 pub record InRange (h : Head) : Type 0 where
-  pub places : (1 ≤ h .places) × (h .places ≤ 64)
-  pub curves : (1 ≤ h .curves) × (h .curves ≤ 64)
+  pub places : (1 ≤ h .rig .places) × (h .rig .places ≤ 64)
+  pub curves : (1 ≤ h .rig .curves) × (h .rig .curves ≤ 64)
   pub tests : h .tests ≤ 256
   pub method : h .method ≤ 3
 
@@ -251,15 +248,15 @@ pub in-range : (h : Head) → AllHave fields (valuesOf h) → InRange h
 unfolding fields
 in-range h a =
     record {
-      places = within _ (h .places) 1 64 (omega arith, omega arith) (omega arith, omega arith) (a .0);
-      curves = within _ (h .curves) 1 64 (omega arith, omega arith) (omega arith, omega arith) (a .1 .0);
+      places = within _ (h .rig .places) 1 64 (omega arith, omega arith) (omega arith, omega arith) (a .0);
+      curves = within _ (h .rig .curves) 1 64 (omega arith, omega arith) (omega arith, omega arith) (a .1 .0);
       tests = within _ (h .tests) 0 256 (omega arith, omega arith) (omega arith, omega arith) (a .1 .1 .0) .1;
       method = within _ (h .method) 0 3 (omega arith, omega arith) (omega arith, omega arith) (a .1 .1 .1 .0) .1;
     }
 
 pub range-in : (h : Head) → InRange h → AllHave fields (valuesOf h)
 unfolding fields
-range-in h r = (has _ (h .places) (λ n. r .places), (has _ (h .curves) (λ n. r .curves), (has _ (h .tests) (λ n. (omega arith, r .tests)), (has _ (h .method) (λ n. (omega arith, r .method)), tt))))
+range-in h r = (has _ (h .rig .places) (λ n. r .places), (has _ (h .rig .curves) (λ n. r .curves), (has _ (h .tests) (λ n. (omega arith, r .tests)), (has _ (h .method) (λ n. (omega arith, r .method)), tt))))
 
 pub head-range : (bs : List ℕ) (g : Got Head) → readHead bs ≡ done g → InRange (g .value)
 head-range bs g e = in-range (g .value) (head-read bs g e .have)

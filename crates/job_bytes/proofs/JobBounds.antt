@@ -15,7 +15,8 @@ use Rattle.job.specs.Refusal.{Outcome, done, refused, _>>=_, _>>_, demand, room
 use Rattle.job.specs.Handed.{someTests}
 use Rattle.job_bytes.specs.declared.fields.Field.{Field}
 use Rattle.job_bytes.specs.SetBytes.{Got, got}
-use Rattle.job_bytes.specs.JobBytes.{Job, fields, readNumber, readField, readFields, readHead, readRecord, readRecords, atEnd, readBytes, readJob, readJobAnswer, readJobWants, writeJob}
+use Rattle.job.specs.Words.{Job}
+use Rattle.job_bytes.specs.JobBytes.{Request, fields, readNumber, readField, readFields, readHead, readRecord, readRecords, atEnd, readBytes, readJob, readJobAnswer, readJobWants, writeJob}
 use Rattle.job.proofs.Laws.{refused≢done, bind-done, mapped-done, mapped-refused}
 use Rattle.job_bytes.proofs.HeadRoundTrip.{head-range}
 use Rattle.job_bytes.proofs.Spans.{Ends, Spans, span-done, span-refused, widths, head-span, records-span}
@@ -25,12 +26,12 @@ use Rattle.job_bytes.proofs.JobRoundTrip.{job-back}
 -- ---- how long, and how large a figure
 
 -- what a reading of the whole job comes to: done within the bound, or a figure within it
-pub data Bounded (bs : List ℕ) : Outcome Job → Type 0 where
-  read : (j : Job) → length bs ≤ 2310 → j .head .tests ≤ 256 → Bounded bs (done j)
+pub data Bounded (bs : List ℕ) : Outcome Request → Type 0 where
+  read : (j : Request) → length bs ≤ 2310 → j .head .tests ≤ 256 → Bounded bs (done j)
   figure : (k f : ℕ) → f ≤ 2310 → f ≤ length bs → Bounded bs (refused k f)
 
 -- behind the records
-at-end : (bs : List ℕ) (e : ℕ) (rest : List ℕ) (j : Job) → e ≤ 2310 → e ≤ length bs → rest ≡ drop e bs → j .head .tests ≤ 256 → Bounded bs (_>>_ (atEnd 6 e rest) (done j))
+at-end : (bs : List ℕ) (e : ℕ) (rest : List ℕ) (j : Request) → e ≤ 2310 → e ≤ length bs → rest ≡ drop e bs → j .head .tests ≤ 256 → Bounded bs (_>>_ (atEnd 6 e rest) (done j))
 unfolding atEnd _>>_
 at-end bs e [] j m l r t = read j (omega (arith, ap length r, length-drop e bs)) t
 at-end bs e (b ∷ rest) j m l r t = figure 6 e m l
@@ -45,23 +46,23 @@ read-bounded bs = behind (readHead bs) refl (head-span bs)
     all h n (refused k f) t m s = let e = span-refused s in figure k f (omega (arith, e .0)) (e .1)
 
     tested : (h : Head) (n : ℕ) (rest : List ℕ) (b : Bool) → h .tests ≤ 256 → Ends 6 0 bs n rest
-        → Bounded bs (_>>_ (demand b 5 0) (_>>=_ (readRecords (h .curves) (h .tests) [] n rest) (λ r. _>>_ (atEnd 6 (r .next) (r .rest)) (done (record { head = h; wants = r .value })))))
+        → Bounded bs (_>>_ (demand b 5 0) (_>>=_ (readRecords (h .rig .curves) (h .tests) [] n rest) (λ r. _>>_ (atEnd 6 (r .next) (r .rest)) (done (record { head = h; wants = r .value })))))
     tested h n rest false t s = figure 5 0 (omega arith) (omega arith)
     tested h n rest true t s =
-        subst (λ (l : List ℕ). Bounded bs (_>>=_ (readRecords (h .curves) (h .tests) [] n l) (λ r. _>>_ (atEnd 6 (r .next) (r .rest)) (done (record { head = h; wants = r .value }))))) (sym (s .behind))
-        (all h n (readRecords (h .curves) (h .tests) [] n (drop n bs)) t (omega (arith, s .most)) (records-span bs (h .curves) (h .tests) [] n (s .within)))
+        subst (λ (l : List ℕ). Bounded bs (_>>=_ (readRecords (h .rig .curves) (h .tests) [] n l) (λ r. _>>_ (atEnd 6 (r .next) (r .rest)) (done (record { head = h; wants = r .value }))))) (sym (s .behind))
+        (all h n (readRecords (h .rig .curves) (h .tests) [] n (drop n bs)) t (omega (arith, s .most)) (records-span bs (h .rig .curves) (h .tests) [] n (s .within)))
 
     behind : (o : Outcome (Got Head)) → readHead bs ≡ o → Spans 6 0 bs o
-        → Bounded bs (_>>=_ o (λ h. _>>_ (someTests (h .value .tests)) (_>>=_ (readRecords (h .value .curves) (h .value .tests) [] (h .next) (h .rest)) (λ r. _>>_ (atEnd 6 (r .next) (r .rest)) (done (record { head = h .value; wants = r .value }))))))
+        → Bounded bs (_>>=_ o (λ h. _>>_ (someTests (h .value .tests)) (_>>=_ (readRecords (h .value .rig .curves) (h .value .tests) [] (h .next) (h .rest)) (λ r. _>>_ (atEnd 6 (r .next) (r .rest)) (done (record { head = h .value; wants = r .value }))))))
     behind (refused k f) e s = let x = span-refused s in figure k f (omega (arith, x .0)) (x .1)
     behind (done g) e s =
         tested (g .value) (g .next) (g .rest) (ltb 0 (g .value .tests)) (head-range bs g e .tests) (span-done s)
 
 -- A JOB THAT READS HAS AT MOST 2,310 BYTES
-pub job-short : (bs : List ℕ) (j : Job) → readBytes bs ≡ done j → length bs ≤ 2310
+pub job-short : (bs : List ℕ) (j : Request) → readBytes bs ≡ done j → length bs ≤ 2310
 job-short bs j e = of (subst (Bounded bs) e (read-bounded bs))
   where
-    of : {j : Job} → Bounded bs (done j) → length bs ≤ 2310
+    of : {j : Request} → Bounded bs (done j) → length bs ≤ 2310
     of (read j l t) = l
 
 -- A FIGURE IS AT MOST 2,310, and points into the input or to its end
@@ -76,14 +77,14 @@ pub job-figure : (bs : List ℕ) (lent k f : ℕ) → readJob bs lent ≡ refuse
 unfolding readJob room demand _>>=_ _>>_
 job-figure bs lent k f e = go (read-bounded bs) e
   where
-    short : (b : Bool) (j : Job) → j .head .tests ≤ 256 → _>>_ (demand b 9 (j .head .tests)) (done j) ≡ refused k f → (f ≤ 2310) × ((f ≤ length bs) ⊎ ((k ≡ 9) × (f ≤ 256)))
+    short : (b : Bool) (j : Request) → j .head .tests ≤ 256 → _>>_ (demand b 9 (j .head .tests)) (done j) ≡ refused k f → (f ≤ 2310) × ((f ≤ length bs) ⊎ ((k ≡ 9) × (f ≤ 256)))
     short true j t e = absurd (refused≢done (sym e))
     short false j t e =
         let n : k ≡ 9 = cc in
         let m : f ≡ j .head .tests = cc in
         (omega arith, inr (n, omega arith))
 
-    go : {o : Outcome Job} → Bounded bs o → _>>=_ o (λ j. _>>_ (room lent (j .head .tests)) (done j)) ≡ refused k f → (f ≤ 2310) × ((f ≤ length bs) ⊎ ((k ≡ 9) × (f ≤ 256)))
+    go : {o : Outcome Request} → Bounded bs o → _>>=_ o (λ j. _>>_ (room lent (j .head .tests)) (done j)) ≡ refused k f → (f ≤ 2310) × ((f ≤ length bs) ⊎ ((k ≡ 9) × (f ≤ 256)))
     go (read j l t) e = short (leb (j .head .tests) lent) j t e
     go (figure n i m l) e =
         let q : f ≡ i = cc in
@@ -127,7 +128,7 @@ module _ (ys : List ℕ) where
 
   -- with a byte left behind the records in both, both are refused there
   end-same : (h : Head) {o q : Outcome (Got (List ℕ))} → Same ys 1 o q
-      → _≡_ {A = Outcome Job} (_>>=_ q (λ r. _>>_ (atEnd 6 (r .next) (r .rest)) (done (record { head = h; wants = r .value }))))
+      → _≡_ {A = Outcome Request} (_>>=_ q (λ r. _>>_ (atEnd 6 (r .next) (r .rest)) (done (record { head = h; wants = r .value }))))
       (_>>=_ o (λ r. _>>_ (atEnd 6 (r .next) (r .rest)) (done (record { head = h; wants = r .value }))))
   unfolding _>>=_ _>>_ atEnd
   end-same h (value a n [] l) = absurd (omega arith)
@@ -140,10 +141,10 @@ module _ (ys : List ℕ) where
   behind-same xs l = go refl refl (head-same 2305 xs (omega arith))
     where
       tested : (h : Head) (n : ℕ) (rest : List ℕ) (b : Bool) → h .tests ≤ 256 → 2305 ≤ length rest
-          → _≡_ {A = Outcome Job} (_>>_ (demand b 5 0) (_>>=_ (readRecords (h .curves) (h .tests) [] n (rest ++ ys)) (λ r. _>>_ (atEnd 6 (r .next) (r .rest)) (done (record { head = h; wants = r .value })))))
-          (_>>_ (demand b 5 0) (_>>=_ (readRecords (h .curves) (h .tests) [] n rest) (λ r. _>>_ (atEnd 6 (r .next) (r .rest)) (done (record { head = h; wants = r .value })))))
+          → _≡_ {A = Outcome Request} (_>>_ (demand b 5 0) (_>>=_ (readRecords (h .rig .curves) (h .tests) [] n (rest ++ ys)) (λ r. _>>_ (atEnd 6 (r .next) (r .rest)) (done (record { head = h; wants = r .value })))))
+          (_>>_ (demand b 5 0) (_>>=_ (readRecords (h .rig .curves) (h .tests) [] n rest) (λ r. _>>_ (atEnd 6 (r .next) (r .rest)) (done (record { head = h; wants = r .value })))))
       tested h n rest false t m = refl
-      tested h n rest true t m = end-same h (records-same (h .curves) (h .tests) [] n 1 rest (omega arith))
+      tested h n rest true t m = end-same h (records-same (h .rig .curves) (h .tests) [] n 1 rest (omega arith))
 
       go : {o q : Outcome (Got Head)} → readHead xs ≡ o → readHead (xs ++ ys) ≡ q → Same ys 2305 o q → readBytes (xs ++ ys) ≡ readBytes xs
       go e f (fault k i) = rw (e, f) refl
@@ -168,14 +169,14 @@ prefix-wants bs old = rw (prefix-reads bs) refl
 
 pub answer-figure : (bs old : List ℕ) (k f : ℕ) → readJobAnswer bs old ≡ refused k f → (f ≤ 2310) × ((f ≤ length bs) ⊎ ((k ≡ 9) × (f ≤ 256)))
 unfolding readJobAnswer
-answer-figure bs old k f e = job-figure bs (length old) k f (mapped-refused (λ (j : Job). j .head) (readJob bs (length old)) k f e)
+answer-figure bs old k f e = job-figure bs (length old) k f (mapped-refused (λ (j : Request). j .head) (readJob bs (length old)) k f e)
 
 pub answer-short : (bs old : List ℕ) (h : Head) → readJobAnswer bs old ≡ done h → length bs ≤ 2310
 unfolding readJobAnswer readJob
 answer-short bs old h e =
-    let x = mapped-done (λ (j : Job). j .head) (readJob bs (length old)) h e in
+    let x = mapped-done (λ (j : Request). j .head) (readJob bs (length old)) h e in
     let y = bind-done (readBytes bs) _ (x .0) (x .1) in
     job-short bs (y .0) (y .1)
 
-pub written-short : (places curves method : ℕ) (wants : List ℕ) (lent : ℕ) (bytes : List ℕ) → writeJob places curves method wants lent ≡ done bytes → length bytes ≤ 2310
-written-short places curves method wants lent bytes e = job-short bytes _ (job-back places curves method wants lent bytes e)
+pub written-short : (method : ℕ) (j : Job) (lent : ℕ) (bytes : List ℕ) → writeJob method j lent ≡ done bytes → length bytes ≤ 2310
+written-short method j lent bytes e = job-short bytes _ (job-back method j lent bytes e)

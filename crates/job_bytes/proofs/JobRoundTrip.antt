@@ -9,12 +9,12 @@ use Rattle.job.specs.declared.Head.{Head}
 use Rattle.job.specs.Refusal.{done, refused, _>>=_, _>>_, demand, room}
 use Rattle.job.specs.Handed.{someTests, jobKnownBy}
 use Rattle.job_bytes.specs.SetBytes.{groupMap, groupBytes, setBytes, Got, got, byteAt}
-use Rattle.job_bytes.specs.JobBytes.{Job, readHead, readRecord, readRecords, atEnd, readBytes, headBytes, recordBytes, jobBytes, jobOf, writeJob}
+use Rattle.job_bytes.specs.JobBytes.{Request, jobIn, request, valuesOf, readHead, readRecord, readRecords, atEnd, readBytes, headBytes, recordBytes, jobBytes, writeJob}
 use Rattle.job.proofs.Laws.{done-same, refused≢done, demand-true, both-done, done-both, bind-done, done-room}
-use Rattle.job.specs.Words.{IsJob}
+use Rattle.job.specs.Words.{Job, jobOf, IsJob}
 use Rattle.job.proofs.JobExact.{job-by-exact}
 use Rattle.job_bytes.proofs.SetRoundTrip.{set-back, Bytes, SetRead, set-read}
-use Rattle.job_bytes.proofs.HeadRoundTrip.{valuesOf, InRange, range-in, head-range, head-back, head-read}
+use Rattle.job_bytes.proofs.HeadRoundTrip.{InRange, range-in, head-range, head-back, head-read}
 
 -- ---- written, then read
 
@@ -38,25 +38,25 @@ module _ (curves : ℕ) (few : curves ≤ 64) where
       (records-back (i + length (setBytes w)) (acc ++ (w ∷ [])) ws rest (λ t l. h (suc t) (omega arith)) ∙ rw (n, append-assoc acc (w ∷ []) ws) refl)
 
 -- A JOB THAT IS WRITTEN READS BACK
-pub job-back : (places curves method : ℕ) (wants : List ℕ) (lent : ℕ) (bytes : List ℕ) → writeJob places curves method wants lent ≡ done bytes → readBytes bytes ≡ done (jobOf places curves method wants)
+pub job-back : (method : ℕ) (j : Job) (lent : ℕ) (bytes : List ℕ) → writeJob method j lent ≡ done bytes → readBytes bytes ≡ done (request method j)
 unfolding writeJob readBytes jobBytes someTests demand atEnd _>>=_ _>>_
-job-back places curves method wants lent bytes e =
-    let a = both-done (jobKnownBy places curves method wants) _ bytes e in
-    let b = both-done (room lent (length (jobBytes (jobOf places curves method wants)))) (done (jobBytes (jobOf places curves method wants))) bytes (a .1) in
-    let s : jobBytes (jobOf places curves method wants) ≡ bytes = same (b .1) in
-    subst (λ (bs : List ℕ). readBytes bs ≡ done (jobOf places curves method wants)) s (go (a .0))
+job-back method j lent bytes e =
+    let a = both-done (jobKnownBy method j) _ bytes e in
+    let b = both-done (room lent (length (jobBytes (request method j)))) (done (jobBytes (request method j))) bytes (a .1) in
+    let s : jobBytes (request method j) ≡ bytes = same (b .1) in
+    subst (λ (bs : List ℕ). readBytes bs ≡ done (request method j)) s (go (a .0))
   where
     same : {x y : List ℕ} → done x ≡ done y → x ≡ y
     same e = cc
 
-    go : jobKnownBy places curves method wants ≡ done tt → readBytes (jobBytes (jobOf places curves method wants)) ≡ done (jobOf places curves method wants)
+    go : jobKnownBy method j ≡ done tt → readBytes (jobBytes (request method j)) ≡ done (request method j)
     go k =
-        let j = job-by-exact places curves wants method .0 k in
-        let h : Head = record { places = places; curves = curves; tests = length wants; method = method } in
-        let ok : InRange h = record { places = j .0 .places-bounds; curves = j .0 .curves-bounds; tests = j .0 .tests-bounds .1; method = j .1 } in
-        let z : recordBytes wants ≡ recordBytes wants ++ [] = sym (append-nil (recordBytes wants)) in
-        let r = records-back curves (j .0 .curves-bounds .1) (length (headBytes (valuesOf h))) [] wants [] (j .0 .own-curves) in
-        rw (head-back h (recordBytes wants) (range-in h ok), lt-ltb 0 (length wants) (j .0 .tests-bounds .0), z, r) refl
+        let x = job-by-exact j method .0 k in
+        let h = request method j .head in
+        let ok : InRange h = record { places = x .0 .places-bounds; curves = x .0 .curves-bounds; tests = x .0 .tests-bounds .1; method = x .1 } in
+        let z : recordBytes (j .wants) ≡ recordBytes (j .wants) ++ [] = sym (append-nil (recordBytes (j .wants))) in
+        let r = records-back (j .rig .curves) (x .0 .curves-bounds .1) (length (headBytes (valuesOf h))) [] (j .wants) [] (x .0 .own-curves) in
+        rw (head-back h (recordBytes (j .wants)) (range-in h ok), lt-ltb 0 (length (j .wants)) (x .0 .tests-bounds .0), z, r) refl
 
 -- ---- read, then written
 
@@ -100,25 +100,25 @@ unfolding atEnd
 end-none k i [] e = refl
 end-none k i (b ∷ bs) e = absurd (refused≢done e)
 
-job-written : (h : Head) (ws bs : List ℕ) → InRange h → 1 ≤ h .tests → length ws ≡ h .tests → ((t : ℕ) → t < length ws → getD ws t 0 < 2 ^ h .curves) → bs ≡ headBytes (valuesOf h) ++ recordBytes ws
-    → writeJob (h .places) (h .curves) (h .method) ws (length bs) ≡ done bs
+job-written : (h : Head) (ws bs : List ℕ) → InRange h → 1 ≤ h .tests → length ws ≡ h .tests → ((t : ℕ) → t < length ws → getD ws t 0 < 2 ^ h .rig .curves)
+    → bs ≡ headBytes (valuesOf h) ++ recordBytes ws → writeJob (h .method) (jobOf (h .rig) ws) (length bs) ≡ done bs
 unfolding writeJob jobBytes
 job-written h ws bs ok some count known bytes =
-    done-both _ _ (job-by-exact (h .places) (h .curves) ws (h .method) .1 (is-job, ok .method))
-    ∙ done-both _ _ (done-room (length bs) (length (jobBytes (jobOf (h .places) (h .curves) (h .method) ws))) (omega (arith, ap length same)))
+    done-both _ _ (job-by-exact (jobOf (h .rig) ws) (h .method) .1 (is-job, ok .method))
+    ∙ done-both _ _ (done-room (length bs) (length (jobBytes (request (h .method) (jobOf (h .rig) ws)))) (omega (arith, ap length same)))
     ∙ ap done same
   where
-    is-job : IsJob (h .places) (h .curves) ws
+    is-job : IsJob (jobOf (h .rig) ws)
     is-job = record { places-bounds = ok .places; curves-bounds = ok .curves; tests-bounds = (omega arith, omega (arith, ok .tests)); own-curves = known }
 
-    head : _≡_ {A = Head} (record { places = h .places; curves = h .curves; tests = length ws; method = h .method }) h
-    head i = record { places = h .places; curves = h .curves; tests = count i; method = h .method }
+    head : _≡_ {A = Head} (record { rig = h .rig; tests = length ws; method = h .method }) h
+    head i = record { rig = h .rig; tests = count i; method = h .method }
 
-    same : jobBytes (jobOf (h .places) (h .curves) (h .method) ws) ≡ bs
+    same : jobBytes (request (h .method) (jobOf (h .rig) ws)) ≡ bs
     same = ap (λ (x : Head). headBytes (valuesOf x) ++ recordBytes ws) head ∙ sym bytes
 
-job-found : (h : Head) (bs rest : List ℕ) (g : Got (List ℕ)) → InRange h → someTests (h .tests) ≡ done tt → bs ≡ headBytes (valuesOf h) ++ rest → RecordsRead (h .curves) (h .tests) [] rest g → g .rest ≡ []
-    → writeJob (h .places) (h .curves) (h .method) (g .value) (length bs) ≡ done bs
+job-found : (h : Head) (bs rest : List ℕ) (g : Got (List ℕ)) → InRange h → someTests (h .tests) ≡ done tt → bs ≡ headBytes (valuesOf h) ++ rest → RecordsRead (h .rig .curves) (h .tests) [] rest g → g .rest ≡ []
+    → writeJob (h .method) (jobOf (h .rig) (g .value)) (length bs) ≡ done bs
 unfolding someTests
 job-found h bs rest g ok some bytes r none =
     rw (r .value)
@@ -126,15 +126,15 @@ job-found h bs rest g ok some bytes r none =
     (bytes ∙ ap (λ (l : List ℕ). headBytes (valuesOf h) ++ l) (r .bytes ∙ ap (λ (l : List ℕ). recordBytes (r .wants) ++ l) none ∙ append-nil (recordBytes (r .wants)))))
 
 -- BYTES THAT READ AS A JOB are those that are written for it
-pub job-read : (bs : List ℕ) (j : Job) → Bytes bs → readBytes bs ≡ done j → writeJob (j .head .places) (j .head .curves) (j .head .method) (j .wants) (length bs) ≡ done bs
+pub job-read : (bs : List ℕ) (q : Request) → Bytes bs → readBytes bs ≡ done q → writeJob (q .head .method) (jobIn q) (length bs) ≡ done bs
 unfolding readBytes
-job-read bs j all e =
-    let x = bind-done (readHead bs) _ j e in
+job-read bs q all e =
+    let x = bind-done (readHead bs) _ q e in
     let H = head-read bs (x .0) (x .1) .exact all in
     let h = x .0 .value in
-    let s = both-done (someTests (h .tests)) _ j (x .2) in
-    let y = bind-done (readRecords (h .curves) (h .tests) [] (x .0 .next) (x .0 .rest)) _ j (s .1) in
-    let R : RecordsRead (h .curves) (h .tests) [] (x .0 .rest) (y .0) = records-read (h .curves) (h .tests) (x .0 .next) [] (x .0 .rest) (y .0) (H .1) (y .1) in
-    let z = both-done (atEnd 6 (y .0 .next) (y .0 .rest)) (done (record { head = h; wants = y .0 .value })) j (y .2) in
-    subst (λ (j : Job). writeJob (j .head .places) (j .head .curves) (j .head .method) (j .wants) (length bs) ≡ done bs) (done-same (z .1))
+    let s = both-done (someTests (h .tests)) _ q (x .2) in
+    let y = bind-done (readRecords (h .rig .curves) (h .tests) [] (x .0 .next) (x .0 .rest)) _ q (s .1) in
+    let R : RecordsRead (h .rig .curves) (h .tests) [] (x .0 .rest) (y .0) = records-read (h .rig .curves) (h .tests) (x .0 .next) [] (x .0 .rest) (y .0) (H .1) (y .1) in
+    let z = both-done (atEnd 6 (y .0 .next) (y .0 .rest)) (done (record { head = h; wants = y .0 .value })) q (y .2) in
+    subst (λ (q : Request). writeJob (q .head .method) (jobIn q) (length bs) ≡ done bs) (done-same (z .1))
     (job-found h bs (x .0 .rest) (y .0) (head-range bs (x .0) (x .1)) (s .0) (H .0) R (end-none 6 (y .0 .next) (y .0 .rest) (z .0)))

@@ -1,6 +1,6 @@
 -- Writing a job, step by step: the bytes of a field, a head and the records, and what the rule comes to.
 use mathlib.Core.Path.{_≡_, refl, sym, ap, _∙_}
-use mathlib.Core.List.{List, [], _∷_, _++_, zipWith, flatten}
+use mathlib.Core.List.{List, [], _∷_, _++_, append-assoc, zipWith, flatten}
 use Prim.Native.Nat.{ℕ, zero, suc, _+_, _*_, _/_, _≤_, _<_}
 use native.Mathlib.Omega.{arith}
 use native.Mathlib.Numerals.{add-one}
@@ -12,7 +12,8 @@ use Rattle.job.specs.Refusal.{Outcome, done, refused, _>>_, mapped, demand, roo
 use Rattle.job.specs.Handed.{jobKnownBy}
 use Rattle.job_bytes.specs.declared.fields.Field.{Field}
 use Rattle.job_bytes.specs.SetBytes.{setBytes}
-use Rattle.job_bytes.specs.JobBytes.{fields, numberBytes, headBytes, recordBytes, jobBytes, jobOf, writeJob, writeJobAnswer, writeJobBuffer}
+use Rattle.job_bytes.specs.JobBytes.{Request, request, fields, valuesOf, numberBytes, headBytes, recordBytes, jobBytes, writeJob, writeJobAnswer, writeJobBuffer}
+use Rattle.job.specs.Words.{Job}
 use Rattle.job_bytes.proofs.HeadRoundTrip.{fieldsMap, fieldsBytes, head-bytes, map-lt}
 use Rattle.job_bytes.proofs.Heads.{rows}
 use Rattle.job_bytes.proofs.Encoding.{set-le, sets-append}
@@ -82,21 +83,18 @@ records-le [] = omega arith
 records-le (w ∷ ws) = omega (arith, records-le ws, set-le w, length-append (setBytes w) (recordBytes ws))
 
 -- ---- the answer, and what the lent buffer holds
-abbrev pub values : ℕ → ℕ → ℕ → List ℕ → List ℕ
-values places curves method wants = places ∷ curves ∷ length wants ∷ method ∷ []
-
-module _ (places curves method : ℕ) (wants old : List ℕ) where
+module _ (method : ℕ) (j : Job) (old : List ℕ) where
   abbrev pub Wrote : Outcome ℕ → List ℕ → Type 0
-  Wrote o new = (o ≡ writeJobAnswer places curves method wants old) × (new ≡ writeJobBuffer places curves method wants old)
+  Wrote o new = (o ≡ writeJobAnswer method j old) × (new ≡ writeJobBuffer method j old)
 
   abbrev bytes : List ℕ
-  bytes = jobBytes (jobOf places curves method wants)
+  bytes = jobBytes (request method j)
 
-  pub job-unknown : (k f : ℕ) → jobKnownBy places curves method wants ≡ refused k f → Wrote (refused k f) old
+  pub job-unknown : (k f : ℕ) → jobKnownBy method j ≡ refused k f → Wrote (refused k f) old
   unfolding writeJobAnswer writeJobBuffer writeJob _>>_ mapped leaves
   job-unknown k f e = (rw e refl, rw e refl)
 
-  module _ (known : jobKnownBy places curves method wants ≡ done tt) where
+  module _ (known : jobKnownBy method j ≡ done tt) where
     pub job-large : length old < length bytes → Wrote (refused 9 (length bytes)) old
     unfolding writeJobAnswer writeJobBuffer writeJob room demand _>>_ mapped leaves
     job-large h = (rw (known, lt-leb (length bytes) (length old) h) refl, rw (known, lt-leb (length bytes) (length old) h) refl)
@@ -107,16 +105,16 @@ module _ (places curves method : ℕ) (wants old : List ℕ) where
         let z : 0 + length bytes ≡ length bytes = omega arith in
         (rw (known, le-leb (length bytes) (length old) h) refl, rw (known, le-leb (length bytes) (length old) h) (rw z at (sets-eq bytes old 0 (omega arith))))
 
--- head and records, stored one after the other
-pub job-sets : (places curves method : ℕ) (wants out l₁ l₂ : List ℕ) (n : ℕ) → n ≡ length (headBytes (values places curves method wants))
-    → l₁ ≡ sets out 0 (headBytes (values places curves method wants)) → l₂ ≡ sets l₁ n (recordBytes wants) → l₂ ≡ sets out 0 (jobBytes (jobOf places curves method wants))
+-- head and records, stored one after the other, and a zero byte behind them
+pub job-sets : (q : Request) (out l₁ l₂ : List ℕ) (n : ℕ) → n ≡ length (headBytes (valuesOf (q .head)))
+    → l₁ ≡ sets out 0 (headBytes (valuesOf (q .head))) → l₂ ≡ sets l₁ n (recordBytes (q .wants) ++ (0 ∷ [])) → l₂ ≡ sets out 0 (jobBytes q ++ (0 ∷ []))
 unfolding jobBytes
-job-sets places curves method wants out l₁ l₂ n e f g =
-    let hb = headBytes (values places curves method wants) in
+job-sets q out l₁ l₂ n e f g =
+    let hb = headBytes (valuesOf (q .head)) in
+    let rb = recordBytes (q .wants) in
     let z : n ≡ 0 + length hb = omega arith in
-    g ∙ ap (λ (x : List ℕ). sets x n (recordBytes wants)) f ∙ ap (λ (x : ℕ). sets (sets out 0 hb) x (recordBytes wants)) z ∙ sym (sets-append hb out (recordBytes wants) 0)
+    g ∙ rw (f, z, append-assoc hb rb (0 ∷ [])) (sym (sets-append hb out (rb ++ (0 ∷ [])) 0))
 
-pub job-length : (places curves method : ℕ) (wants : List ℕ)
-    → length (jobBytes (jobOf places curves method wants)) ≡ length (headBytes (values places curves method wants)) + length (recordBytes wants)
+pub job-length : (q : Request) → length (jobBytes q) ≡ length (headBytes (valuesOf (q .head))) + length (recordBytes (q .wants))
 unfolding jobBytes
-job-length places curves method wants = length-append (headBytes (values places curves method wants)) (recordBytes wants)
+job-length q = length-append (headBytes (valuesOf (q .head))) (recordBytes (q .wants))

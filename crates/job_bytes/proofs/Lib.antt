@@ -1,7 +1,6 @@
 -- What the rules on the bytes of sets and of jobs mean.
 --     Turns         one turn of a loop over bytes
 --     Encoding      one turn of a loop that writes bytes, and runs of stores
---     GroupWalk     the bytes of a set, from one group that has a curve to the next
 --     GroupByte     one group byte, and what its reader's answer says
 --     Heads         reading a head, step by step
 --     Front         a loop that copies the front of a list
@@ -14,9 +13,9 @@
 --     JobRoundTrip  the same of a job
 --     JobBounds     how long job bytes are, how large their figures, and that bytes behind the 2,311th change nothing
 --     ReadExact     bytes that read give a job
+--     ReadRefuses   reading refuses by 1 to 6 only
 pub mod Turns
 pub mod Encoding
-pub mod GroupWalk
 pub mod Front
 pub mod Heads
 pub mod Spans
@@ -29,3 +28,4 @@ pub mod HeadRoundTrip
 pub mod JobRoundTrip
 pub mod JobBounds
 pub mod ReadExact
+pub mod ReadRefuses

@@ -15,7 +15,7 @@ use Rattle.job.specs.declared.Examined.{Examined}
 use Rattle.job.specs.Refusal.{Outcome, done, refused, number, figure, countOutcome, _>>=_, _>>_, mapped, demand, room, overwritten, leaves}
 use Rattle.job.specs.Handed.{someTests}
 use Rattle.job_bytes.specs.SetBytes.{Got, got, byteAt, readGroups}
-use Rattle.job_bytes.specs.JobBytes.{Job, readHead, readRecord, readRecords, atEnd, readBytes, readJob, readJobAnswer, readJobWants}
+use Rattle.job_bytes.specs.JobBytes.{Request, readHead, readRecord, readRecords, atEnd, readBytes, readJob, readJobAnswer, readJobWants}
 use Rattle.job.proofs.Laws.{refused≢done, done-same, mapped-done, done-mapped, refused-mapped}
 use Rattle.job_bytes.proofs.Spans.{Spans, span-done, records-span}
 use Rattle.job_bytes.proofs.Turns.{byte-none, record-next}
@@ -92,11 +92,11 @@ module _ (bs : List ℕ) (h : Head) (n : ℕ) (head : readHead bs ≡ done (got 
   whole-none e = rw (head, e) refl
 
   module _ (some : 0 < h .tests) where
-    pub whole-fault : (k f : ℕ) → readRecords (h .curves) (h .tests) [] n (drop n bs) ≡ refused k f → readBytes bs ≡ refused k f
+    pub whole-fault : (k f : ℕ) → readRecords (h .rig .curves) (h .tests) [] n (drop n bs) ≡ refused k f → readBytes bs ≡ refused k f
     unfolding readBytes someTests demand _>>=_ _>>_
     whole-fault k f e = rw (head, lt-ltb 0 (h .tests) some, e) refl
 
-    module _ (ws : List ℕ) (e : ℕ) (records : readRecords (h .curves) (h .tests) [] n (drop n bs) ≡ done (got ws e (drop e bs))) where
+    module _ (ws : List ℕ) (e : ℕ) (records : readRecords (h .rig .curves) (h .tests) [] n (drop n bs) ≡ done (got ws e (drop e bs))) where
       to-end : readBytes bs ≡ _>>_ (atEnd 6 e (drop e bs)) (done (record { head = h; wants = ws }))
       unfolding readBytes someTests demand _>>=_ _>>_
       to-end = rw (head, lt-ltb 0 (h .tests) some, records) refl
@@ -130,7 +130,7 @@ module _ (bs old : List ℕ) where
   unfolding readJobAnswer readJobWants readJob _>>=_ mapped leaves
   job-refused k f e = (rw e refl, rw e refl)
 
-  module _ (j : Job) (read : readBytes bs ≡ done j) where
+  module _ (j : Request) (read : readBytes bs ≡ done j) where
     pub job-short : length old < j .head .tests → Answered bs old (refused 9 (j .head .tests)) old
     unfolding readJobAnswer readJobWants readJob room demand _>>=_ _>>_ mapped leaves
     job-short h = (rw (read, lt-leb (j .head .tests) (length old) h) refl, rw (read, lt-leb (j .head .tests) (length old) h) refl)

@@ -14,6 +14,7 @@ use Rattle.bitset.specs.Set.{_∪_, bit, inside}
 use Rattle.bitset.proofs.Bits.{bit-suc, bit-beyond, same-by-bits}
 use Rattle.job.specs.Refusal.{Outcome, done, refused, _>>=_, _>>_, demand}
 use Rattle.job.specs.Handed.{allCurves}
+pub use Rattle.job_bytes.specs.SetBytes.{Bytes}
 use Rattle.job_bytes.specs.SetBytes.{groupOf, stands, groupBytes, groupMap, Got, got, byteAt, readGroup, readGroups}
 use Rattle.job.proofs.Laws.{refused≢done, demand-true, both-bind}
 use Rattle.job.proofs.JobExact.{below-inside, inside-below}
@@ -109,11 +110,6 @@ set-back owed empty unknown curves i s rest c h =
     ∙ rw v refl
 
 -- ---- read, then written
-
--- every entry is a byte
-abbrev pub Bytes : List ℕ → Type 0
-Bytes [] = Unit {0}
-Bytes (b ∷ bs) = (b < 256) × Bytes bs
 
 -- what was read: the set x of k groups from group j on
 record Exact (curves M k j acc i : ℕ) (bs : List ℕ) (g : Got ℕ) : Type 0 where

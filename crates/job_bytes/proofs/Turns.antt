@@ -1,5 +1,5 @@
 -- One turn of a loop over bytes: what a rule that reads comes to at byte k of the part bs, which begins at offset a of the input.
-use mathlib.Core.Path.{_≡_, refl, _∙_}
+use mathlib.Core.Path.{_≡_, refl}
 use mathlib.Core.List.{List, [], _∷_, _++_}
 use Prim.Native.Nat.{ℕ, suc, _+_, _-_, _≤_, _<_}
 use native.Mathlib.Omega.{arith}
@@ -7,7 +7,6 @@ use native.Mathlib.Numerals.{add-one}
 use lib.ListN.{length, getD, drop, drop-of-length-le}
 use lib.Seq.{drop-cons}
 use Rattle.bitset.specs.Set.{_∪_, bit}
-use Rattle.bitset.proofs.Bits.{bit-empty, bit-∪, same-by-bits}
 use Rattle.job.specs.Refusal.{Outcome, done, refused, _>>=_}
 use Rattle.job_bytes.specs.SetBytes.{Got, got, byteAt, readGroup, readGroups}
 use Rattle.job_bytes.specs.JobBytes.{readRecord, readRecords}
@@ -30,23 +29,14 @@ module _ (o a k : ℕ) (bs : List ℕ) where
   byte-owed h = byte-none o (a + k) k bs h
 
 -- ---- one group
-∪-none : (s : ℕ) → s ∪ 0 ≡ s
-∪-none s = same-by-bits (s ∪ 0) s (λ c. omega (arith, bit-∪ c s 0, bit-empty c))
-
 module _ (owed empty unknown curves map s a k j : ℕ) (bs : List ℕ) (below : j < 8) where
   abbrev groupsHere : Outcome (Got ℕ)
   groupsHere = readGroups owed empty unknown curves (8 - j) j map s (a + k) (drop k bs)
 
-  abbrev groupsNext : ℕ → ℕ → Outcome (Got ℕ)
-  groupsNext t m = readGroups owed empty unknown curves (8 - (j + 1)) (j + 1) map t (a + m) (drop m bs)
-
-  pub cons-here : groupsHere ≡ _>>=_ (readGroup owed empty unknown curves (bit j map) j (a + k) (drop k bs)) (λ g. readGroups owed empty unknown curves (8 - (j + 1)) (j + 1) map (s ∪ g .value) (g .next) (g .rest))
+  pub cons-here : groupsHere
+      ≡ _>>=_ (readGroup owed empty unknown curves (bit j map) j (a + k) (drop k bs)) (λ g. readGroups owed empty unknown curves (8 - (j + 1)) (j + 1) map (s ∪ g .value) (g .next) (g .rest))
   unfolding readGroups
   cons-here = let e : 8 - j ≡ suc (8 - (j + 1)) = omega arith in rw (e, add-one j) refl
-
-  pub group-absent : bit j map ≡ 0 → groupsHere ≡ groupsNext s k
-  unfolding readGroup _>>=_
-  group-absent z = cons-here ∙ rw (z, ∪-none s) refl
 
 pub groups-end : (owed empty unknown curves map s i : ℕ) (bs : List ℕ) → readGroups owed empty unknown curves (8 - 8) 8 map s i bs ≡ done (got s i bs)
 unfolding readGroups

@@ -6,13 +6,22 @@ use lib.ListN.{length, getD}
 use lib.Dec.{ltb, eqb}
 use Rattle.job.specs.declared.Head.{Head}
 use Rattle.job.specs.Refusal.{Outcome, done, refused, _>>=_, _>>_, mapped, demand, room, leaves}
+use Rattle.job.specs.Words.{Job, jobOf}
 use Rattle.job.specs.Handed.{between, someTests, jobKnownBy}
 use Rattle.job_bytes.specs.declared.fields.Field.{Field}
 use Rattle.job_bytes.specs.SetBytes.{setBytes, Got, got, byteAt, readGroups}
 
-pub record Job : Type 0 where
+-- what job bytes hold: the numbers of the head, and the wants of each test
+pub record Request : Type 0 where
   pub head : Head
   pub wants : List ℕ
+
+-- the job in it, and the request for the job to be ordered by a method
+abbrev pub jobIn : Request → Job
+jobIn q = jobOf (q .head .rig) (q .wants)
+
+abbrev pub request : ℕ → Job → Request
+request method j = record { head = record { rig = j .rig; tests = length (j .wants); method = method }; wants = j .wants }
 
 -- a field of the head: its bytes, its range, and its value when absent
 abbrev field : (width low high absent : ℕ) → Field
@@ -48,7 +57,11 @@ readFields (f ∷ fs) map vs i bs = do
   readFields fs (map / 2) (vs ++ (v .value ∷ [])) (v .next) (v .rest)
 
 abbrev pub headOf : List ℕ → Head
-headOf vs = record { places = getD vs 0 0; curves = getD vs 1 0; tests = getD vs 2 0; method = getD vs 3 0 }
+headOf vs = record { rig = record { places = getD vs 0 0; curves = getD vs 1 0 }; tests = getD vs 2 0; method = getD vs 3 0 }
+
+-- .. and the values of a head
+abbrev pub valuesOf : Head → List ℕ
+valuesOf h = h .rig .places ∷ h .rig .curves ∷ h .tests ∷ h .method ∷ []
 
 -- "The first byte is a bit map"; "Bits 4 to 7 are zero": those of no field
 unfoldable pub readHead : List ℕ → Outcome (Got Head)
@@ -77,16 +90,16 @@ atEnd k i [] = done tt
 atEnd k i (b ∷ bs) = refused k i
 
 -- "Job bytes: head map, each field, 5, records in byte order, 6"
-unfoldable pub readBytes : List ℕ → Outcome Job
+unfoldable pub readBytes : List ℕ → Outcome Request
 readBytes bs = do
   h ← readHead bs
   someTests (h .value .tests)
-  r ← readRecords (h .value .curves) (h .value .tests) [] (h .next) (h .rest)
+  r ← readRecords (h .value .rig .curves) (h .value .tests) [] (h .next) (h .rest)
   atEnd 6 (r .next) (r .rest)
   done (record { head = h .value; wants = r .value })
 
 -- "then 9"
-unfoldable pub readJob : List ℕ → ℕ → Outcome Job
+unfoldable pub readJob : List ℕ → ℕ → Outcome Request
 readJob bs lent = do
   j ← readBytes bs
   room lent (j .head .tests)
@@ -115,22 +128,19 @@ unfoldable pub recordBytes : List ℕ → List ℕ
 recordBytes [] = []
 recordBytes (w ∷ ws) = setBytes w ++ recordBytes ws
 
-unfoldable pub jobBytes : Job → List ℕ
-jobBytes j = headBytes (j .head .places ∷ j .head .curves ∷ j .head .tests ∷ j .head .method ∷ []) ++ recordBytes (j .wants)
-
-abbrev pub jobOf : ℕ → ℕ → ℕ → List ℕ → Job
-jobOf places curves method wants = record { head = record { places = places; curves = curves; tests = length wants; method = method }; wants = wants }
+unfoldable pub jobBytes : Request → List ℕ
+jobBytes q = headBytes (valuesOf (q .head)) ++ recordBytes (q .wants)
 
 -- "writing a job 9", after 5 and 10
-unfoldable pub writeJob : ℕ → ℕ → ℕ → List ℕ → ℕ → Outcome (List ℕ)
-writeJob places curves method wants lent = do
-  jobKnownBy places curves method wants
-  room lent (length (jobBytes (jobOf places curves method wants)))
-  done (jobBytes (jobOf places curves method wants))
+unfoldable pub writeJob : ℕ → Job → ℕ → Outcome (List ℕ)
+writeJob method j lent = do
+  jobKnownBy method j
+  room lent (length (jobBytes (request method j)))
+  done (jobBytes (request method j))
 
 -- what writing answers, and what the lent buffer holds afterwards
-unfoldable pub writeJobAnswer : ℕ → ℕ → ℕ → List ℕ → List ℕ → Outcome ℕ
-writeJobAnswer places curves method wants old = mapped length (writeJob places curves method wants (length old))
+unfoldable pub writeJobAnswer : ℕ → Job → List ℕ → Outcome ℕ
+writeJobAnswer method j old = mapped length (writeJob method j (length old))
 
-unfoldable pub writeJobBuffer : ℕ → ℕ → ℕ → List ℕ → List ℕ → List ℕ
-writeJobBuffer places curves method wants old = leaves (writeJob places curves method wants (length old)) old
+unfoldable pub writeJobBuffer : ℕ → Job → List ℕ → List ℕ
+writeJobBuffer method j old = leaves (writeJob method j (length old)) old

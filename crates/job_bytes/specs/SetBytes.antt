@@ -1,12 +1,17 @@
 -- A set of curves in bytes: "a group map, where bit j says that a byte follows for curves 8j to 8j+7, bytes in rising j, bit i of it being curve 8j+i".
-use mathlib.Core.List.{List, [], _∷_, _++_}
-use Prim.Native.Nat.{ℕ, zero, suc, _+_, _*_, _/_, _%_, _^_}
+use mathlib.Core.List.{List, [], _∷_}
+use Prim.Native.Nat.{ℕ, zero, suc, _+_, _*_, _/_, _%_, _^_, _<_}
 use lib.Dec.{ltb}
 use Rattle.bitset.specs.Set.{_∪_, bit, inside}
 use Rattle.job_bytes.specs.declared.set_bytes.GroupRead.{GroupRead}
 use Rattle.job_bytes.specs.declared.set_bytes.GroupRead.the-variants.{Curves, Owed, Empty, Unknown}
 use Rattle.job.specs.Refusal.{Outcome, done, refused, _>>=_, _>>_, demand}
 use Rattle.job.specs.Handed.{allCurves}
+
+-- a list of bytes: each entry is below 256
+abbrev pub Bytes : List ℕ → Type 0
+Bytes [] = Unit {0}
+Bytes (b ∷ bs) = (b < 256) × Bytes bs
 
 -- ---- written
 

@@ -5,6 +5,7 @@ ghost use mathlib.Core.List.{List, [], _++_};
 ghost use Prim.Native.Nat.{ℕ, _+_, _*_, _≤_};
 ghost use lib.ListN.{length, take, drop};
 ghost use lib.Dec.{eqb};
+ghost use Rattle.lists.specs.Lent.{was, after};
 ghost use Rattle.job.specs.Handed.{between};
 ghost use Rattle.job.specs.Refusal.{done, mapped, readOutcome, countOutcome};
 ghost use Rattle.job_bytes.specs.SetBytes.{Got, got};
@@ -14,17 +15,18 @@ use crate::fields::Field;
 use crate::fields::MAPS;
 use crate::fields::row;
 use crate::set_bytes::GroupRead;
-use crate::set_bytes::read_group;
+use crate::set_bytes::read_due;
 use job::Counted;
 use job::Examined;
 use job::Head;
 use job::JobRead;
 use job::Refusal;
+use job::Rig;
 
 // "Two-byte numbers have the low byte first": the number of so many bytes at a position.
 fn number_at(job: &[u8], at: usize, width: usize) -> usize
     requires { ⌜ (width ≤ 8) × (at + width ≤ length (now job)) ⌝ }
-    ensures { λ r. ⌜ readNumber width at (drop at (now (job .entry))) ≡ done (got r (at + width) (drop (at + width) (now (job .entry)))) ⌝ }
+    ensures { λ r. ⌜ readNumber width at (drop at (was job)) ≡ done (got r (at + width) (drop (at + width) (was job))) ⌝ }
 {
     let mut value: usize = 0;
     let mut k = width;
@@ -51,8 +53,8 @@ fn holds(field: Field, value: usize) -> bool
 // A field, if its bit stands: "cut before value". The next one begins at `at + stands * width`.
 fn read_field(job: &[u8], at: usize, stands: usize, field: Field) -> Counted
     requires { ⌜ (stands ≤ 1) × (field .width ≤ 8) × (at ≤ length (now job)) ⌝ }
-    ensures { λ r. ⌜ readField field stands at (drop at (now (job .entry)))
-        ≡ mapped (λ v. got v (at + stands * field .width) (drop (at + stands * field .width) (now (job .entry)))) (countOutcome r) ⌝ }
+    ensures { λ r. ⌜ readField field stands at (drop at (was job))
+        ≡ mapped (λ v. got v (at + stands * field .width) (drop (at + stands * field .width) (was job))) (countOutcome r) ⌝ }
 {
     if stands == 0 {
         return Counted::Count(field.absent);
@@ -71,11 +73,13 @@ fn read_field(job: &[u8], at: usize, stands: usize, field: Field) -> Counted
 // A head of its fields' values.
 fn head_of(values: &[usize]) -> Head
     requires { ⌜ 4 ≤ length (now values) ⌝ }
-    ensures { λ r. ⌜ r ≡ headOf (now (values .entry)) ⌝ }
+    ensures { λ r. ⌜ r ≡ headOf (was values) ⌝ }
 {
     Head {
-        places: values[0],
-        curves: values[1],
+        rig: Rig {
+            places: values[0],
+            curves: values[1],
+        },
         tests: values[2],
         method: values[3],
     }
@@ -84,7 +88,7 @@ fn head_of(values: &[usize]) -> Head
 // The head: "The first byte is a bit map; then only the fields whose bit stands, in bit order." Their values go to `values`; answers where the head ends.
 fn read_head(job: &[u8], values: &mut [usize]) -> Counted
     requires { ⌜ length (now values) ≡ length fields ⌝ }
-    ensures { λ r. ⌜ readHead (now (job .entry)) ≡ mapped (λ n. got (headOf (now (values .exit))) n (drop n (now (job .entry)))) (countOutcome r) ⌝ }
+    ensures { λ r. ⌜ readHead (was job) ≡ mapped (λ n. got (headOf (after values)) n (drop n (was job))) (countOutcome r) ⌝ }
 {
     if job.len() == 0 {
         return Counted::Refused(Refusal::Truncated(0));
@@ -112,12 +116,13 @@ fn read_head(job: &[u8], values: &mut [usize]) -> Counted
     Counted::Count(at)
 }
 
-// One record for each test, from `start` on; answers where the last one ends. "The first faulty byte ends the reading, in the middle of a test's groups
-// as well."
+// One record for each test, from `start` on, always eight rounds a record; answers where the last one ends. "The first faulty byte ends the reading, in the
+// middle of a test's groups as well."
 fn read_records(job: &[u8], start: usize, tests: usize, curves: usize, list: &mut [u64]) -> Counted
     requires { ⌜ (start ≤ length (now job)) × (tests ≤ length (now list)) × (curves ≤ 64) ⌝ }
-    ensures end { λ r. ⌜ countOutcome r ≡ mapped (λ g. g .next) (readRecords curves tests [] start (drop start (now (job .entry)))) ⌝ }
-    ensures sets { λ _. ⌜ ((g : Got (List ℕ)) → readRecords curves tests [] start (drop start (now (job .entry))) ≡ done g → take tests (now (list .exit)) ≡ g .value) ⌝ }
+    ensures end { λ r. ⌜ countOutcome r ≡ mapped (λ g. g .next) (readRecords curves tests [] start (drop start (was job))) ⌝ }
+    ensures sets { λ _. ⌜ ((g : Got (List ℕ)) → readRecords curves tests [] start (drop start (was job)) ≡ done g
+        → take tests (after list) ≡ g .value) ⌝ }
 {
     let mut answer = Examined::Passed;
     let mut at = start;
@@ -134,26 +139,24 @@ fn read_records(job: &[u8], start: usize, tests: usize, curves: usize, list: &mu
         let mut used: usize = 1;
         let mut j: usize = 0;
         while j < 8 {
-            if (map >> j) % 2 == 1 {
-                match read_group(rest, used, j, curves) {
-                    GroupRead::Curves(group) => {
-                        set = set | group;
-                        used += 1;
-                    }
-                    GroupRead::Owed => {
-                        answer = Examined::Refused(Refusal::Truncated(job.len()));
-                        break 'tests;
-                    }
-                    GroupRead::Empty => {
-                        let offset = at + used;
-                        answer = Examined::Refused(Refusal::EmptyGroup(offset));
-                        break 'tests;
-                    }
-                    GroupRead::Unknown => {
-                        let offset = at + used;
-                        answer = Examined::Refused(Refusal::UnknownCurve(offset));
-                        break 'tests;
-                    }
+            match read_due(rest, used, map, j, curves) {
+                GroupRead::Curves(group) => {
+                    set = set | group;
+                    used += ((map >> j) % 2) as usize;
+                }
+                GroupRead::Owed => {
+                    answer = Examined::Refused(Refusal::Truncated(job.len()));
+                    break 'tests;
+                }
+                GroupRead::Empty => {
+                    let offset = at + used;
+                    answer = Examined::Refused(Refusal::EmptyGroup(offset));
+                    break 'tests;
+                }
+                GroupRead::Unknown => {
+                    let offset = at + used;
+                    answer = Examined::Refused(Refusal::UnknownCurve(offset));
+                    break 'tests;
                 }
             }
             j += 1;
@@ -171,7 +174,7 @@ fn read_records(job: &[u8], start: usize, tests: usize, curves: usize, list: &mu
 // The first n numbers of `from` go to the front of `to`.
 fn copy_front(to: &mut [u64], from: &[u64], n: usize)
     requires { ⌜ (n ≤ length (now from)) × (n ≤ length (now to)) ⌝ }
-    ensures { λ _. ⌜ now (to .exit) ≡ take n (now (from .entry)) ++ drop n (now (to .entry)) ⌝ }
+    ensures { λ _. ⌜ after to ≡ take n (was from) ++ drop n (was to) ⌝ }
 {
     let mut i = 0;
     while i < n {
@@ -183,15 +186,15 @@ fn copy_front(to: &mut [u64], from: &[u64], n: usize)
 // The tests behind a head that was read, from `start` on: 5, the records, 6, 9.
 fn read_tests(job: &[u8], head: Head, start: usize, wants: &mut [u64]) -> JobRead
     requires { ⌜ readHead (now job) ≡ done (got head start (drop start (now job))) ⌝ }
-    ensures answer { λ r. ⌜ readOutcome r ≡ readJobAnswer (now (job .entry)) (now (wants .entry)) ⌝ }
-    ensures lent { λ _. ⌜ now (wants .exit) ≡ readJobWants (now (job .entry)) (now (wants .entry)) ⌝ }
+    ensures answer { λ r. ⌜ readOutcome r ≡ readJobAnswer (was job) (was wants) ⌝ }
+    ensures lent { λ _. ⌜ after wants ≡ readJobWants (was job) (was wants) ⌝ }
 {
     let tests = head.tests;
     if tests == 0 {
         return JobRead::Refused(Refusal::NoTests);
     }
-    let mut list = [0u64; 256];
-    match read_records(job, start, tests, head.curves, &mut list) {
+    let mut list = [0u64; job::MOST_TESTS];
+    match read_records(job, start, tests, head.rig.curves, &mut list) {
         Counted::Refused(r) => JobRead::Refused(r),
         Counted::Count(end) => {
             if end < job.len() {
@@ -208,8 +211,8 @@ fn read_tests(job: &[u8], head: Head, start: usize, wants: &mut [u64]) -> JobRea
 
 // Reads job bytes; on success the wants of the tests stand at the front of `wants`.
 pub fn read_job(job: &[u8], wants: &mut [u64]) -> JobRead
-    ensures answer { λ r. ⌜ readOutcome r ≡ readJobAnswer (now (job .entry)) (now (wants .entry)) ⌝ }
-    ensures lent { λ _. ⌜ now (wants .exit) ≡ readJobWants (now (job .entry)) (now (wants .entry)) ⌝ }
+    ensures answer { λ r. ⌜ readOutcome r ≡ readJobAnswer (was job) (was wants) ⌝ }
+    ensures lent { λ _. ⌜ after wants ≡ readJobWants (was job) (was wants) ⌝ }
 {
     let mut values = [0usize; FIELDS];
     match read_head(job, &mut values) {

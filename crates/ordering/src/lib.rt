@@ -2,10 +2,13 @@
 use job::Counted;
 use job::Examined;
 use job::Refusal;
+use job::Rig;
 ghost use mathlib.Core.Path.{_≡_};
 ghost use Prim.Native.Nat.{_≤_};
 ghost use lib.ListN.{length};
+ghost use Rattle.lists.specs.Lent.{was, after};
 ghost use Rattle.job.specs.Refusal.{countOutcome, overwritten};
+ghost use Rattle.job.specs.Words.{jobOf};
 ghost use Rattle.ordering.specs.Methods.{orderBy};
 ghost use Rattle.ordering.specs.Ordering.{orderAnswer, orderList};
 
@@ -14,7 +17,7 @@ mod growing;
 // The order of the method.
 fn write_order(places: usize, method: usize, wants: &[u64], order: &mut [u16])
     requires { ⌜ (length (now wants) ≤ 256) × (length (now wants) ≤ length (now order)) ⌝ }
-    ensures { λ _. ⌜ now (order .exit) ≡ overwritten (orderBy method places (now (wants .entry))) (now (order .entry)) ⌝ }
+    ensures { λ _. ⌜ after order ≡ overwritten (orderBy method places (was wants)) (was order) ⌝ }
 {
     if method == 0 {
         packages::listed_order(wants.len(), order);
@@ -33,32 +36,17 @@ fn write_order(places: usize, method: usize, wants: &[u64], order: &mut [u16])
 
 // Orders the tests: "5, 10 in its own order, then for ordering 7, 9". Answers the number of tests, which are in the first entries of the lent list; nothing
 // lent changes under a refusal.
-pub fn order_tests(
-    places: usize,
-    curves: usize,
-    method: usize,
-    wants: &[u64],
-    order: &mut [u16],
-) -> Counted
-    ensures answer { λ r. ⌜ countOutcome r ≡ orderAnswer places curves method (now (wants .entry)) (now (order .entry)) ⌝ }
-    ensures list { λ _. ⌜ now (order .exit) ≡ orderList places curves method (now (wants .entry)) (now (order .entry)) ⌝ }
+pub fn order_tests(rig: Rig, method: usize, wants: &[u64], order: &mut [u16]) -> Counted
+    ensures answer { λ r. ⌜ countOutcome r ≡ orderAnswer method (jobOf rig (was wants)) (was order) ⌝ }
+    ensures list { λ _. ⌜ after order ≡ orderList method (jobOf rig (was wants)) (was order) ⌝ }
 {
-    match job::examine_by(places, curves, method, wants) {
-        Examined::Refused(r) => {
-            return Counted::Refused(r);
-        }
-        Examined::Passed => {}
-    }
-    match job::examine_sizes(places, wants) {
-        Examined::Refused(r) => {
-            return Counted::Refused(r);
-        }
-        Examined::Passed => {}
+    if let Examined::Refused(r) = job::examine_ordering(rig, method, wants) {
+        return Counted::Refused(r);
     }
     let n = wants.len();
     if order.len() < n {
         return Counted::Refused(Refusal::BufferTooSmall(n));
     }
-    write_order(places, method, wants, order);
+    write_order(rig.places, method, wants, order);
     Counted::Count(n)
 }

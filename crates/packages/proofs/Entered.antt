@@ -9,11 +9,10 @@ use Rattle.job.specs.Refusal.{done, demand, room, overwritten}
 use Rattle.job.specs.Handed.{testsKnown}
 use Rattle.job.proofs.Laws.{demand-done, done-both, done-room, leaves-done, leaves-refused}
 use Rattle.job.proofs.Examination.{refused-both}
-use Rattle.job.proofs.Orders.{order-length}
 use Rattle.packages.specs.Tests.{upTo, entered}
 use Rattle.packages.specs.Packages.{packages}
 use Rattle.packages.proofs.Listed.{length-upTo}
-use Rattle.packages.proofs.Rounds.{packages-order}
+use Rattle.packages.proofs.Rounds.{packages-long}
 
 module _ (new old : List ℕ) where
   many : 256 < length new → entered new old ≡ old
@@ -46,14 +45,11 @@ module _ (n : ℕ) (old : List ℕ) where
 
 -- ---- 3
 module _ (places : ℕ) (wants : List ℕ) where
-  long : length (packages places wants) ≡ length wants
-  long = order-length (length wants) (packages places wants) (packages-order places wants)
-
   pub packages-many : (old : List ℕ) → 256 < length wants → entered (packages places wants) old ≡ old
-  packages-many old h = many (packages places wants) old (omega (arith, long))
+  packages-many old h = many (packages places wants) old (omega (arith, packages-long places wants))
 
   pub packages-short : (old : List ℕ) → length wants ≤ 256 → length old < length wants → entered (packages places wants) old ≡ old
-  packages-short old f h = short (packages places wants) old (omega (arith, long)) (omega (arith, long))
+  packages-short old f h = short (packages places wants) old (omega (arith, packages-long places wants)) (omega (arith, packages-long places wants))
 
   pub packages-all : (old : List ℕ) → length wants ≤ 256 → length wants ≤ length old → entered (packages places wants) old ≡ overwritten (packages places wants) old
-  packages-all old f h = all (packages places wants) old (omega (arith, long)) (omega (arith, long))
+  packages-all old f h = all (packages places wants) old (omega (arith, packages-long places wants)) (omega (arith, packages-long places wants))

@@ -4,9 +4,11 @@ use mathlib.Core.List.{List, [], _∷_, _++_, map, reverse, reverse-append, reve
 use Prim.Native.Nat.{ℕ, zero, suc, _+_, _-_, _≤_, _<_}
 use native.Mathlib.Omega.{arith}
 use native.Mathlib.Numerals.{add-one}
-use lib.ListN.{length, getD, take, drop, set, length-append, length-take, length-drop, length-reverse, replicate, drop-of-length-le}
-use lib.Seq.{take-at, drop-at, set-at, getD-at, take-suc, paste, paste-suc, paste-zero, length-paste, take-paste, getD-drop, getD-append-add, length-take-le, take-all}
+use lib.ListN.{length, getD, take, drop, set, length-append, length-take, length-drop, length-reverse, length-set, replicate, drop-of-length-le, take-append-drop}
+use lib.Seq.{take-at, drop-at, set-at, getD-at, take-suc, paste, paste-suc, paste-zero, length-paste, take-paste, take-take, take-all}
+use lib.Seq.{getD-drop, getD-append-add, getD-take, getD-set-other, set-split, split-at, length-take-le}
 use Rattle.packages.specs.Packages.{flat}
+use Rattle.packages.specs.Contracts.{sumOf, joinedEntry}
 
 -- ---- reversing in place: xs is wanted but for a middle of d entries from index i, which is still to be reversed
 pub record Middle (xs wanted : List ℕ) (i d : ℕ) : Type 0 where
@@ -146,10 +148,6 @@ moved-all ys s k a b h =
 
 -- ---- sums
 
-pub sumOf : List ℕ → ℕ
-sumOf [] = 0
-sumOf (x ∷ xs) = x + sumOf xs
-
 sum-append : (xs ys : List ℕ) → sumOf (xs ++ ys) ≡ sumOf xs + sumOf ys
 unfolding sumOf
 sum-append [] ys = omega arith
@@ -159,11 +157,45 @@ pub sum-none : (xs : List ℕ) → sumOf (take 0 xs) ≡ 0
 unfolding sumOf
 sum-none xs = refl
 
+-- an entry, and those before and behind it
+pub sum-at : (xs : List ℕ) (k : ℕ) → k < length xs → sumOf xs ≡ sumOf (take k xs) + (getD xs k 0 + sumOf (drop (suc k) xs))
+unfolding sumOf
+sum-at xs k h = ap sumOf (split-at xs k 0 h) ∙ sum-append (take k xs) (getD xs k 0 ∷ drop (suc k) xs)
+
 pub sum-next : (xs : List ℕ) (k : ℕ) → k < length xs → sumOf (take (k + 1) xs) ≡ sumOf (take k xs) + getD xs k 0
 unfolding sumOf
 sum-next xs k h =
     let e : getD xs k 0 + 0 ≡ getD xs k 0 = omega arith in
     rw (add-one k, take-suc xs k 0 h) (sum-append (take k xs) (getD xs k 0 ∷ []) ∙ ap (λ (n : ℕ). sumOf (take k xs) + n) e)
+
+pub sum-take : (xs : List ℕ) (k : ℕ) → k ≤ length xs → sumOf (take k xs) ≤ sumOf xs
+sum-take xs k h = omega (arith, ap sumOf (take-append-drop k xs), sum-append (take k xs) (drop k xs))
+
+module _ (xs : List ℕ) (i j : ℕ) (h : i < j) (l : j < length xs) where
+  -- the entries i and j lie between those before i and the end
+  pub sum-pair : (sumOf (take i xs) + (getD xs i 0 + getD xs j 0) ≤ sumOf (take j xs) + getD xs j 0) × (sumOf (take j xs) + getD xs j 0 ≤ sumOf xs)
+  sum-pair =
+      let front = take j xs in
+      let e = sum-at front i (omega (arith, length-take-le j xs (omega arith))) in
+      let f : sumOf (take i front) ≡ sumOf (take i xs) = ap sumOf (take-take i j xs (omega arith)) in
+      (omega (arith, e, f, getD-take j xs i 0 h), omega (arith, sum-at xs j l))
+
+  -- the sum stays where two entries are joined
+  pub sum-joined : sumOf (joinedEntry xs i j (getD xs i 0 + getD xs j 0)) ≡ sumOf xs
+  unfolding sumOf
+  sum-joined =
+      let v = getD xs i 0 + getD xs j 0 in
+      let ys = set xs i v in
+      let n : i < length xs = omega arith in
+      omega (
+        arith,
+        sum-append (take j ys) (drop (suc j) ys),
+        sum-at ys j (omega (arith, length-set xs i v)),
+        getD-set-other xs i j v 0 (λ e. omega (arith, e)),
+        ap sumOf (set-split xs i v n),
+        sum-append (take i xs) (v ∷ drop (suc i) xs),
+        sum-at xs i n,
+      )
 
 pub sum-lengths : (ps : List (List ℕ)) → sumOf (map length ps) ≡ length (flat ps)
 unfolding sumOf flat
@@ -176,3 +208,11 @@ pub take-same : (x n m : ℕ) → n ≤ m → take n (replicate m x) ≡ replica
 take-same x zero m h = refl
 take-same x (suc n) zero h = absurd (omega arith)
 take-same x (suc n) (suc m) h = ap (λ (l : List ℕ). x ∷ l) (take-same x n m (omega arith))
+
+sum-same : (n : ℕ) → sumOf (replicate n 1) ≡ n
+unfolding sumOf
+sum-same zero = refl
+sum-same (suc n) = omega (arith, sum-same n)
+
+pub sum-ones : (n m : ℕ) → n ≤ m → sumOf (take n (replicate m 1)) ≡ n
+sum-ones n m h = ap sumOf (take-same 1 n m h) ∙ sum-same n

@@ -17,8 +17,9 @@ use Rattle.bitset.proofs.Bits.{size-empty}
 use Rattle.bitset.proofs.Laws.{∪-assoc, ⊆-∪, size-mono}
 use Rattle.lists.specs.Choice.{Found, nobody, found}
 use Rattle.packages.specs.Tests.{wantsOf, common}
+use Rattle.packages.specs.Contracts.{at}
 use Rattle.packages.specs.Packages.{Pair, shared, bestPair, closest, curvesOf, Try, try, pickTry, _orMore_, runFrom, head, tail, flipped}
-use Rattle.packages.proofs.Rows.{at, chosen, chosen-none, chosen-some, score, score-none, score-some, rowTo, pair-start, pair-take, pair-stay}
+use Rattle.packages.proofs.Rows.{chosen, chosen-none, chosen-some, score, score-none, score-some, rowTo, pair-start, pair-take, pair-stay}
 use Rattle.packages.proofs.Renew.{Best, row-found, row-best}
 use Rattle.packages.proofs.Runs.{run-more, run-stop, run-none}
 use Rattle.packages.proofs.State.{∪-none, curves-reverse}

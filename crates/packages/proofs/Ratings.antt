@@ -8,7 +8,7 @@ use native.Mathlib.Decide.{decLt, ℕ-discrete}
 use lib.ListN.{length, getD, set}
 use Rattle.lists.specs.Choice.{nobody}
 use Rattle.packages.specs.Packages.{bestPair}
-use Rattle.packages.specs.Ratings.{Rated}
+use Rattle.packages.specs.Contracts.{Rated}
 use Rattle.packages.proofs.Rows.{chosen, chosen-none, chosen-some, score, score-none, score-some, rowTo, pair-start, pair-take, pair-stay}
 use Rattle.packages.proofs.Renew.{row-found, rated-score}
 

@@ -7,13 +7,13 @@ use native.Mathlib.Omega.{arith}
 use native.Mathlib.Decide.{ℕ-discrete, decLt}
 use lib.ListN.{length, getD, take, drop, set, length-set, List·getD-append}
 use lib.Seq.{take-append-le, getD-take, getD-drop, getD-append-add, getD-set-same, getD-set-other, length-take-le}
-use lib.Dec.{ltb, eqb}
+use lib.Dec.{ltb}
 use borrow.Author.Tests.{lt-ltb, le-ltb, eq-eqb, ne-eqb}
 use Rattle.bitset.specs.Set.{_∪_}
 use Rattle.lists.specs.Choice.{Found, nobody, found}
 use Rattle.packages.specs.Tests.{common}
 use Rattle.packages.specs.Packages.{Pair}
-use Rattle.packages.specs.Ratings.{Rated}
+use Rattle.packages.specs.Contracts.{Rated, movedUp}
 use Rattle.packages.proofs.Rows.{chosen, chosen-some, chosen-none, score, score-none, score-some, rowTo, row-start, row-take, row-pass, row-keep}
 
 -- p is the best second for the first k among those below n: 0 where none fits, else the first of those with most in common
@@ -207,10 +207,6 @@ module _ (fits : ℕ → Bool) (cs ds : List ℕ) (i j : ℕ) (before : i < j) (
       go (yes l) e = omega (arith, old-low j x l, e)
       go (no l) e = absurd (omega (arith, old-high j x (omega arith), e))
 
-  joined-is : getD ds i 0 ≡ getD cs i 0 ∪ getD cs j 0
-  joined-is =
-      entry-at i ∙ ap (λ (m : ℕ). getD (set cs i (getD cs i 0 ∪ getD cs j 0)) m 0) (old-low j i before) ∙ getD-set-same cs i (getD cs i 0 ∪ getD cs j 0) 0 (omega arith)
-
   module _ (k : ℕ) (other : k ≡ i → ⊥) where
     score-is : (x : ℕ) → (x ≡ i → ⊥) → 0 < x → score ds k x ≡ score cs (oldPlace j k) (oldPlace j x)
     score-is x h l =
@@ -321,10 +317,6 @@ pub record Kept (i j r t : ℕ) : Type 0 where
 
 pub kept-none : (i j r t : ℕ) → t ≡ r - r % 256 → Kept i j r t
 kept-none i j r t e = record { same = omega (arith, e); partner = λ z. absurd (omega (arith, e)) }
-
--- what the code makes of a rating whose partner is not the first of the two
-abbrev pub movedUp : ℕ → ℕ → ℕ
-movedUp j r = cond (eqb (r % 256) j) (r - r % 256) (cond (ltb j (r % 256)) (r - 1) r)
 
 pub kept-moved : (i j r t : ℕ) → i < j → (0 < r % 256 → r % 256 ≡ i → ⊥) → t ≡ movedUp j r → Kept i j r t
 kept-moved i j r t l h e = go (ℕ-discrete (r % 256) j) (decLt j (r % 256))
@@ -478,11 +470,11 @@ front-rated fits cs ys zs n a b h k l =
     subst (Rated fits cs k) (sym (ap (λ (m : List ℕ). getD m k 0) (take-append-le n ys zs a) ∙ getD-take n ys k 0 (omega arith))) (h k l)
 
 -- the same where the curves were lent too, and the first n entries count
-pub fronts-rated : (fits : ℕ → Bool) (us vs ys zs : List ℕ) (n m : ℕ) → m ≡ n → n ≤ length us → n ≤ length ys → ((k : ℕ) → k < m → Rated fits (take m us) k (getD ys k 0))
+pub fronts-rated : (fits : ℕ → Bool) (us vs ys zs : List ℕ) (n m : ℕ) → m ≡ n → n ≤ length us → n ≤ length ys → ((k : ℕ) → k < length (take m us) → Rated fits (take m us) k (getD ys k 0))
     → (k : ℕ) → k < length (take n (us ++ vs)) → Rated fits (take n (us ++ vs)) k (getD (take n (ys ++ zs)) k 0)
 fronts-rated fits us vs ys zs n m e a b h k l =
     let f = take-append-le n us vs a in
     let low : k < n = omega (arith, ap length f, length-take-le n us a) in
     subst (λ (cs : List ℕ). Rated fits cs k (getD (take n (ys ++ zs)) k 0)) (sym f)
     (subst (Rated fits (take n us) k) (sym (ap (λ (q : List ℕ). getD q k 0) (take-append-le n ys zs b) ∙ getD-take n ys k 0 low))
-    (subst (λ (x : ℕ). Rated fits (take x us) k (getD ys k 0)) e (h k (omega arith))))
+    (subst (λ (x : ℕ). Rated fits (take x us) k (getD ys k 0)) e (h k (omega (arith, e, length-take-le m us (omega arith))))))

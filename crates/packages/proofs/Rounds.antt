@@ -10,9 +10,10 @@ use lib.Seq.{set-split, split-at, getD-set-other}
 use lib.Dec.{leb, ltb}
 use borrow.Author.Tests.{ltb-true}
 use Rattle.bitset.specs.Set.{size}
+use Rattle.lists.proofs.Tests.{both}
 use Rattle.lists.specs.Choice.{Found, nobody, found, keep, choose, bestOf}
 use Rattle.job.specs.Words.{count, IsOrder}
-use Rattle.job.proofs.Orders.{count-append, count-reverse}
+use Rattle.job.proofs.Orders.{count-append, count-reverse, order-length}
 use Rattle.packages.specs.Tests.{upTo}
 use Rattle.packages.specs.Packages.{Try, try, pickTry, _orMore_, flat, Pair, curvesOf, eligible, closer, bestPair, without, joined, closest, onPair, joinAll, flipped, secondRound, packages}
 use Rattle.packages.proofs.Listed.{upTo-order}
@@ -33,14 +34,10 @@ module _ {A : Type 0} (fair : A → Bool) (better : A → A → Bool) where
   keep-good P true x y h g = h refl
   keep-good P false x y h g = g
 
-  left : (b c : Bool) → b && c ≡ true → b ≡ true
-  left true c e = refl
-  left false c e = e
-
   choose-good : (P : A → Type 0) (x : A) (y : Found A) → (fair x ≡ true → P x) → Good P y → Good P (choose fair better x y)
   unfolding choose
   choose-good P x nobody h g = keep-good P (fair x) x nobody h g
-  choose-good P x (found y) h g = keep-good P (fair x && better x y) x (found y) (λ e. h (left (fair x) (better x y) e)) g
+  choose-good P x (found y) h g = keep-good P (fair x && better x y) x (found y) (λ e. h (both (fair x) (better x y) e .0)) g
 
   best-good : (P : A → Type 0) (f : ℕ → A) (n : ℕ) (y : Found A) → ((j : ℕ) → j < n → fair (f j) ≡ true → P (f j)) → Good P y → Good P (bestOf fair better f n y)
   unfolding bestOf
@@ -82,16 +79,12 @@ abbrev pub InOrder : ℕ → Pair → Type 0
 InOrder n q = (q .first < q .second) × (q .second < n)
 
 module _ (fits : ℕ → Bool) (cs : List ℕ) where
-  pair-good : (i : ℕ) → Good (InOrder (length cs)) (bestPair fits cs i)
+  pub pair-good : (i : ℕ) → Good (InOrder (length cs)) (bestPair fits cs i)
   unfolding bestPair
   pair-good zero = tt
   pair-good (suc i) =
       best-good (eligible fits cs) (closer cs) (InOrder (length cs)) (λ j. record { first = i; second = j }) (length cs) (bestPair fits cs i)
-      (λ j l e. (ltb-true i j (both-left (ltb i j) _ e), l)) (pair-good i)
-    where
-      both-left : (b c : Bool) → b && c ≡ true → b ≡ true
-      both-left true c e = refl
-      both-left false c e = e
+      (λ j l e. (ltb-true i j (both (ltb i j) _ e .0), l)) (pair-good i)
 
   pair-some : (i j k : ℕ) → i < k → j < length cs → eligible fits cs (record { first = i; second = j }) ≡ true → Some (bestPair fits cs k)
   unfolding bestPair
@@ -100,7 +93,9 @@ module _ (fits : ℕ → Bool) (cs : List ℕ) where
     where
       go : Dec (i ≡ k) → (i < k → j < length cs → eligible fits cs (record { first = i; second = j }) ≡ true → Some (bestPair fits cs k))
           → Some (bestOf (eligible fits cs) (closer cs) (λ j. record { first = k; second = j }) (length cs) (bestPair fits cs k))
-      go (yes q) ih = best-fair (eligible fits cs) (closer cs) (λ j. record { first = k; second = j }) (length cs) (bestPair fits cs k) j m (subst (λ (x : ℕ). eligible fits cs (record { first = x; second = j }) ≡ true) q e)
+      go (yes q) ih =
+          best-fair (eligible fits cs) (closer cs) (λ j. record { first = k; second = j }) (length cs) (bestPair fits cs k) j m
+          (subst (λ (x : ℕ). eligible fits cs (record { first = x; second = j }) ≡ true) q e)
       go (no q) ih = best-some (eligible fits cs) (closer cs) (λ j. record { first = k; second = j }) (length cs) (bestPair fits cs k) (ih (omega arith) m e)
 
 -- ---- a join
@@ -196,19 +191,24 @@ module _ (wants : List ℕ) (fits : ℕ → Bool) (join : List ℕ → List ℕ 
 
 -- ---- method 3
 
-count-try : (t n : ℕ) (a b : Try) → count t (a .order) ≡ n → count t (b .order) ≡ n → count t ((a orMore b) .order) ≡ n
+-- what holds of the four ways holds of the one that wins
+any-way : (P : List ℕ → Type 0) (a b : Try) → P (a .order) → P (b .order) → P ((a orMore b) .order)
 unfolding _orMore_
-count-try t n a b p q = go (ltb (a .meeting) (b .meeting))
+any-way P a b p q = go (ltb (a .meeting) (b .meeting))
   where
-    go : (c : Bool) → count t (pickTry c a b .order) ≡ n
+    go : (c : Bool) → P (pickTry c a b .order)
     go true = unfold pickTry in q
     go false = unfold pickTry in p
 
-count-flipped : (wants : List ℕ) (places t : ℕ) (a b : List ℕ) → count t (flipped wants places a b) ≡ count t a + count t b
+pub flipped-any : (wants : List ℕ) (places : ℕ) (a b : List ℕ) (P : List ℕ → Type 0)
+    → P (a ++ b) → P (a ++ reverse b) → P (reverse a ++ b) → P (reverse a ++ reverse b) → P (flipped wants places a b)
 unfolding flipped try
+flipped-any wants places a b P p q r s = any-way P _ _ (any-way P _ _ (any-way P _ _ p q) r) s
+
+count-flipped : (wants : List ℕ) (places t : ℕ) (a b : List ℕ) → count t (flipped wants places a b) ≡ count t a + count t b
 count-flipped wants places t a b =
-    count-try t _ _ _ (count-try t _ _ _ (count-try t _ _ _ (count-append t a b) (omega (arith, count-append t a (reverse b), count-reverse t b)))
-    (omega (arith, count-append t (reverse a) b, count-reverse t a))) (omega (arith, count-append t (reverse a) (reverse b), count-reverse t a, count-reverse t b))
+    flipped-any wants places a b (λ (l : List ℕ). count t l ≡ count t a + count t b) (count-append t a b) (omega (arith, count-append t a (reverse b), count-reverse t b))
+    (omega (arith, count-append t (reverse a) b, count-reverse t a)) (omega (arith, count-append t (reverse a) (reverse b), count-reverse t a, count-reverse t b))
 
 pub singles : (ts : List ℕ) → flat (map (λ t. t ∷ []) ts) ≡ ts
 unfolding flat
@@ -223,6 +223,9 @@ packages-order places wants = record { once = λ t l. same t ∙ upTo-order (len
         unfold packages in
         (round-total wants (λ u. true) (flipped wants places) t (count-flipped wants places t) _ _ ∙ round-total wants (λ u. leb (size u) places) _++_ t (count-append t) _ _
         ∙ ap (count t) (singles (upTo (length wants))))
+
+pub packages-long : (places : ℕ) (wants : List ℕ) → length (packages places wants) ≡ length wants
+packages-long places wants = order-length (length wants) (packages places wants) (packages-order places wants)
 
 -- "until one is left"
 pub one-left : (places : ℕ) (wants : List ℕ) (ps : List (List ℕ)) → length (secondRound wants places ps) ≤ 1

@@ -14,6 +14,7 @@ use Rattle.bitset.proofs.Laws.{size-le, size-∩-le}
 use Rattle.lists.specs.Choice.{Found, nobody, found, keep, choose, bestOf}
 use Rattle.lists.proofs.Chosen.{passed, best-skip}
 use Rattle.packages.specs.Tests.{common}
+use Rattle.packages.specs.Contracts.{at}
 use Rattle.packages.specs.Packages.{Pair, shared, eligible, closer, bestPair}
 
 -- ---- what is found after b, from what is found after nobody
@@ -62,9 +63,6 @@ module _ {A : Type 0} (fair : A → Bool) (key : A → ℕ) where
   best-after f (suc n) b = ap (choose fair higher (f n)) (best-after f n b) ∙ merge-choose (f n) b (bestOf fair higher f n nobody)
 
 -- ---- one row
-
-abbrev pub at : ℕ → ℕ → Pair
-at i j = record { first = i; second = j }
 
 -- the pair with the second j, none where j is 0
 abbrev pub chosen : ℕ → ℕ → Found Pair

@@ -1,11 +1,11 @@
--- The packages as the code holds them: a list of tests, package behind package, the length and the curves of each package; and what a turn of the rounds does.
+-- The packages as the code holds them, and what a turn of a round does.
 use mathlib.Core.Path.{_≡_, refl, sym, ap, _∙_, subst}
-use mathlib.Core.Bool.{Bool, true, false, _&&_, cond, false≢true}
+use mathlib.Core.Bool.{Bool, true, false, _&&_, cond}
 use mathlib.Core.List.{List, [], _∷_, _++_, map, map-append, reverse, reverse-cons, append-assoc}
 use Prim.Native.Nat.{ℕ, zero, suc, _+_, _-_, _^_, _≤_, _<_}
 use native.Mathlib.Omega.{arith}
-use lib.ListN.{length, getD, take, drop, set, length-append, length-drop, length-map, length-reverse, replicate, take-append-drop, List·getD-map}
-use lib.Seq.{take-at, drop-at, set-at, split-at, getD-drop, getD-take, take-take, take-append-le, length-take-le, take-suc, take-length}
+use lib.ListN.{length, getD, take, drop, set, length-append, length-drop, length-map, length-reverse, replicate, List·getD-map}
+use lib.Seq.{take-at, drop-at, set-at, split-at, getD-drop, take-append-le, length-take-le, take-suc, take-length, take-all}
 use lib.Dec.{leb, ltb}
 use lib.Bits.{or-comm}
 use borrow.Author.Tests.{le-leb}
@@ -15,10 +15,12 @@ use Rattle.bitset.proofs.Laws.{∪-assoc, ∪-lt, size-le}
 use Rattle.job.specs.Refusal.{overwritten}
 use Rattle.lists.specs.Choice.{Found, nobody, found, keep, choose, bestOf}
 use Rattle.packages.specs.Tests.{wantsOf, upTo}
-use Rattle.packages.specs.Packages.{flat, Pair, curvesOf, eligible, closer, bestPair, without, joined, onPair, closest, joinAll, Try, try, pickTry, _orMore_, flipped, firstRound, secondRound, packages}
-use Rattle.packages.proofs.Rounds.{Good, InOrder, length-joined, closest-good, singles}
+use Rattle.packages.specs.Packages.{flat, Pair, curvesOf, eligible, closer, bestPair, without, joined, onPair, closest, joinAll, packages}
+use Rattle.packages.specs.Contracts.{at, sumOf, joinedEntry, joinedCurves, fitsBy, joinBy, roundOf, Laid, within}
+use Rattle.packages.proofs.Rounds.{Good, InOrder, flipped-any, pair-good, length-joined, closest-good, singles, packages-long}
+use Rattle.packages.proofs.Lists.{sum-lengths}
 use Rattle.packages.proofs.Listed.{length-upTo}
-use Rattle.packages.proofs.Rows.{at, chosen, chosen-some}
+use Rattle.packages.proofs.Rows.{chosen, chosen-some, chosen-none}
 
 -- ---- the curves of joined and of reversed packages
 
@@ -50,33 +52,16 @@ module _ (wants : List ℕ) where
   unfolding curvesOf
   curves-map ps k = List·getD-map (curvesOf wants) ps k []
 
--- what holds of the four ways holds of the one that wins
-any-way : (P : List ℕ → Type 0) (a b : Try) → P (a .order) → P (b .order) → P ((a orMore b) .order)
-unfolding _orMore_
-any-way P a b p q = go (ltb (a .meeting) (b .meeting))
-  where
-    go : (c : Bool) → P (pickTry c a b .order)
-    go true = unfold pickTry in q
-    go false = unfold pickTry in p
-
--- how the packages a and b are joined in either round
-abbrev pub joinBy : Bool → List ℕ → ℕ → List ℕ → List ℕ → List ℕ
-joinBy flipping wants places a b = cond flipping (flipped wants places a b) (a ++ b)
-
 module _ (wants : List ℕ) (places : ℕ) (a b : List ℕ) where
-  flipped-any : (P : List ℕ → Type 0) → P (a ++ b) → P (a ++ reverse b) → P (reverse a ++ b) → P (reverse a ++ reverse b) → P (flipped wants places a b)
-  unfolding flipped try
-  flipped-any P p q r s = any-way P _ _ (any-way P _ _ (any-way P _ _ p q) r) s
-
   pub length-join : (flipping : Bool) → length (joinBy flipping wants places a b) ≡ length a + length b
   length-join true =
-      flipped-any (λ (l : List ℕ). length l ≡ length a + length b) (length-append a b) (omega (arith, length-append a (reverse b), length-reverse b))
+      flipped-any wants places a b (λ (l : List ℕ). length l ≡ length a + length b) (length-append a b) (omega (arith, length-append a (reverse b), length-reverse b))
       (omega (arith, length-append (reverse a) b, length-reverse a)) (omega (arith, length-append (reverse a) (reverse b), length-reverse a, length-reverse b))
   length-join false = length-append a b
 
   pub curves-join : (flipping : Bool) → curvesOf wants (joinBy flipping wants places a b) ≡ curvesOf wants a ∪ curvesOf wants b
   curves-join true =
-      flipped-any (λ (l : List ℕ). curvesOf wants l ≡ curvesOf wants a ∪ curvesOf wants b) (curves-append wants a b)
+      flipped-any wants places a b (λ (l : List ℕ). curvesOf wants l ≡ curvesOf wants a ∪ curvesOf wants b) (curves-append wants a b)
       (curves-append wants a (reverse b) ∙ ap (λ (u : ℕ). curvesOf wants a ∪ u) (curves-reverse wants b))
       (curves-append wants (reverse a) b ∙ ap (λ (u : ℕ). u ∪ curvesOf wants b) (curves-reverse wants a))
       (curves-append wants (reverse a) (reverse b) ∙ ap (λ (u : ℕ). u ∪ curvesOf wants (reverse b)) (curves-reverse wants a) ∙ ap (λ (u : ℕ). curvesOf wants a ∪ u) (curves-reverse wants b))
@@ -88,13 +73,6 @@ pub flat-append : (ps qs : List (List ℕ)) → flat (ps ++ qs) ≡ flat ps ++ f
 unfolding flat
 flat-append [] qs = refl
 flat-append (p ∷ ps) qs = ap (λ (l : List ℕ). p ++ l) (flat-append ps qs) ∙ sym (append-assoc p (flat ps) (flat qs))
-
--- a package is no longer than all together
-pub each-le : (ps : List (List ℕ)) (k : ℕ) → length (getD ps k []) ≤ length (flat ps)
-unfolding flat
-each-le [] k = omega arith
-each-le (p ∷ ps) zero = omega (arith, length-append p (flat ps))
-each-le (p ∷ ps) (suc k) = omega (arith, length-append p (flat ps), each-le ps k)
 
 module _ {A B : Type 0} (f : A → B) where
   pub map-take : (n : ℕ) (l : List A) → map f (take n l) ≡ take n (map f l)
@@ -114,7 +92,7 @@ module _ {A B : Type 0} (f : A → B) where
 
 -- a number for each package, after a join
 pub map-joined : (f : List ℕ → ℕ) (join : List ℕ → List ℕ → List ℕ) (ps : List (List ℕ)) (i j v : ℕ) → v ≡ f (join (getD ps i []) (getD ps j []))
-    → map f (joined join ps (at i j)) ≡ take j (set (map f ps) i v) ++ drop (suc j) (set (map f ps) i v)
+    → map f (joined join ps (at i j)) ≡ joinedEntry (map f ps) i j v
 unfolding joined without
 map-joined f join ps i j v e =
     let qs = set ps i (join (getD ps i []) (getD ps j [])) in
@@ -218,28 +196,6 @@ module _ (wants : List ℕ) (fits : ℕ → Bool) (join : List ℕ → List ℕ 
       go zero = unfold joinAll in refl
       go (suc k) = unfold joinAll onPair in rw e refl
 
--- the bound of either round
-abbrev pub fitsBy : Bool → ℕ → ℕ → Bool
-fitsBy flipping places u = cond flipping true (leb (size u) places)
-
--- the packages after the rounds that are left
-abbrev after : Bool → ℕ → List ℕ → List (List ℕ) → List (List ℕ)
-after flipping places wants ps = cond flipping (secondRound wants places ps) (secondRound wants places (firstRound wants places ps))
-
-pub after-join : (flipping : Bool) (places : ℕ) (wants : List ℕ) (ps : List (List ℕ)) (q : Pair)
-    → closest wants (fitsBy flipping places) (joinBy flipping wants places) ps ≡ found q
-    → after flipping places wants ps ≡ after flipping places wants (joined (joinBy flipping wants places) ps q)
-after-join true places wants ps q e = round-joins wants (λ u. true) (flipped wants places) ps q e
-after-join false places wants ps q e = ap (secondRound wants places) (round-joins wants (λ u. leb (size u) places) _++_ ps q e)
-
-pub after-turn : (places : ℕ) (wants : List ℕ) (ps : List (List ℕ)) → closest wants (fitsBy false places) (joinBy false wants places) ps ≡ nobody
-    → after false places wants ps ≡ after true places wants ps
-after-turn places wants ps e = ap (secondRound wants places) (round-stops wants (λ u. leb (size u) places) _++_ ps e)
-
-pub after-end : (places : ℕ) (wants : List ℕ) (ps : List (List ℕ)) → closest wants (fitsBy true places) (joinBy true wants places) ps ≡ nobody
-    → after true places wants ps ≡ ps
-after-end places wants ps e = round-stops wants (λ u. true) (flipped wants places) ps e
-
 -- a pair is eligible by one test where it is by another
 module _ (f g : ℕ → Bool) (cs : List ℕ) (h : (i j : ℕ) → f (getD cs i 0 ∪ getD cs j 0) ≡ g (getD cs i 0 ∪ getD cs j 0)) where
   same-choice : (x : Pair) (b : Found Pair) → choose (eligible f cs) (closer cs) x b ≡ choose (eligible g cs) (closer cs) x b
@@ -258,30 +214,17 @@ module _ (f g : ℕ → Bool) (cs : List ℕ) (h : (i j : ℕ) → f (getD cs i 
   same-pairs zero = refl
   same-pairs (suc n) = same-row n (length cs) (bestPair f cs n) ∙ ap (bestOf (eligible g cs) (closer cs) (λ j. at n j) (length cs)) (same-pairs n)
 
--- ---- the state of the loop
-
-pub record State (places : ℕ) (wants rest tests lengths curves : List ℕ) (left : ℕ) (flipping : Bool) (bound : ℕ) : Type 0 where
-  pub ps : List (List ℕ)
-  pub count : length ps ≡ left
-  pub lens : take left lengths ≡ map length ps
-  pub sets : take left curves ≡ map (curvesOf wants) ps
-  pub all : tests ≡ flat ps ++ rest
-  pub whole : length (flat ps) ≡ length wants
-  pub bounded : bound ≡ cond flipping 64 places
-  pub goes : packages places wants ≡ flat (after flipping places wants ps)
+-- ---- "Each test begins as a package, in list order"
 
 -- the order after the tests were listed in it
-module _ (n : ℕ) (old order : List ℕ) (listed : order ≡ overwritten (upTo n) old) where
-  pub listed-rest : drop n order ≡ drop n old
-  unfolding overwritten
-  listed-rest = ap (drop n) listed ∙ drop-at (upTo n) (drop (length (upTo n)) old) n (length-upTo n) ∙ ap (λ (k : ℕ). drop k old) (length-upTo n)
+pub listed-first : (n : ℕ) (old order : List ℕ) → order ≡ overwritten (upTo n) old → order ≡ upTo n ++ drop n old
+unfolding overwritten
+listed-first n old order listed = listed ∙ ap (λ (k : ℕ). upTo n ++ drop k old) (length-upTo n)
 
-  pub listed-first : order ≡ upTo n ++ drop n order
-  unfolding overwritten
-  listed-first = listed ∙ ap (λ (k : ℕ). upTo n ++ drop k old) (length-upTo n) ∙ ap (λ (l : List ℕ). upTo n ++ l) (sym listed-rest)
+abbrev pub firstPackages : List ℕ → List (List ℕ)
+firstPackages wants = map (λ t. t ∷ []) (upTo (length wants))
 
--- "Each test begins as a package, in list order"
-module _ (places : ℕ) (wants rest tests lengths curves : List ℕ) where
+module _ (wants : List ℕ) where
   single-lengths : (ts : List ℕ) (n : ℕ) → length ts ≡ n → map length (map (λ t. t ∷ []) ts) ≡ replicate n 1
   single-lengths [] zero e = refl
   single-lengths [] (suc n) e = absurd (omega (arith, e))
@@ -297,200 +240,156 @@ module _ (places : ℕ) (wants rest tests lengths curves : List ℕ) where
       ∙ ap (λ (l : List ℕ). l ++ (curvesOf wants (n ∷ []) ∷ [])) (single-curves n (omega arith))
       ∙ ap (λ (u : ℕ). take n wants ++ (u ∷ [])) (one-curves wants n) ∙ sym (take-suc wants n 0 (omega arith))
 
-  pub state-start : tests ≡ upTo (length wants) ++ rest → take (length wants) lengths ≡ replicate (length wants) 1 → take (length wants) curves ≡ wants
-      → State places wants rest tests lengths curves (length wants) false places
-  state-start t l u =
+  pub first-laid : (rest tests lengths : List ℕ) → tests ≡ upTo (length wants) ++ rest → lengths ≡ replicate (length wants) 1 → Laid (firstPackages wants) rest tests lengths
+  first-laid rest tests lengths t l =
       let n = length wants in
-      let ones = map (λ t. t ∷ []) (upTo n) in
       record {
-        ps = ones;
-        count = length-map (upTo n) (λ t. t ∷ []) ∙ length-upTo n;
-        lens = l ∙ sym (single-lengths (upTo n) n (length-upTo n));
-        sets = u ∙ sym (single-curves n (omega arith) ∙ take-length wants);
         all = t ∙ ap (λ (l : List ℕ). l ++ rest) (sym (singles (upTo n)));
-        whole = ap length (singles (upTo n)) ∙ length-upTo n;
-        bounded = refl;
-        goes = unfold packages in refl;
+        lens = l ∙ sym (single-lengths (upTo n) n (length-upTo n));
       }
 
-module _ {places : ℕ} {wants rest tests lengths curves : List ℕ} {left : ℕ} {flipping : Bool} {bound : ℕ} (s : State places wants rest tests lengths curves left flipping bound) where
-  length-at : (k : ℕ) → k < left → getD lengths k 0 ≡ length (getD (s .ps) k [])
-  length-at k h = sym (getD-take left lengths k 0 h) ∙ ap (λ (l : List ℕ). getD l k 0) (s .lens) ∙ List·getD-map length (s .ps) k []
+  pub first-sets : wants ≡ map (curvesOf wants) (firstPackages wants)
+  first-sets = sym (single-curves (length wants) (omega arith) ∙ take-length wants)
 
-  curves-at : (k : ℕ) → k < left → getD curves k 0 ≡ curvesOf wants (getD (s .ps) k [])
-  curves-at k h = sym (getD-take left curves k 0 h) ∙ ap (λ (l : List ℕ). getD l k 0) (s .sets) ∙ curves-map wants (s .ps) k
+  -- both rounds: the rule's order
+  pub both-rounds : (places : ℕ) (old tests lengths : List ℕ)
+      → Laid (roundOf true wants places (roundOf false wants places (firstPackages wants))) (drop (length wants) old) tests lengths
+      → tests ≡ overwritten (packages places wants) old
+  unfolding overwritten packages
+  both-rounds places old tests lengths laid =
+      laid .all ∙ ap (λ (n : ℕ). packages places wants ++ drop n old) (sym (packages-long places wants))
 
-  -- the lengths of the packages before k
-  pub lengths-to : (k : ℕ) → k ≤ left → take k lengths ≡ map length (take k (s .ps))
-  lengths-to k h = sym (take-take k left lengths h) ∙ ap (take k) (s .lens) ∙ sym (map-take length k (s .ps))
+-- ---- a turn of a round
 
-  pub short-lengths : (k j : ℕ) → k ≤ left → getD (take k lengths) j 0 ≤ length wants
-  short-lengths k j h =
-      omega (arith, ap (λ (l : List ℕ). getD l j 0) (lengths-to k h), List·getD-map length (take k (s .ps)) j [], each-le (take k (s .ps)) j, before-le k, s .whole)
-    where
-      before-le : (k : ℕ) → length (flat (take k (s .ps))) ≤ length (flat (s .ps))
-      before-le k =
-          omega (arith, ap (λ (l : List (List ℕ)). length (flat l)) (take-append-drop k (s .ps)), ap length (flat-append (take k (s .ps)) (drop k (s .ps))), length-append (flat (take k (s .ps))) (flat (drop k (s .ps))))
+-- what is left of a round that began with ps: packages qs from which the round comes to the same
+pub record Left (flipping : Bool) (wants : List ℕ) (places : ℕ) (ps : List (List ℕ)) (rest tests lengths curves : List ℕ) : Type 0 where
+  pub qs : List (List ℕ)
+  pub laid : Laid qs rest tests lengths
+  pub sets : curves ≡ map (curvesOf wants) qs
+  pub goes : roundOf flipping wants places ps ≡ roundOf flipping wants places qs
+
+pub left-start : (flipping : Bool) (wants : List ℕ) (places : ℕ) {ps : List (List ℕ)} {rest tests lengths curves : List ℕ} (n : ℕ) → length lengths ≡ n → length curves ≡ n
+    → Laid ps rest tests lengths → curves ≡ map (curvesOf wants) ps → Left flipping wants places ps rest tests (take n lengths) (take n curves)
+left-start flipping wants places {ps} {rest} {tests} {lengths} {curves} n l c laid sets =
+    record {
+      qs = ps;
+      laid = record { all = laid .all; lens = take-all n lengths (omega (arith, l)) ∙ laid .lens };
+      sets = take-all n curves (omega (arith, c)) ∙ sets;
+      goes = refl;
+    }
+
+pub in-order : (fits : ℕ → Bool) (cs : List ℕ) (i j : ℕ) → bestPair fits cs (length cs) ≡ chosen i j → 0 < j → (i < j) × (j < length cs)
+in-order fits cs i j e pos = subst (Good (InOrder (length cs))) (e ∙ chosen-some i j pos) (pair-good fits cs (length cs))
+
+module _ {flipping : Bool} {wants : List ℕ} {places : ℕ} {ps : List (List ℕ)} {rest tests lengths curves : List ℕ} (s : Left flipping wants places ps rest tests lengths curves)
+    (small : (t : ℕ) → wantsOf wants t < 2 ^ 64) (bound : ℕ) (bounded : bound ≡ cond flipping 64 places) where
+  small-at : (i : ℕ) → getD curves i 0 < 2 ^ 64
+  small-at i =
+      subst (λ (n : ℕ). n < 2 ^ 64) (sym (ap (λ (l : List ℕ). getD l i 0) (s .sets) ∙ curves-map wants (s .qs) i)) (curves-lt wants small (getD (s .qs) i []))
+
+  same-fits : (f : Bool) → bound ≡ cond f 64 places → (i j : ℕ)
+      → fitsBy f places (getD curves i 0 ∪ getD curves j 0) ≡ within bound (getD curves i 0 ∪ getD curves j 0)
+  same-fits true e i j =
+      let x = getD curves i 0 in
+      let y = getD curves j 0 in
+      sym (le-leb (size (x ∪ y)) bound (omega (arith, e, size-le 64 (x ∪ y) (∪-lt 64 x y (small-at i) (small-at j)))))
+  same-fits false e i j = ap (leb (size (getD curves i 0 ∪ getD curves j 0))) (sym e)
 
   -- the closest pair that the code finds is the rule's
-  pub closest-as : ((t : ℕ) → wantsOf wants t < 2 ^ 64) → (i j : ℕ) → bestPair (λ u. leb (size u) bound) (take left curves) (length (take left curves)) ≡ chosen i j
-      → closest wants (fitsBy flipping places) (joinBy flipping wants places) (s .ps) ≡ chosen i j
-  closest-as small i j e =
-      same-pairs (fitsBy flipping places) (λ u. leb (size u) bound) (map (curvesOf wants) (s .ps)) (go flipping (s .bounded)) (length (s .ps))
-      ∙ ap (bestPair (λ u. leb (size u) bound) (map (curvesOf wants) (s .ps))) (sym (length-map (s .ps) (curvesOf wants)))
-      ∙ ap (λ (l : List ℕ). bestPair (λ u. leb (size u) bound) l (length l)) (sym (s .sets)) ∙ e
-    where
-      small-at : (i : ℕ) → getD (map (curvesOf wants) (s .ps)) i 0 < 2 ^ 64
-      small-at i = subst (λ (n : ℕ). n < 2 ^ 64) (sym (curves-map wants (s .ps) i)) (curves-lt wants small (getD (s .ps) i []))
+  module _ (i j : ℕ) (pair : bestPair (within bound) curves (length curves) ≡ chosen i j) where
+    closest-as : closest wants (fitsBy flipping places) (joinBy flipping wants places) (s .qs) ≡ chosen i j
+    closest-as =
+        ap (λ (l : List ℕ). bestPair (fitsBy flipping places) l (length (s .qs))) (sym (s .sets))
+        ∙ ap (bestPair (fitsBy flipping places) curves) (sym (ap length (s .sets) ∙ length-map (s .qs) (curvesOf wants)))
+        ∙ same-pairs (fitsBy flipping places) (within bound) curves (same-fits flipping bounded) (length curves) ∙ pair
 
-      go : (f : Bool) → bound ≡ cond f 64 places → (i j : ℕ)
-          → fitsBy f places (getD (map (curvesOf wants) (s .ps)) i 0 ∪ getD (map (curvesOf wants) (s .ps)) j 0)
-          ≡ leb (size (getD (map (curvesOf wants) (s .ps)) i 0 ∪ getD (map (curvesOf wants) (s .ps)) j 0)) bound
-      go true e i j =
-          let x = getD (map (curvesOf wants) (s .ps)) i 0 in
-          let y = getD (map (curvesOf wants) (s .ps)) j 0 in
-          sym (le-leb (size (x ∪ y)) bound (omega (arith, e, size-le 64 (x ∪ y) (∪-lt 64 x y (small-at i) (small-at j)))))
-      go false e i j = ap (leb (size (getD (map (curvesOf wants) (s .ps)) i 0 ∪ getD (map (curvesOf wants) (s .ps)) j 0))) (sym e)
+    pub left-end : j ≡ 0 → Laid (roundOf flipping wants places ps) rest tests lengths × (curves ≡ map (curvesOf wants) (roundOf flipping wants places ps))
+    left-end e =
+        let done : roundOf flipping wants places ps ≡ s .qs =
+        s .goes ∙ round-stops wants (fitsBy flipping places) (joinBy flipping wants places) (s .qs) (closest-as ∙ ap (chosen i) e ∙ chosen-none i) in
+        (subst (λ (l : List (List ℕ)). Laid l rest tests lengths) (sym done) (s .laid), s .sets ∙ ap (λ (l : List (List ℕ)). map (curvesOf wants) l) (sym done))
 
-  -- no pair in the first round: the second begins
-  pub state-turn : closest wants (fitsBy flipping places) (joinBy flipping wants places) (s .ps) ≡ nobody → flipping ≡ false → State places wants rest tests lengths curves left true 64
-  state-turn e f =
+    pub left-join : 0 < j → (tests' lengths' curves' : List ℕ)
+        → ((qs : List (List ℕ)) (rest : List ℕ) → Laid qs rest tests lengths → Laid (joined (joinBy flipping wants places) qs (at i j)) rest tests' lengths')
+        → curves' ≡ joinedCurves curves i j → Left flipping wants places ps rest tests' lengths' curves'
+    left-join pos tests' lengths' curves' made c =
+        let join = joinBy flipping wants places in
+        let x = getD (s .qs) i [] in
+        let y = getD (s .qs) j [] in
+        let at-is : (k : ℕ) → getD curves k 0 ≡ curvesOf wants (getD (s .qs) k []) = λ k. ap (λ (l : List ℕ). getD l k 0) (s .sets) ∙ curves-map wants (s .qs) k in
+        let u = getD curves i 0 ∪ getD curves j 0 in
+        let e : u ≡ curvesOf wants (join x y) =
+        ap (λ (n : ℕ). n ∪ getD curves j 0) (at-is i) ∙ ap (λ (n : ℕ). curvesOf wants x ∪ n) (at-is j) ∙ sym (curves-join wants places x y flipping) in
+        record {
+          qs = joined join (s .qs) (at i j);
+          laid = made (s .qs) rest (s .laid);
+          sets = c ∙ ap (λ (ls : List ℕ). joinedEntry ls i j u) (s .sets) ∙ sym (map-joined (curvesOf wants) join (s .qs) i j u e);
+          goes = s .goes ∙ round-joins wants (fitsBy flipping places) join (s .qs) (at i j) (closest-as ∙ chosen-some i j pos);
+        }
+
+-- ---- a join of two packages, with the code's numbers: the lengths of the two, where the first begins and where the second ends
+
+module _ {ps : List (List ℕ)} {rest tests lengths : List ℕ} (laid : Laid ps rest tests lengths) (i j : ℕ) (h : i < j) (l : j < length lengths) (a b from to : ℕ)
+    (first : a ≡ getD lengths i 0) (second : b ≡ getD lengths j 0) (start : from ≡ sumOf (take i lengths)) (end : to ≡ sumOf (take j lengths) + b) where
+  long-at : (k : ℕ) → length (getD ps k []) ≡ getD lengths k 0
+  long-at k = sym (ap (λ (l : List ℕ). getD l k 0) (laid .lens) ∙ List·getD-map length ps k [])
+
+  sum-to : (k : ℕ) → sumOf (take k lengths) ≡ length (flat (take k ps))
+  sum-to k = ap sumOf (ap (take k) (laid .lens) ∙ sym (map-take length k ps)) ∙ sum-lengths (take k ps)
+
+  parts : Split ps i j
+  parts = split ps i j h (omega (arith, l, ap length (laid .lens), length-map ps length))
+
+  first-long : length (getD ps i []) ≡ a
+  first-long = long-at i ∙ sym first
+
+  second-long : length (getD ps j []) ≡ b
+  second-long = long-at j ∙ sym second
+
+  begin : length (flat (parts .pre)) ≡ from
+  begin = sym (start ∙ sum-to i ∙ ap length (before-first ps i j parts))
+
+  span : to ≡ from + (a + (length (flat (parts .mid)) + b))
+  span =
+      let p = flat (parts .pre) in
+      let m = flat (parts .mid) in
+      let x = getD ps i [] in
+      omega (arith, end, sum-to j, ap length (before-second ps i j parts), length-append p (x ++ m), length-append x m, first-long, begin)
+
+  part-long : length (getD ps i [] ++ (flat (parts .mid) ++ getD ps j [])) ≡ to - from
+  part-long =
+      let m = flat (parts .mid) in
+      let x = getD ps i [] in
+      let y = getD ps j [] in
+      omega (arith, length-append x (m ++ y), length-append m y, first-long, second-long, span)
+
+  tests-are : tests ≡ flat (parts .pre) ++ ((getD ps i [] ++ (flat (parts .mid) ++ getD ps j [])) ++ (flat (parts .post) ++ rest))
+  tests-are = laid .all ∙ ap (λ (l : List ℕ). l ++ rest) (flat-parts ps i j parts) ∙ simp append-assoc
+
+  from-first : drop from tests ≡ (getD ps i [] ++ (flat (parts .mid) ++ getD ps j [])) ++ (flat (parts .post) ++ rest)
+  from-first = ap (drop from) tests-are ∙ drop-at (flat (parts .pre)) _ from begin
+
+  part-is : take (to - from) (drop from tests) ≡ getD ps i [] ++ (flat (parts .mid) ++ getD ps j [])
+  part-is = ap (take (to - from)) from-first ∙ take-at _ (flat (parts .post) ++ rest) (to - from) part-long
+
+  pub laid-join : (flipping : Bool) (wants : List ℕ) (places : ℕ) (new tests' lengths' : List ℕ)
+      → ((x y z : List ℕ) → take (to - from) (drop from tests) ≡ x ++ (y ++ z) → length x ≡ a → length z ≡ b → new ≡ joinBy flipping wants places x z ++ y)
+      → tests' ≡ take from tests ++ (new ++ drop (to - from) (drop from tests)) → lengths' ≡ joinedEntry lengths i j (a + b)
+      → Laid (joined (joinBy flipping wants places) ps (at i j)) rest tests' lengths'
+  laid-join flipping wants places new tests' lengths' made t c =
+      let join = joinBy flipping wants places in
+      let p = flat (parts .pre) in
+      let m = flat (parts .mid) in
+      let q = flat (parts .post) in
+      let x = getD ps i [] in
+      let y = getD ps j [] in
+      let new-is : new ≡ join x y ++ m = made x m y part-is first-long second-long in
+      let behind : drop (to - from) (drop from tests) ≡ q ++ rest = ap (drop (to - from)) from-first ∙ drop-at (x ++ (m ++ y)) (q ++ rest) (to - from) part-long in
+      let before : take from tests ≡ p = ap (take from) tests-are ∙ take-at p ((x ++ (m ++ y)) ++ (q ++ rest)) from begin in
+      let flat-is : flat (joined join ps (at i j)) ≡ p ++ (join x y ++ (m ++ q)) = flat-joined ps i j parts join in
       record {
-        ps = s .ps;
-        count = s .count;
-        lens = s .lens;
-        sets = s .sets;
-        all = s .all;
-        whole = s .whole;
-        bounded = refl;
-        goes = s .goes ∙ ap flat (go flipping f e);
+        all = t ∙ ap (λ (k : List ℕ). k ++ (new ++ drop (to - from) (drop from tests))) before ∙ ap (λ (k : List ℕ). p ++ (k ++ drop (to - from) (drop from tests))) new-is
+            ∙ ap (λ (k : List ℕ). p ++ ((join x y ++ m) ++ k)) behind ∙ sym (ap (λ (k : List ℕ). k ++ rest) flat-is ∙ simp append-assoc);
+        lens = c ∙ ap (λ (ls : List ℕ). joinedEntry ls i j (a + b)) (laid .lens)
+            ∙ sym (map-joined length join ps i j (a + b) (omega (arith, length-join wants places x y flipping, first-long, second-long)));
       }
-    where
-      go : (f : Bool) → f ≡ false → closest wants (fitsBy f places) (joinBy f wants places) (s .ps) ≡ nobody → after f places wants (s .ps) ≡ after true places wants (s .ps)
-      go true f e = absurd (false≢true (sym f))
-      go false f e = after-turn places wants (s .ps) e
-
-  -- no pair in the second round: the tests are in their order
-  pub state-end : closest wants (fitsBy flipping places) (joinBy flipping wants places) (s .ps) ≡ nobody → flipping ≡ true → (old : List ℕ) → rest ≡ drop (length wants) old
-      → tests ≡ overwritten (packages places wants) old
-  unfolding overwritten
-  state-end e f old r =
-      let p : flat (s .ps) ≡ packages places wants = sym (s .goes ∙ ap flat (go flipping f e)) in
-      s .all ∙ ap (λ (l : List ℕ). flat (s .ps) ++ l) (r ∙ ap (λ (n : ℕ). drop n old) (sym (s .whole))) ∙ ap (λ (l : List ℕ). l ++ drop (length l) old) p
-    where
-      go : (f : Bool) → f ≡ true → closest wants (fitsBy f places) (joinBy f wants places) (s .ps) ≡ nobody → after f places wants (s .ps) ≡ s .ps
-      go true f e = after-end places wants (s .ps) e
-      go false f e = absurd (false≢true f)
-
-  -- a pair i, j: what is known of its places
-  module _ (i j : ℕ) (pos : 0 < j) (pair : closest wants (fitsBy flipping places) (joinBy flipping wants places) (s .ps) ≡ chosen i j) where
-    is-found : closest wants (fitsBy flipping places) (joinBy flipping wants places) (s .ps) ≡ found (at i j)
-    is-found = pair ∙ chosen-some i j pos
-
-    pub in-order : (i < j) × (j < left)
-    in-order =
-        let g : InOrder (length (s .ps)) (at i j) = subst (Good (InOrder (length (s .ps)))) is-found (closest-good wants (fitsBy flipping places) (joinBy flipping wants places) (s .ps)) in
-        (g .0, omega (arith, g .1, s .count))
-
-    parts : Split (s .ps) i j
-    parts = split (s .ps) i j (in-order .0) (omega (arith, in-order .1, s .count))
-
-    -- the code's numbers: the lengths of the two packages, where the first begins and where the second ends
-    module _ (a b from to : ℕ) (first : a ≡ getD lengths i 0) (second : b ≡ getD lengths j 0) (start : from ≡ length (flat (take i (s .ps))))
-        (end : to ≡ length (flat (take j (s .ps))) + b) where
-      first-long : length (getD (s .ps) i []) ≡ a
-      first-long = sym (first ∙ length-at i (omega (arith, in-order .0, in-order .1)))
-
-      second-long : length (getD (s .ps) j []) ≡ b
-      second-long = sym (second ∙ length-at j (in-order .1))
-
-      begin : length (flat (parts .pre)) ≡ from
-      begin = sym (start ∙ ap length (before-first (s .ps) i j parts))
-
-      span : to ≡ from + (a + (length (flat (parts .mid)) + b))
-      span =
-          let p = flat (parts .pre) in
-          let m = flat (parts .mid) in
-          let x = getD (s .ps) i [] in
-          omega (arith, end, ap length (before-second (s .ps) i j parts), length-append p (x ++ m), length-append x m, first-long, begin)
-
-      total-span : length wants ≡ to + length (flat (parts .post))
-      total-span =
-          let p = flat (parts .pre) in
-          let m = flat (parts .mid) in
-          let q = flat (parts .post) in
-          let x = getD (s .ps) i [] in
-          let y = getD (s .ps) j [] in
-          omega (arith, s .whole, ap length (flat-parts (s .ps) i j parts), length-append p (x ++ (m ++ (y ++ q))), length-append x (m ++ (y ++ q)), length-append m (y ++ q), length-append y q, first-long, second-long, begin, span)
-
-      pub within : (from + (a + b) ≤ to) × (to ≤ length wants)
-      within = (omega (arith, span), omega (arith, total-span))
-
-      tests-are : tests ≡ flat (parts .pre) ++ ((getD (s .ps) i [] ++ (flat (parts .mid) ++ getD (s .ps) j [])) ++ (flat (parts .post) ++ rest))
-      tests-are =
-          let p = flat (parts .pre) in
-          let m = flat (parts .mid) in
-          let q = flat (parts .post) in
-          let x = getD (s .ps) i [] in
-          let y = getD (s .ps) j [] in
-          s .all ∙ ap (λ (l : List ℕ). l ++ rest) (flat-parts (s .ps) i j parts) ∙ simp append-assoc
-
-      part-long : length (getD (s .ps) i [] ++ (flat (parts .mid) ++ getD (s .ps) j [])) ≡ to - from
-      part-long =
-          let m = flat (parts .mid) in
-          let x = getD (s .ps) i [] in
-          let y = getD (s .ps) j [] in
-          omega (arith, length-append x (m ++ y), length-append m y, first-long, second-long, span)
-
-      from-first : drop from tests ≡ (getD (s .ps) i [] ++ (flat (parts .mid) ++ getD (s .ps) j [])) ++ (flat (parts .post) ++ rest)
-      from-first = ap (drop from) tests-are ∙ drop-at (flat (parts .pre)) _ from begin
-
-      part-is : take (to - from) (drop from tests) ≡ getD (s .ps) i [] ++ (flat (parts .mid) ++ getD (s .ps) j [])
-      part-is = ap (take (to - from)) from-first ∙ take-at _ (flat (parts .post) ++ rest) (to - from) part-long
-
-      pub state-join : (new tests' lengths' curves' : List ℕ) (u : ℕ)
-          → ((x y z : List ℕ) → take (to - from) (drop from tests) ≡ x ++ (y ++ z) → length x ≡ a → length z ≡ b → new ≡ joinBy flipping wants places x z ++ y)
-          → tests' ≡ take from tests ++ (new ++ drop (to - from) (drop from tests))
-          → take (left - 1) lengths' ≡ take j (set (take left lengths) i (a + b)) ++ drop (suc j) (set (take left lengths) i (a + b))
-          → u ≡ getD curves i 0 ∪ getD curves j 0
-          → take (left - 1) curves' ≡ take j (set (take left curves) i u) ++ drop (suc j) (set (take left curves) i u)
-          → State places wants rest tests' lengths' curves' (left - 1) flipping bound
-      state-join new tests' lengths' curves' u made t l e c =
-          let join = joinBy flipping wants places in
-          let p = flat (parts .pre) in
-          let m = flat (parts .mid) in
-          let q = flat (parts .post) in
-          let x = getD (s .ps) i [] in
-          let y = getD (s .ps) j [] in
-          let new-is : new ≡ join x y ++ m = made x m y part-is first-long second-long in
-          let behind : drop (to - from) (drop from tests) ≡ q ++ rest = ap (drop (to - from)) from-first ∙ drop-at (x ++ (m ++ y)) (q ++ rest) (to - from) part-long in
-          let before : take from tests ≡ p = ap (take from) tests-are ∙ take-at p ((x ++ (m ++ y)) ++ (q ++ rest)) from begin in
-          let qs = joined join (s .ps) (at i j) in
-          let flat-is : flat qs ≡ p ++ (join x y ++ (m ++ q)) = flat-joined (s .ps) i j parts join in
-          record {
-            ps = qs;
-            count = omega (arith, length-joined join (s .ps) (at i j) (in-order .0, omega (arith, in-order .1, s .count)), s .count);
-            lens = l ∙ ap (λ (ls : List ℕ). take j (set ls i (a + b)) ++ drop (suc j) (set ls i (a + b))) (s .lens)
-                ∙ sym (map-joined length join (s .ps) i j (a + b) (omega (arith, length-join wants places x y flipping, first-long, second-long)));
-            sets = c ∙ ap (λ (ls : List ℕ). take j (set ls i u) ++ drop (suc j) (set ls i u)) (s .sets)
-                ∙ sym (map-joined (curvesOf wants) join (s .ps) i j u
-                (e ∙ ap (λ (n : ℕ). n ∪ getD curves j 0) (curves-at i (omega (arith, in-order .0, in-order .1))) ∙ ap (λ (n : ℕ). curvesOf wants x ∪ n) (curves-at j (in-order .1))
-                ∙ sym (curves-join wants places x y flipping)));
-            all = t ∙ ap (λ (k : List ℕ). k ++ (new ++ drop (to - from) (drop from tests))) before ∙ ap (λ (k : List ℕ). p ++ (k ++ drop (to - from) (drop from tests))) new-is
-                ∙ ap (λ (k : List ℕ). p ++ ((join x y ++ m) ++ k)) behind ∙ sym (ap (λ (k : List ℕ). k ++ rest) flat-is ∙ simp append-assoc);
-            whole = omega (
-              arith,
-              ap length flat-is,
-              length-append p (join x y ++ (m ++ q)),
-              length-append (join x y) (m ++ q),
-              length-append m q,
-              length-join wants places x y flipping,
-              first-long,
-              second-long,
-              begin,
-              span,
-              total-span,
-            );
-            bounded = s .bounded;
-            goes = s .goes ∙ ap flat (after-join flipping places wants (s .ps) (at i j) is-found);
-          }

@@ -6,14 +6,14 @@ ghost use mathlib.Core.Path.{_≡_};
 ghost use mathlib.Core.Bool.{cond};
 ghost use mathlib.Core.List.{List, _++_, map, reverse};
 ghost use Prim.Native.Nat.{ℕ, suc, _+_, _-_, _/_, _%_, _≤_, _<_};
-ghost use lib.ListN.{length, getD, take, drop, set};
-ghost use lib.Dec.{leb, ltb, eqb};
-ghost use Rattle.bitset.specs.Set.{_∪_, size};
+ghost use lib.ListN.{length, getD, take, drop};
+ghost use lib.Dec.{ltb};
+ghost use Rattle.lists.specs.Lent.{was, after};
 ghost use Rattle.job.specs.Refusal.{overwritten};
 ghost use Rattle.lists.specs.Choice.{nobody, keep, bestOf};
 ghost use Rattle.packages.specs.Tests.{common, upTo, entered};
-ghost use Rattle.packages.specs.Packages.{eligible, closer, bestPair, flat, head, tail, flipped, packages};
-ghost use Rattle.packages.specs.Ratings.{Rated};
+ghost use Rattle.packages.specs.Packages.{eligible, closer, bestPair, curvesOf, joined, head, tail, flipped, packages};
+ghost use Rattle.packages.specs.Contracts.{at, sumOf, turned, joinedEntry, joinedCurves, joinBy, roundOf, Laid, within, Rated, AllRated, movedUp};
 
 // Two places in the list of packages; no pair where the second is 0.
 pub struct PackagePair {
@@ -35,21 +35,14 @@ fn shared(a: u64, b: u64) -> usize
     bitset::size(a & b)
 }
 
-// The set at a place of the list; the empty set where there is none.
-fn entry(sets: &[u64], k: usize) -> u64
-    ensures { λ r. ⌜ r ≡ getD (now (sets .entry)) k 0 ⌝ }
-{
-    if k < sets.len() { sets[k] } else { 0 }
-}
-
 // The curves of a package's head, "its longest opening run of tests whose union is at most the places".
 fn head(wants: &[u64], places: usize, tests: &[u16]) -> u64
-    ensures { λ r. ⌜ r ≡ head (now (wants .entry)) places (now (tests .entry)) ⌝ }
+    ensures { λ r. ⌜ r ≡ head (was wants) places (was tests) ⌝ }
 {
     let mut run: u64 = 0;
     let mut k: usize = 0;
     while k < tests.len() {
-        let wider = bitset::union(run, entry(wants, tests[k] as usize));
+        let wider = bitset::union(run, lists::entry(wants, tests[k] as usize));
         if places < bitset::size(wider) {
             return run;
         }
@@ -61,12 +54,12 @@ fn head(wants: &[u64], places: usize, tests: &[u16]) -> u64
 
 // The curves of its tail, "likewise from the end".
 fn tail(wants: &[u64], places: usize, tests: &[u16]) -> u64
-    ensures { λ r. ⌜ r ≡ tail (now (wants .entry)) places (now (tests .entry)) ⌝ }
+    ensures { λ r. ⌜ r ≡ tail (was wants) places (was tests) ⌝ }
 {
     let mut run: u64 = 0;
     let mut k = tests.len();
     while 0 < k {
-        let longer = bitset::union(run, entry(wants, tests[k - 1] as usize));
+        let longer = bitset::union(run, lists::entry(wants, tests[k - 1] as usize));
         if places < bitset::size(longer) {
             return run;
         }
@@ -85,8 +78,8 @@ fn more(a: Meeting, b: Meeting) -> Meeting
 
 // "Compare tail-head, tail-tail, head-head, head-tail (first package named first)": which of the packages a and b are reversed.
 fn flips(wants: &[u64], places: usize, a: &[u16], b: &[u16]) -> Meeting
-    ensures { λ r. ⌜ flipped (now (wants .entry)) places (now (a .entry)) (now (b .entry))
-        ≡ cond (r .first) (reverse (now (a .entry))) (now (a .entry)) ++ cond (r .second) (reverse (now (b .entry))) (now (b .entry)) ⌝ }
+    ensures { λ r. ⌜ flipped (was wants) places (was a) (was b)
+        ≡ turned (r .first) (was a) ++ turned (r .second) (was b) ⌝ }
 {
     let a_head = head(wants, places, a);
     let a_tail = tail(wants, places, a);
@@ -125,8 +118,8 @@ fn ways(
     from: usize,
 ) -> Meeting
     requires { ⌜ (a ≤ length (now part)) × (from ≤ length (now part)) ⌝ }
-    ensures { λ r. ⌜ cond flipping (flipped (now (wants .entry)) places (take a (now (part .entry))) (drop from (now (part .entry)))) (take a (now (part .entry)) ++ drop from (now (part .entry)))
-        ≡ cond (r .first) (reverse (take a (now (part .entry)))) (take a (now (part .entry))) ++ cond (r .second) (reverse (drop from (now (part .entry)))) (drop from (now (part .entry))) ⌝ }
+    ensures { λ r. ⌜ joinBy flipping (was wants) places (take a (was part)) (drop from (was part))
+        ≡ turned (r .first) (take a (was part)) ++ turned (r .second) (drop from (was part)) ⌝ }
 {
     if flipping {
         flips(wants, places, &part[..a], &part[from..])
@@ -141,7 +134,7 @@ fn ways(
 
 // Reverses a list in place. What lies between i and j is still to be reversed.
 pub fn reverse(xs: &mut [u16])
-    ensures { λ _. ⌜ now (xs .exit) ≡ reverse (now (xs .entry)) ⌝ }
+    ensures { λ _. ⌜ after xs ≡ reverse (was xs) ⌝ }
 {
     let mut i: usize = 0;
     let mut j = xs.len();
@@ -155,7 +148,7 @@ pub fn reverse(xs: &mut [u16])
 }
 
 fn reverse_if(turn: bool, xs: &mut [u16])
-    ensures { λ _. ⌜ now (xs .exit) ≡ cond turn (reverse (now (xs .entry))) (now (xs .entry)) ⌝ }
+    ensures { λ _. ⌜ after xs ≡ turned turn (was xs) ⌝ }
 {
     if turn {
         reverse(xs);
@@ -165,7 +158,7 @@ fn reverse_if(turn: bool, xs: &mut [u16])
 // Exchanges the first k entries and the rest, in place: the reverse of two reversed parts.
 fn exchange(xs: &mut [u16], k: usize)
     requires { ⌜ k ≤ length (now xs) ⌝ }
-    ensures { λ _. ⌜ now (xs .exit) ≡ drop k (now (xs .entry)) ++ take k (now (xs .entry)) ⌝ }
+    ensures { λ _. ⌜ after xs ≡ drop k (was xs) ++ take k (was xs) ⌝ }
 {
     reverse(&mut xs[..k]);
     reverse(&mut xs[k..]);
@@ -175,8 +168,8 @@ fn exchange(xs: &mut [u16], k: usize)
 // "The second's tests go behind the first's": the first has a tests at the start of the part, the second b at its end.
 fn join_tests(flipping: bool, wants: &[u64], places: usize, part: &mut [u16], a: usize, b: usize)
     requires { ⌜ a + b ≤ length (now part) ⌝ }
-    ensures { λ _. ⌜ ((x y z : List ℕ) → now (part .entry) ≡ x ++ (y ++ z) → length x ≡ a → length z ≡ b
-        → now (part .exit) ≡ cond flipping (flipped (now (wants .entry)) places x z) (x ++ z) ++ y) ⌝ }
+    ensures { λ _. ⌜ ((x y z : List ℕ) → was part ≡ x ++ (y ++ z) → length x ≡ a → length z ≡ b
+        → after part ≡ joinBy flipping (was wants) places x z ++ y) ⌝ }
 {
     let from = part.len() - b;
     let way = ways(flipping, wants, places, part, a, from);
@@ -187,9 +180,8 @@ fn join_tests(flipping: bool, wants: &[u64], places: usize, part: &mut [u16], a:
 
 // The number of tests in packages of these lengths.
 fn total(lengths: &[u64]) -> usize
-    requires { ⌜ length (now lengths) ≤ 256 ⌝ }
-    requires { ⌜ ((k : ℕ) → getD (now lengths) k 0 ≤ 256) ⌝ }
-    ensures { λ r. ⌜ ((ps : List (List ℕ)) → now (lengths .entry) ≡ map length ps → r ≡ length (flat ps)) ⌝ }
+    requires { ⌜ sumOf (now lengths) ≤ 256 ⌝ }
+    ensures { λ r. ⌜ r ≡ sumOf (was lengths) ⌝ }
 {
     let mut sum: usize = 0;
     let mut k: usize = 0;
@@ -203,8 +195,7 @@ fn total(lengths: &[u64]) -> usize
 // Sets one entry and takes another out; those behind it move up.
 fn join_entry(xs: &mut [u64], first: usize, second: usize, value: u64)
     requires { ⌜ (first < length (now xs)) × (second < length (now xs)) ⌝ }
-    ensures { λ _. ⌜ take (length (now (xs .entry)) - 1) (now (xs .exit))
-        ≡ take second (set (now (xs .entry)) first value) ++ drop (suc second) (set (now (xs .entry)) first value) ⌝ }
+    ensures { λ _. ⌜ take (length (was xs) - 1) (after xs) ≡ joinedEntry (was xs) first second value ⌝ }
 {
     xs[first] = value;
     let mut k = second;
@@ -214,12 +205,13 @@ fn join_entry(xs: &mut [u64], first: usize, second: usize, value: u64)
     }
 }
 
-// The rating of a package, whose partner gives "the pair with most common curves; ties to .. the earlier second package". 0 where no union is at most the bound.
+// The rating of a package, whose partner gives "the pair with most common curves; ties to .. the earlier second package". 0 where no union is at most the
+// bound.
 fn best_partner(bound: usize, curves: &[u64], first: usize) -> u64
     requires { ⌜ (first < length (now curves)) × (length (now curves) ≤ 256) ⌝ }
-    ensures partner { λ r. ⌜ bestOf (eligible (λ u. leb (size u) bound) (now (curves .entry))) (closer (now (curves .entry))) (λ j. record { first = first; second = j }) (length (now (curves .entry))) nobody
-        ≡ keep (ltb 0 (r % 256)) (record { first = first; second = r % 256 }) nobody ⌝ }
-    ensures score { λ r. ⌜ r / 256 ≡ cond (ltb 0 (r % 256)) (1 + common (getD (now (curves .entry)) first 0) (getD (now (curves .entry)) (r % 256) 0)) 0 ⌝ }
+    ensures partner { λ r. ⌜ bestOf (eligible (within bound) (was curves)) (closer (was curves)) (at first) (length (was curves)) nobody
+        ≡ keep (ltb 0 (r % 256)) (at first (r % 256)) nobody ⌝ }
+    ensures score { λ r. ⌜ r / 256 ≡ cond (ltb 0 (r % 256)) (1 + common (getD (was curves) first 0) (getD (was curves) (r % 256) 0)) 0 ⌝ }
 {
     let mut second: usize = 0;
     let mut most: usize = 0;
@@ -240,7 +232,7 @@ fn best_partner(bound: usize, curves: &[u64], first: usize) -> u64
 // The rating of each package.
 fn best_partners(bound: usize, curves: &[u64], ratings: &mut [u64])
     requires { ⌜ (length (now ratings) ≡ length (now curves)) × (length (now curves) ≤ 256) ⌝ }
-    ensures { λ _. ⌜ ((k : ℕ) → k < length (now (curves .entry)) → Rated (λ u. leb (size u) bound) (now (curves .entry)) k (getD (now (ratings .exit)) k 0)) ⌝ }
+    ensures { λ _. ⌜ AllRated bound (was curves) (after ratings) ⌝ }
 {
     let mut k: usize = 0;
     while k < curves.len() {
@@ -251,8 +243,8 @@ fn best_partners(bound: usize, curves: &[u64], ratings: &mut [u64])
 
 // The place of the highest score, "ties to the earlier first".
 fn highest(ratings: &[u64]) -> usize
-    ensures most { λ r. ⌜ ((k : ℕ) → getD (now (ratings .entry)) k 0 / 256 ≤ getD (now (ratings .entry)) r 0 / 256) ⌝ }
-    ensures earliest { λ r. ⌜ ((k : ℕ) → k < r → getD (now (ratings .entry)) k 0 / 256 < getD (now (ratings .entry)) r 0 / 256) ⌝ }
+    ensures most { λ r. ⌜ ((k : ℕ) → getD (was ratings) k 0 / 256 ≤ getD (was ratings) r 0 / 256) ⌝ }
+    ensures earliest { λ r. ⌜ ((k : ℕ) → k < r → getD (was ratings) k 0 / 256 < getD (was ratings) r 0 / 256) ⌝ }
 {
     let mut first: usize = 0;
     let mut most: u64 = 0;
@@ -268,17 +260,17 @@ fn highest(ratings: &[u64]) -> usize
     first
 }
 
-// The pair with most common curves, "ties to the earlier first, then the earlier second package": the package with the highest score, and its partner. Where that
-// is not known it is looked for anew.
+// The pair with most common curves, "ties to the earlier first, then the earlier second package": the package with the highest score, and its partner. Where
+// that is not known it is looked for anew.
 fn closest(bound: usize, curves: &[u64], ratings: &mut [u64]) -> PackagePair
     requires { ⌜ (length (now ratings) ≡ length (now curves)) × (length (now curves) ≤ 256) ⌝ }
-    requires { ⌜ ((k : ℕ) → k < length (now curves) → Rated (λ u. leb (size u) bound) (now curves) k (getD (now ratings) k 0)) ⌝ }
-    ensures pair { λ r. ⌜ bestPair (λ u. leb (size u) bound) (now (curves .entry)) (length (now (curves .entry))) ≡ keep (ltb 0 (r .second)) (record { first = r .first; second = r .second }) nobody ⌝ }
-    ensures rated { λ _. ⌜ ((k : ℕ) → k < length (now (curves .entry)) → Rated (λ u. leb (size u) bound) (now (curves .entry)) k (getD (now (ratings .exit)) k 0)) ⌝ }
+    requires { ⌜ AllRated bound (now curves) (now ratings) ⌝ }
+    ensures pair { λ r. ⌜ bestPair (within bound) (was curves) (length (was curves)) ≡ keep (ltb 0 (r .second)) (at (r .first) (r .second)) nobody ⌝ }
+    ensures rated { λ _. ⌜ AllRated bound (was curves) (after ratings) ⌝ }
 {
     loop {
         let first = highest(ratings);
-        let rating = entry(ratings, first);
+        let rating = lists::entry(ratings, first);
         let second = (rating % 256) as usize;
         if 0 < second {
             return PackagePair { first, second };
@@ -292,7 +284,7 @@ fn closest(bound: usize, curves: &[u64], ratings: &mut [u64]) -> PackagePair
 
 // The rating of another package after a join: the second package is no partner any more, and those behind it move up by one.
 fn moved(second: usize, rating: u64) -> u64
-    ensures { λ r. ⌜ r ≡ cond (eqb (rating % 256) second) (rating - rating % 256) (cond (ltb second (rating % 256)) (rating - 1) rating) ⌝ }
+    ensures { λ r. ⌜ r ≡ movedUp second rating ⌝ }
 {
     let partner = (rating % 256) as usize;
     if partner == second {
@@ -304,10 +296,9 @@ fn moved(second: usize, rating: u64) -> u64
 // The ratings of the packages behind the joined one.
 fn renew_behind(ratings: &mut [u64], first: usize, second: usize)
     requires { ⌜ first < length (now ratings) ⌝ }
-    ensures behind { λ _. ⌜ ((k : ℕ) → first < k → k < length (now (ratings .entry))
-        → getD (now (ratings .exit)) k 0
-        ≡ cond (eqb (getD (now (ratings .entry)) k 0 % 256) second) (getD (now (ratings .entry)) k 0 - getD (now (ratings .entry)) k 0 % 256) (cond (ltb second (getD (now (ratings .entry)) k 0 % 256)) (getD (now (ratings .entry)) k 0 - 1) (getD (now (ratings .entry)) k 0))) ⌝ }
-    ensures before { λ _. ⌜ ((k : ℕ) → k ≤ first → getD (now (ratings .exit)) k 0 ≡ getD (now (ratings .entry)) k 0) ⌝ }
+    ensures behind { λ _. ⌜ ((k : ℕ) → first < k → k < length (was ratings)
+        → getD (after ratings) k 0 ≡ movedUp second (getD (was ratings) k 0)) ⌝ }
+    ensures before { λ _. ⌜ ((k : ℕ) → k ≤ first → getD (after ratings) k 0 ≡ getD (was ratings) k 0) ⌝ }
 {
     let mut row = first + 1;
     while row < ratings.len() {
@@ -316,7 +307,8 @@ fn renew_behind(ratings: &mut [u64], first: usize, second: usize)
     }
 }
 
-// The rating of a package before the joined one. That may be its partner, where it fits: with a higher score than before, or with the same as a partner behind it.
+// The rating of a package before the joined one. That may be its partner, where it fits: with a higher score than before, or with the same as a partner
+// behind it.
 fn renewed(
     bound: usize,
     curves: &[u64],
@@ -326,10 +318,9 @@ fn renewed(
     rating: u64,
 ) -> u64
     requires { ⌜ (first < second) × (second ≤ length (now curves)) × (row < first) × (length (now curves) ≤ 256) ⌝ }
-    ensures { λ r. ⌜ ((cs : List ℕ) → length cs ≡ suc (length (now (curves .entry)))
-        → now (curves .entry) ≡ take second (set cs first (getD cs first 0 ∪ getD cs second 0)) ++ drop (suc second) (set cs first (getD cs first 0 ∪ getD cs second 0))
-        → Rated (λ u. leb (size u) bound) cs row rating
-        → Rated (λ u. leb (size u) bound) (now (curves .entry)) row r) ⌝ }
+    ensures { λ r. ⌜ ((cs : List ℕ) → length cs ≡ suc (length (was curves))
+        → was curves ≡ joinedCurves cs first second
+        → Rated (within bound) cs row rating → Rated (within bound) (was curves) row r) ⌝ }
 {
     let kept = if (rating % 256) as usize == first {
         rating - rating % 256
@@ -357,11 +348,11 @@ fn renewed(
 // The ratings of the packages before the joined one.
 fn renew_before(bound: usize, curves: &[u64], ratings: &mut [u64], first: usize, second: usize)
     requires { ⌜ (first < second) × (second ≤ length (now curves)) × (length (now ratings) ≡ suc (length (now curves))) × (length (now curves) ≤ 256) ⌝ }
-    ensures before { λ _. ⌜ ((cs : List ℕ) → length cs ≡ suc (length (now (curves .entry)))
-        → now (curves .entry) ≡ take second (set cs first (getD cs first 0 ∪ getD cs second 0)) ++ drop (suc second) (set cs first (getD cs first 0 ∪ getD cs second 0))
-        → (k : ℕ) → k < first → Rated (λ u. leb (size u) bound) cs k (getD (now (ratings .entry)) k 0)
-        → Rated (λ u. leb (size u) bound) (now (curves .entry)) k (getD (now (ratings .exit)) k 0)) ⌝ }
-    ensures behind { λ _. ⌜ ((k : ℕ) → first ≤ k → getD (now (ratings .exit)) k 0 ≡ getD (now (ratings .entry)) k 0) ⌝ }
+    ensures before { λ _. ⌜ ((cs : List ℕ) → length cs ≡ suc (length (was curves))
+        → was curves ≡ joinedCurves cs first second
+        → (k : ℕ) → k < first → Rated (within bound) cs k (getD (was ratings) k 0)
+        → Rated (within bound) (was curves) k (getD (after ratings) k 0)) ⌝ }
+    ensures behind { λ _. ⌜ ((k : ℕ) → first ≤ k → getD (after ratings) k 0 ≡ getD (was ratings) k 0) ⌝ }
 {
     let mut row: usize = 0;
     while row < first {
@@ -373,10 +364,9 @@ fn renew_before(bound: usize, curves: &[u64], ratings: &mut [u64], first: usize,
 // The rating of each package after the join.
 fn renew_ratings(bound: usize, curves: &[u64], ratings: &mut [u64], first: usize, second: usize)
     requires { ⌜ (first < second) × (second ≤ length (now curves)) × (length (now ratings) ≡ suc (length (now curves))) × (length (now curves) ≤ 256) ⌝ }
-    ensures { λ _. ⌜ ((cs : List ℕ) → length cs ≡ suc (length (now (curves .entry)))
-        → now (curves .entry) ≡ take second (set cs first (getD cs first 0 ∪ getD cs second 0)) ++ drop (suc second) (set cs first (getD cs first 0 ∪ getD cs second 0))
-        → ((k : ℕ) → k < length cs → Rated (λ u. leb (size u) bound) cs k (getD (now (ratings .entry)) k 0))
-        → (k : ℕ) → k < length (now (curves .entry)) → Rated (λ u. leb (size u) bound) (now (curves .entry)) k (getD (now (ratings .exit)) k 0)) ⌝ }
+    ensures { λ _. ⌜ ((cs : List ℕ) → length cs ≡ suc (length (was curves))
+        → was curves ≡ joinedCurves cs first second
+        → AllRated bound cs (was ratings) → AllRated bound (was curves) (after ratings)) ⌝ }
 {
     let own = best_partner(bound, curves, first);
     join_entry(ratings, first, second, own);
@@ -387,11 +377,9 @@ fn renew_ratings(bound: usize, curves: &[u64], ratings: &mut [u64], first: usize
 // Joins the curves of two packages; the ratings after it.
 fn join_curves(bound: usize, curves: &mut [u64], ratings: &mut [u64], first: usize, second: usize)
     requires { ⌜ (first < second) × (second < length (now curves)) × (length (now ratings) ≡ length (now curves)) × (length (now curves) ≤ 256) ⌝ }
-    requires { ⌜ ((k : ℕ) → k < length (now curves) → Rated (λ u. leb (size u) bound) (now curves) k (getD (now ratings) k 0)) ⌝ }
-    ensures sets { λ _. ⌜ take (length (now (curves .entry)) - 1) (now (curves .exit))
-        ≡ take second (set (now (curves .entry)) first (getD (now (curves .entry)) first 0 ∪ getD (now (curves .entry)) second 0))
-        ++ drop (suc second) (set (now (curves .entry)) first (getD (now (curves .entry)) first 0 ∪ getD (now (curves .entry)) second 0)) ⌝ }
-    ensures rated { λ _. ⌜ ((k : ℕ) → k < length (now (curves .entry)) - 1 → Rated (λ u. leb (size u) bound) (take (length (now (curves .entry)) - 1) (now (curves .exit))) k (getD (now (ratings .exit)) k 0)) ⌝ }
+    requires { ⌜ AllRated bound (now curves) (now ratings) ⌝ }
+    ensures sets { λ _. ⌜ take (length (was curves) - 1) (after curves) ≡ joinedCurves (was curves) first second ⌝ }
+    ensures rated { λ _. ⌜ AllRated bound (take (length (was curves) - 1) (after curves)) (after ratings) ⌝ }
 {
     let left = curves.len() - 1;
     let joined = bitset::union(curves[first], curves[second]);
@@ -402,7 +390,7 @@ fn join_curves(bound: usize, curves: &mut [u64], ratings: &mut [u64], first: usi
 // The wants as the curves of the first packages.
 fn first_curves(wants: &[u64]) -> [u64; 256]
     requires { ⌜ length (now wants) ≤ 256 ⌝ }
-    ensures { λ r. ⌜ (length r ≡ 256) × (take (length (now (wants .entry))) r ≡ now (wants .entry)) ⌝ }
+    ensures { λ r. ⌜ (length r ≡ 256) × (take (length (was wants)) r ≡ was wants) ⌝ }
 {
     let mut curves = [0u64; 256];
     let mut t: usize = 0;
@@ -416,7 +404,7 @@ fn first_curves(wants: &[u64]) -> [u64; 256]
 // Writes 0, 1, .., one number for each test.
 fn as_listed(tests: usize, order: &mut [u16])
     requires { ⌜ (tests ≤ 256) × (tests ≤ length (now order)) ⌝ }
-    ensures { λ _. ⌜ now (order .exit) ≡ overwritten (upTo tests) (now (order .entry)) ⌝ }
+    ensures { λ _. ⌜ after order ≡ overwritten (upTo tests) (was order) ⌝ }
 {
     let mut t: usize = 0;
     while t < tests {
@@ -427,7 +415,7 @@ fn as_listed(tests: usize, order: &mut [u16])
 
 // "0, as listed", of at most 256 tests: writes their numbers to the beginning of `order`, where they fit.
 pub fn listed_order(tests: usize, order: &mut [u16])
-    ensures { λ _. ⌜ now (order .exit) ≡ entered (upTo tests) (now (order .entry)) ⌝ }
+    ensures { λ _. ⌜ after order ≡ entered (upTo tests) (was order) ⌝ }
 {
     if 256 < tests {
         return;
@@ -438,60 +426,120 @@ pub fn listed_order(tests: usize, order: &mut [u16])
     as_listed(tests, order);
 }
 
-// Method 3: "Each test begins as a package, in list order". The first round joins while a pair's union is at most the places, the second until one is left:
-// a union of sets of 64 curves is always at most 64. The packages lie in the order, one behind the other.
-fn order_by_packages(places: usize, wants: &[u64], order: &mut [u16])
-    requires { ⌜ (length (now wants) ≤ 256) × (length (now wants) ≤ length (now order)) ⌝ }
-    ensures { λ _. ⌜ now (order .exit) ≡ overwritten (packages places (now (wants .entry))) (now (order .entry)) ⌝ }
+// Joins the tests and the lengths of two packages. The packages lie in the order, one behind the other.
+fn join_packages(
+    flipping: bool,
+    wants: &[u64],
+    places: usize,
+    order: &mut [u16],
+    lengths: &mut [u64],
+    first: usize,
+    second: usize,
+)
+    requires { ⌜ (first < second) × (second < length (now lengths)) × (sumOf (now lengths) ≤ 256) × (sumOf (now lengths) ≤ length (now order)) ⌝ }
+    ensures joined { λ _. ⌜ ((ps : List (List ℕ)) (rest : List ℕ) → Laid ps rest (was order) (was lengths)
+        → Laid (joined (joinBy flipping (was wants) places) ps (at first second)) rest (after order) (take (length (was lengths) - 1) (after lengths))) ⌝ }
+    ensures sum { λ _. ⌜ sumOf (take (length (was lengths) - 1) (after lengths)) ≡ sumOf (was lengths) ⌝ }
 {
-    let mut left = wants.len();
-    as_listed(left, order);
-    let mut lengths = [1u64; 256];
-    let mut curves = first_curves(wants);
+    let a = lengths[first];
+    let b = lengths[second];
+    let from = total(&lengths[..first]);
+    let to = total(&lengths[..second]) + b as usize;
+    join_tests(
+        flipping,
+        wants,
+        places,
+        &mut order[from..to],
+        a as usize,
+        b as usize,
+    );
+    join_entry(lengths, first, second, a + b);
+}
+
+// The bound of a pair's union: in the first round the places, in the second none, as a union of sets of 64 curves is always at most 64.
+fn round_bound(flipping: bool, places: usize) -> usize
+    ensures { λ r. ⌜ r ≡ cond flipping 64 places ⌝ }
+{
+    if flipping { 64 } else { places }
+}
+
+// One round: joins the closest pair as long as there is one, and says how many packages are left.
+fn join_all(
+    flipping: bool,
+    wants: &[u64],
+    places: usize,
+    order: &mut [u16],
+    lengths: &mut [u64],
+    curves: &mut [u64],
+) -> usize
+    requires { ⌜ (length (now lengths) ≤ 256) × (length (now curves) ≡ length (now lengths)) × (sumOf (now lengths) ≤ 256)
+        × (sumOf (now lengths) ≤ length (now order)) ⌝ }
+    ensures left { λ r. ⌜ (r ≤ length (was lengths)) × (sumOf (take r (after lengths)) ≡ sumOf (was lengths)) ⌝ }
+    ensures round { λ r. ⌜ ((ps : List (List ℕ)) (rest : List ℕ) → Laid ps rest (was order) (was lengths) → was curves ≡ map (curvesOf (was wants)) ps
+        → Laid (roundOf flipping (was wants) places ps) rest (after order) (take r (after lengths))
+        × (take r (after curves) ≡ map (curvesOf (was wants)) (roundOf flipping (was wants) places ps))) ⌝ }
+{
+    let bound = round_bound(flipping, places);
+    let mut left = lengths.len();
     let mut ratings = [0u64; 256];
-    best_partners(places, &curves[..left], &mut ratings[..left]);
-    let mut flipping = false;
-    let mut bound = places;
+    best_partners(bound, curves, &mut ratings[..left]);
     loop {
         let pair = closest(bound, &curves[..left], &mut ratings[..left]);
         let first = pair.first;
         let second = pair.second;
         if second == 0 {
-            if flipping {
-                return;
-            }
-            flipping = true;
-            bound = 64;
-            best_partners(bound, &curves[..left], &mut ratings[..left]);
-        } else {
-            let a = lengths[first];
-            let b = lengths[second];
-            let from = total(&lengths[..first]);
-            let to = total(&lengths[..second]) + b as usize;
-            join_tests(
-                flipping,
-                wants,
-                places,
-                &mut order[from..to],
-                a as usize,
-                b as usize,
-            );
-            join_entry(&mut lengths[..left], first, second, a + b);
-            join_curves(
-                bound,
-                &mut curves[..left],
-                &mut ratings[..left],
-                first,
-                second,
-            );
-            left -= 1;
+            return left;
         }
+        join_packages(
+            flipping,
+            wants,
+            places,
+            order,
+            &mut lengths[..left],
+            first,
+            second,
+        );
+        join_curves(
+            bound,
+            &mut curves[..left],
+            &mut ratings[..left],
+            first,
+            second,
+        );
+        left -= 1;
     }
+}
+
+// Method 3: "Each test begins as a package, in list order", and then the two rounds.
+fn order_by_packages(places: usize, wants: &[u64], order: &mut [u16])
+    requires { ⌜ (length (now wants) ≤ 256) × (length (now wants) ≤ length (now order)) ⌝ }
+    ensures { λ _. ⌜ after order ≡ overwritten (packages places (was wants)) (was order) ⌝ }
+{
+    let tests = wants.len();
+    as_listed(tests, order);
+    let mut lengths = [1u64; 256];
+    let mut curves = first_curves(wants);
+    let left = join_all(
+        false,
+        wants,
+        places,
+        order,
+        &mut lengths[..tests],
+        &mut curves[..tests],
+    );
+    join_all(
+        true,
+        wants,
+        places,
+        order,
+        &mut lengths[..left],
+        &mut curves[..left],
+    );
 }
 
 // "3, packages", of at most 256 tests: writes the tests to the beginning of `order`, where they fit.
 pub fn package_order(places: usize, wants: &[u64], order: &mut [u16])
-    ensures { λ _. ⌜ now (order .exit) ≡ entered (packages places (now (wants .entry))) (now (order .entry)) ⌝ }
+    ensures { λ _. ⌜ after order ≡ entered (packages places (was wants)) (was order) ⌝ }
 {
     if 256 < wants.len() {
         return;

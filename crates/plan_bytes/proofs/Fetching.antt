@@ -13,7 +13,7 @@ use Rattle.job_bytes.specs.SetBytes.{Got, got, byteAt, readGroup, readGroups}
 use Rattle.job.proofs.Laws.{done-same, refused≢done, both-done, bind-done}
 use Rattle.plan_bytes.specs.declared.StepRead.{StepRead}
 use Rattle.plan_bytes.specs.PlanBytes.{Placed, readSet, readStep, readPlanBytes, planSteps, placedAt, fetched, partOf, stepPart}
-use Rattle.plan_bytes.specs.Answers.{stepOutcome}
+use Rattle.plan_bytes.specs.Contracts.{stepOutcome}
 use Rattle.plan_bytes.proofs.Steps.{placed, counts-refused, counts-passed}
 
 -- ---- what is read goes on in the bytes, and ends within them: g was read from offset i on, where the bytes end at offset n

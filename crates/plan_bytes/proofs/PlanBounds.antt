@@ -1,6 +1,6 @@
 -- The bounds of plan bytes: a step takes at most 20 of them. So no figure of a refusal, which is always 11, is larger than 20 for each test, and bytes behind
 -- the next one never change the answer.
-use mathlib.Core.Path.{_≡_, refl, sym, ap, _∙_, subst}
+use mathlib.Core.Path.{_≡_, refl, sym, ap, _∙_}
 use mathlib.Core.List.{List, [], _∷_, _++_}
 use Prim.Native.Nat.{ℕ, zero, suc, _+_, _*_, _≤_, _<_}
 use native.Mathlib.Omega.{arith}
@@ -11,7 +11,7 @@ use Rattle.job.specs.Refusal.{Outcome, done, refused, _>>=_, _>>_}
 use Rattle.job.proofs.Laws.{refused≢done}
 use Rattle.bitset.specs.Set.{_∪_, bit}
 use Rattle.job.proofs.Refuses.{Refuses, refuses-demand, refuses-both, refuses-bind}
-use Rattle.job_bytes.specs.SetBytes.{Got, got, byteAt, readGroup, readGroups}
+use Rattle.job_bytes.specs.SetBytes.{Got, byteAt, readGroup, readGroups}
 use Rattle.job_bytes.specs.JobBytes.{atEnd}
 use Rattle.job_bytes.proofs.Spans.{Spans, span-done, span-refused, span-bind, span-test, span-stop, span-longer, byte-span, groups-span}
 use Rattle.job_bytes.proofs.Behind.{Same, value, fault, same-then, same-test, byte-same, groups-same}

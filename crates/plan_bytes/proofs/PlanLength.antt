@@ -4,15 +4,15 @@ use mathlib.Core.List.{List, [], _∷_, map}
 use Prim.Native.Nat.{ℕ, _*_, _≤_}
 use native.Mathlib.Omega.{arith}
 use lib.ListN.{length, length-append, length-map}
-use Rattle.job.specs.Refusal.{done}
+use Rattle.job.specs.Refusal.{done, room}
 use Rattle.job.proofs.Laws.{done-same, both-done, bind-done}
 use Rattle.job_bytes.proofs.SetRoundTrip.{Bytes}
-use Rattle.job.specs.Refusal.{room}
 use Rattle.job.specs.Handed.{countsKnown}
-use Rattle.planning.specs.Plan.{steps}
+use Rattle.job.specs.Words.{Job}
+use Rattle.planning.specs.Plan.{Plan, steps}
 use Rattle.planning.specs.Planning.{checking}
 use Rattle.plan_bytes.specs.PlanBytes.{Placed, stepBytes, stepsBytes, planBytes, readPlanBytes, planSteps, writePlan}
-use Rattle.plan_bytes.proofs.Writing.{one, step-le, Writable, writable}
+use Rattle.plan_bytes.proofs.Writing.{one, step-le, writable}
 use Rattle.plan_bytes.proofs.ReadPlan.{plan-count}
 use Rattle.plan_bytes.proofs.PlanRoundTrip.{plan-bytes-read}
 
@@ -24,17 +24,15 @@ bytes-le (t ∷ ts) (d ∷ ds) [] = omega arith
 bytes-le (t ∷ ts) (d ∷ ds) (l ∷ ls) = omega (arith, bytes-le ts ds ls, step-le t d l, length-append (stepBytes (one t d l)) (planBytes ts ds ls))
 
 -- A PLAN THAT PASSES THE CHECK is written in at most 5,120 bytes
-pub passed-length : (places curves : ℕ) (wants order drops loads : List ℕ) (m : ℕ) → checking places curves wants order drops loads ≡ done m → length (planBytes order drops loads) ≤ 5120
-passed-length places curves wants order drops loads m e =
-    let w : Writable places curves wants order drops loads [] = writable places curves wants order drops loads [] m e in
-    omega (arith, bytes-le order drops loads, w .few)
+pub passed-length : (j : Job) (order : List ℕ) (p : Plan) (m : ℕ) → checking j order p ≡ done m → length (planBytes order (p .drops) (p .loads)) ≤ 5120
+passed-length j order p m e = omega (arith, bytes-le order (p .drops) (p .loads), writable j order p m e .few)
 
-pub written-length : (places curves : ℕ) (wants order drops loads : List ℕ) (lent : ℕ) (bytes : List ℕ) → writePlan places curves wants order drops loads lent ≡ done bytes → length bytes ≤ 5120
+pub written-length : (j : Job) (order : List ℕ) (p : Plan) (lent : ℕ) (bytes : List ℕ) → writePlan j order p lent ≡ done bytes → length bytes ≤ 5120
 unfolding writePlan
-written-length places curves wants order drops loads lent bytes e =
-    let a = bind-done (checking places curves wants order drops loads) _ bytes e in
-    let b = both-done (room lent (length (planBytes order drops loads))) (done (planBytes order drops loads)) bytes (a .2) in
-    omega (arith, passed-length places curves wants order drops loads (a .0) (a .1), ap length (done-same (b .1)))
+written-length j order p lent bytes e =
+    let a = bind-done (checking j order p) _ bytes e in
+    let b = both-done (room lent (length (planBytes order (p .drops) (p .loads)))) (done (planBytes order (p .drops) (p .loads))) bytes (a .2) in
+    omega (arith, passed-length j order p (a .0) (a .1), ap length (done-same (b .1)))
 
 -- A PLAN THAT READS has at most 20 bytes for each test
 pub read-length : (curves tests : ℕ) (bs : List ℕ) (ss : List Placed) → Bytes bs → planSteps curves tests bs ≡ done ss → length bs ≤ 20 * tests

@@ -1,17 +1,17 @@
 -- "Writing and reading undo each other for .. every plan our check passes": plan bytes.
 use mathlib.Core.Path.{_≡_, refl, sym, ap, _∙_, subst}
-use mathlib.Core.Bool.{Bool, true, false, _&&_, false≢true}
+use mathlib.Core.Bool.{_&&_}
 use mathlib.Core.List.{List, [], _∷_, _++_, map, append-assoc, append-nil}
 use Prim.Native.Nat.{ℕ, zero, suc, _+_, _-_, _*_, _/_, _%_, _^_, _≤_, _<_}
 use native.Mathlib.Omega.{arith}
-use lib.Dec.{leb, ltb, eqb}
-use lib.Pow.{pow-add, pow-mono, pow-pos}
-use lib.ListN.{length, getD, length-append}
+use lib.Dec.{leb, ltb}
+use lib.Pow.{pow-add, pow-mono}
+use lib.ListN.{length, length-append}
 use borrow.Author.Tests.{ltb-true, leb-true, lt-ltb, le-leb}
 use Rattle.bitset.specs.Set.{bit}
 use Rattle.bitset.proofs.Bits.{bit-zero, bit-suc}
-use Rattle.job.specs.Refusal.{Outcome, done, refused, _>>=_, _>>_, demand, room}
-use Rattle.job.specs.Handed.{between, allCurves, countsKnown}
+use Rattle.job.specs.Refusal.{done, refused, _>>=_, _>>_, demand, room}
+use Rattle.job.specs.Handed.{between, allCurves, countsKnown, someTests, curvesKnown, testsKnown}
 use Rattle.job_bytes.specs.SetBytes.{stands, groupMap, groupBytes, setBytes, Got, got, byteAt, readGroups}
 use Rattle.job_bytes.specs.JobBytes.{atEnd}
 use Rattle.job.proofs.Laws.{both, and, done-same, refused≢done, demand-true, demand-done, both-done, done-both, bind-done, done-room}
@@ -20,15 +20,14 @@ use Rattle.job_bytes.proofs.JobRoundTrip.{end-none}
 use native.Mathlib.Decide.{decLe}
 use Rattle.bitset.proofs.Parts.{_≼_, ≼-inside, empty-≼}
 use Rattle.job.proofs.JobExact.{inside-below}
-use Rattle.job.specs.Words.{count, IsOrder}
+use Rattle.job.specs.Words.{Job, capacity, count}
 use Rattle.job.proofs.Orders.{one-same, order-length}
-use Rattle.job.specs.Handed.{someTests, curvesKnown, testsKnown}
 use Rattle.drive.specs.Steps.{moves}
 use Rattle.drive.proofs.CheckExact.{AllKept, first-kept, moved-≼}
-use Rattle.planning.specs.Plan.{Step, steps, inOrder}
+use Rattle.planning.specs.Plan.{Plan, steps, inOrder}
 use Rattle.planning.specs.Planning.{checking}
 use Rattle.planning.proofs.CheckExact.{Passes, passed}
-use Rattle.plan_bytes.specs.PlanBytes.{setField, stepBytes, stepsBytes, planBytes, Placed, readSet, readStep, readSteps, readPlanBytes, planSteps, writePlan}
+use Rattle.plan_bytes.specs.PlanBytes.{setField, stepBytes, stepsBytes, planBytes, Placed, testsOf, planIn, readSet, readStep, readSteps, readPlanBytes, planSteps, writePlan}
 use Rattle.job_bytes.proofs.Encoding.{stands-le}
 use Rattle.plan_bytes.proofs.Writing.{one}
 
@@ -188,25 +187,26 @@ module _ (places curves : ℕ) (wants : List ℕ) where
       test (no e) = omega arith
 
 -- A PLAN THAT IS WRITTEN READS BACK
-pub plan-back : (places curves : ℕ) (wants order drops loads : List ℕ) (lent : ℕ) (bytes : List ℕ) → writePlan places curves wants order drops loads lent ≡ done bytes
-    → (ss : List Placed) × (planSteps curves (length wants) bytes ≡ done ss) × (map (λ s. s .step .test) ss ≡ order) × (map (λ s. s .step .drops) ss ≡ drops) × (map (λ s. s .step .loads) ss ≡ loads)
+pub plan-back : (j : Job) (order : List ℕ) (p : Plan) (lent : ℕ) (bytes : List ℕ) → writePlan j order p lent ≡ done bytes
+    → (ss : List Placed) × (planSteps (j .rig .curves) (length (j .wants)) bytes ≡ done ss) × (testsOf ss ≡ order) × (planIn ss ≡ p)
 unfolding writePlan planSteps countsKnown someTests curvesKnown testsKnown between
-plan-back places curves wants order drops loads lent bytes e =
-    let a = bind-done (checking places curves wants order drops loads) _ bytes e in
-    let b = both-done (room lent (length (planBytes order drops loads))) (done (planBytes order drops loads)) bytes (a .2) in
-    let p : Passes places curves wants order drops loads = passed places curves wants order drops loads (a .0) (a .1) in
-    let few = p .is-job .curves-bounds .1 in
-    let long = order-length (length wants) order (p .is-order) in
-    let r : InRange curves (length wants) few order drops loads =
-    in-range places curves wants few 0 order drops loads (p .drop-sets ∙ sym long) (p .load-sets ∙ sym long) (empty-≼ (allCurves curves)) (p .is-order .only) (p .steps) in
-    let ss = stepsOf curves (length wants) few 0 order drops loads in (
+plan-back j order p lent bytes e =
+    let curves = j .rig .curves in
+    let tests = length (j .wants) in
+    let a = bind-done (checking j order p) _ bytes e in
+    let b = both-done (room lent (length (planBytes order (p .drops) (p .loads)))) (done (planBytes order (p .drops) (p .loads))) bytes (a .2) in
+    let ok : Passes j order p = passed j order p (a .0) (a .1) in
+    let few = ok .is-job .curves-bounds .1 in
+    let long = order-length tests order (ok .is-order) in
+    let r : InRange curves tests few order (p .drops) (p .loads) =
+    in-range (capacity (j .rig)) curves (j .wants) few 0 order (p .drops) (p .loads) (ok .drop-sets ∙ sym long) (ok .load-sets ∙ sym long) (empty-≼ (allCurves curves)) (ok .is-order .only) (ok .steps) in
+    let ss = stepsOf curves tests few 0 order (p .drops) (p .loads) in (
       ss,
-      done-both _ _ (counts-done curves (length wants) (p .is-job .curves-bounds) (p .is-job .tests-bounds))
-          ∙ ap (readPlanBytes curves (length wants)) (sym (done-same (b .1)))
-          ∙ bytes-back curves (length wants) few order drops loads long r,
-      of-tests curves (length wants) few 0 order drops loads r,
-      of-drops curves (length wants) few 0 order drops loads r,
-      of-loads curves (length wants) few 0 order drops loads r,
+      done-both _ _ (counts-done curves tests (ok .is-job .curves-bounds) (ok .is-job .tests-bounds))
+          ∙ ap (readPlanBytes curves tests) (sym (done-same (b .1)))
+          ∙ bytes-back curves tests few order (p .drops) (p .loads) long r,
+      of-tests curves tests few 0 order (p .drops) (p .loads) r,
+      rw (of-drops curves tests few 0 order (p .drops) (p .loads) r, of-loads curves tests few 0 order (p .drops) (p .loads) r) refl,
     )
   where
     counts-done : (curves tests : ℕ) → (1 ≤ curves) × (curves ≤ 64) → (1 ≤ tests) × (tests ≤ 256) → countsKnown curves tests ≡ done tt
@@ -315,10 +315,9 @@ module _ (curves tests : ℕ) where
           (sym (b ∙ ap (λ (l : List ℕ). planBytes (map (λ s. s .step .test) ts) (map (λ s. s .step .drops) ts) (map (λ s. s .step .loads) ts) ++ l) n ∙ append-nil _))
 
 -- .. so a plan that reads and passes the check is written as the bytes that it was read from
-pub plan-read : (places curves : ℕ) (wants bs : List ℕ) (ss : List Placed) → Bytes bs → planSteps curves (length wants) bs ≡ done ss
-    → (n : ℕ) → checking places curves wants (map (λ s. s .step .test) ss) (map (λ s. s .step .drops) ss) (map (λ s. s .step .loads) ss) ≡ done n
-    → writePlan places curves wants (map (λ s. s .step .test) ss) (map (λ s. s .step .drops) ss) (map (λ s. s .step .loads) ss) (length bs) ≡ done bs
+pub plan-read : (j : Job) (bs : List ℕ) (ss : List Placed) → Bytes bs → planSteps (j .rig .curves) (length (j .wants)) bs ≡ done ss
+    → (n : ℕ) → checking j (testsOf ss) (planIn ss) ≡ done n → writePlan j (testsOf ss) (planIn ss) (length bs) ≡ done bs
 unfolding writePlan planSteps _>>=_
-plan-read places curves wants bs ss all e n c =
-    let s = plan-bytes-read curves (length wants) bs ss all (both-done (countsKnown curves (length wants)) _ ss e .1) in
+plan-read j bs ss all e n c =
+    let s = plan-bytes-read (j .rig .curves) (length (j .wants)) bs ss all (both-done (countsKnown (j .rig .curves) (length (j .wants))) _ ss e .1) in
     rw c (done-both _ _ (done-room (length bs) _ (omega (arith, ap length s))) ∙ ap done s)

@@ -13,33 +13,29 @@ use Rattle.job_bytes.specs.declared.set_bytes.GroupRead.the-variants.{Curves, O
 use Rattle.job.specs.Refusal.{Outcome, done, refused, _>>=_, _>>_, demand}
 use Rattle.job.specs.Handed.{between}
 use Rattle.job_bytes.specs.SetBytes.{Got, got, byteAt, readGroups}
-use Rattle.job_bytes.proofs.Turns.{byte-here, byte-owed, group-absent}
+use Rattle.job_bytes.proofs.Turns.{byte-here, byte-owed}
 use Rattle.job_bytes.proofs.GroupByte.{Answers, answer-owed, answer-empty, answer-unknown, answer-curves}
 use Rattle.plan_bytes.specs.declared.SetRead.{SetRead}
 use Rattle.plan_bytes.specs.declared.StepRead.{StepRead}
 use Rattle.plan_bytes.specs.PlanBytes.{Placed, readSet, readStep}
-use Rattle.plan_bytes.specs.Answers.{setOutcome, stepOutcome}
+use Rattle.plan_bytes.specs.Contracts.{setOutcome, stepOutcome}
 
 -- ---- one group: j is the next, the groups before it gave the set s
 module _ (curves map s k j : ℕ) (bs : List ℕ) (few : curves ≤ 64) (below : j < 8) where
   abbrev groupsAt : ℕ → ℕ → ℕ → Outcome (Got ℕ)
   groupsAt j s k = readGroups 11 11 11 curves (8 - j) j map s k (drop k bs)
 
-  pub group-skipped : bit j map ≡ 0 → groupsAt j s k ≡ groupsAt (j + 1) s k
-  group-skipped z = rw zero-add at (group-absent 11 11 11 curves map s 0 k j bs below z)
+  pub group-read : (x : ℕ) → k ≤ length bs → Answers bs k (bit j map) j curves (Curves x) → (k + bit j map ≤ length bs) × (groupsAt j s k ≡ groupsAt (j + 1) (s ∪ x) (k + bit j map))
+  group-read x l f =
+      let r = answer-curves 11 11 11 curves map s 0 k j bs below few x l f in
+      (r .0, rw (zero-add k, zero-add (k + bit j map)) at (r .1))
 
-  module _ (there : bit j map ≡ 1) where
-    pub group-taken : (x : ℕ) → Answers bs k j curves (Curves x) → (k < length bs) × (groupsAt j s k ≡ groupsAt (j + 1) (s ∪ x) (k + 1))
-    group-taken x f =
-        let r = answer-curves 11 11 11 curves map s 0 k j bs below few there x f in
-        (r .0, rw (zero-add k, zero-add (k + 1)) at (r .1))
-
-    -- a group byte that is owed, or zero, or names a curve that the job lacks
-    pub group-faulty : (r : GroupRead) → ((x : ℕ) → r ≡ Curves x → ⊥) → Answers bs k j curves r → groupsAt j s k ≡ refused 11 k
-    group-faulty (Curves x) n f = absurd (n x refl)
-    group-faulty Owed n f = rw (zero-add k) at (answer-owed 11 11 11 curves map s 0 k j bs below few there f)
-    group-faulty Empty n f = rw (zero-add k) at (answer-empty 11 11 11 curves map s 0 k j bs below few there f)
-    group-faulty Unknown n f = rw (zero-add k) at (answer-unknown 11 11 11 curves map s 0 k j bs below few there f)
+  -- a group byte that is owed, or zero, or names a curve that the job lacks
+  pub group-faulty : (r : GroupRead) → ((x : ℕ) → r ≡ Curves x → ⊥) → Answers bs k (bit j map) j curves r → groupsAt j s k ≡ refused 11 k
+  group-faulty (Curves x) n f = absurd (n x refl)
+  group-faulty Owed n f = rw (zero-add k) at (answer-owed 11 11 11 curves map s 0 k j bs below few f)
+  group-faulty Empty n f = rw (zero-add k) at (answer-empty 11 11 11 curves map s 0 k j bs below few f)
+  group-faulty Unknown n f = rw (zero-add k) at (answer-unknown 11 11 11 curves map s 0 k j bs below few f)
 
 -- ---- a byte of the whole plan
 module _ (k : ℕ) (bs : List ℕ) where

@@ -17,7 +17,7 @@ use Rattle.job.proofs.Laws.{refused≢done, mapped-done, both, both-done, done-
 use Rattle.job.proofs.Examination.{refused-both}
 use Rattle.plan_bytes.specs.declared.StepRead.{StepRead}
 use Rattle.plan_bytes.specs.PlanBytes.{Placed, readStep, readSteps, readPlanBytes, planSteps}
-use Rattle.plan_bytes.specs.Answers.{stepOutcome}
+use Rattle.plan_bytes.specs.Contracts.{stepOutcome}
 
 -- a step that was read at offset i
 abbrev pub placed : ℕ → ℕ → ℕ → ℕ → ℕ → Placed

@@ -1,25 +1,24 @@
 -- Writing a plan: the bytes of a set, of a step and of the steps to come; and what is answered and left, case by case.
 use mathlib.Core.Path.{_≡_, refl, sym, ap, _∙_}
-use mathlib.Core.List.{List, [], _∷_, _++_, append-nil}
-use Prim.Native.Nat.{ℕ, zero, suc, _+_, _-_, _*_, _≤_, _<_}
+use mathlib.Core.List.{List, [], _∷_, _++_, append-assoc}
+use Prim.Native.Nat.{ℕ, zero, suc, _+_, _*_, _≤_, _<_}
 use native.Mathlib.Omega.{arith}
 use native.Mathlib.Numerals.{add-one}
-use lib.ListN.{length, getD, take, drop, set, length-append, length-drop, drop-of-length-le}
-use lib.Seq.{sets, sets-eq, drop-cons, take-all}
-use borrow.Rule.Slice.PartMut.{putMid}
+use lib.ListN.{length, getD, take, drop, set, length-append, drop-of-length-le}
+use lib.Seq.{sets, length-sets, drop-cons}
 use borrow.Author.Tests.{lt-leb}
-use Rattle.job.specs.declared.Refusal.{Refusal}
-use Rattle.job.specs.declared.Counted.{Counted}
-use Rattle.job.specs.Refusal.{Outcome, done, refused, number, figure, countOutcome, _>>=_, _>>_, mapped, demand, room, leaves, overwritten}
+use Rattle.lists.proofs.Overwritten.{sets-front}
+use Rattle.job.specs.Refusal.{done, refused, _>>=_, _>>_, demand, room}
 use Rattle.job_bytes.specs.SetBytes.{stands, setBytes}
 use Rattle.job.proofs.Laws.{done-both, done-room}
-use Rattle.job_bytes.proofs.Encoding.{set-le, sets-append, sets-part, put, put-fits}
-use Rattle.planning.specs.Plan.{Step, steps}
+use Rattle.job_bytes.proofs.Encoding.{set-le, next-over}
+use Rattle.job.specs.Words.{Job}
+use Rattle.planning.specs.Plan.{Plan, Step, steps}
 use Rattle.planning.specs.Planning.{checking}
-use Rattle.planning.proofs.OrderExact.{own-tests}
+use Rattle.job.proofs.OrderExact.{own-tests}
 use Rattle.planning.proofs.CheckExact.{passed}
 use Rattle.job.proofs.Orders.{order-length}
-use Rattle.plan_bytes.specs.PlanBytes.{setField, stepBytes, stepsBytes, planBytes, writePlan, writePlanAnswer, writePlanBuffer}
+use Rattle.plan_bytes.specs.PlanBytes.{setField, stepBytes, stepsBytes, planBytes, writePlan}
 
 -- ---- a set
 
@@ -31,14 +30,6 @@ pub field-some : (s : ℕ) → (s ≡ 0 → ⊥) → setField s ≡ setBytes s
 unfolding setField
 field-some zero h = absurd (h refl)
 field-some (suc s) h = refl
-
-pub put-none : (new old : List ℕ) → new ≡ [] → old ≡ put new old
-put-none new old e = rw e (sym (put-fits [] old (omega arith)))
-
--- a run of stores from the beginning on is what is overwritten
-pub stored : (new old : List ℕ) → length new ≤ length old → sets old 0 new ≡ overwritten new old
-unfolding overwritten
-stored new old h = let z : 0 + length new ≡ length new = omega arith in rw z at (sets-eq new old 0 (omega arith))
 
 -- ---- a step
 
@@ -53,13 +44,16 @@ pub step-length : (t d l : ℕ) → length (stepBytes (one t d l)) ≡ 2 + lengt
 unfolding stepBytes
 step-length t d l = simp length-append (omega arith)
 
--- the map, and then the fields, one store or run of stores after the other
-pub step-stores : (t d l m : ℕ) (old : List ℕ) → m ≡ stands d + 2 * stands l + 4
-    → sets old 0 (stepBytes (one t d l)) ≡ set (sets (sets (set old 0 m) 1 (setField d)) (1 + length (setField d)) (setField l)) (1 + length (setField d) + length (setField l)) t
+-- the map, then each field over the zero byte behind the last
+pub step-stores : (t d l m i : ℕ) (old : List ℕ) → m ≡ stands d + 2 * stands l + 4
+    → set (sets (sets (set old i m) (i + 1) (setField d ++ (0 ∷ []))) (i + 1 + length (setField d)) (setField l ++ (0 ∷ []))) (i + 1 + length (setField d) + length (setField l)) t
+    ≡ sets old i (stepBytes (one t d l))
 unfolding stepBytes
-step-stores t d l m old e =
-    let z : 1 + (length (setField d) + length (setField l)) ≡ 1 + length (setField d) + length (setField l) = omega arith in
-    rw (← e) (sets-append (setField d ++ setField l) (set old 0 m) (t ∷ []) 1 ∙ rw (sets-append (setField d) (set old 0 m) (setField l) 1, length-append (setField d) (setField l), z) refl)
+step-stores t d l m i old e =
+    let n : i + 1 ≡ suc i = omega arith in
+    next-over (setField l) [] (sets (set old i m) (i + 1) (setField d ++ (0 ∷ []))) (i + 1 + length (setField d)) t
+    ∙ next-over (setField d) (setField l) (set old i m) (i + 1) t
+    ∙ rw (append-assoc (setField d) (setField l) (t ∷ []), ← e, n) refl
 
 pub field-le : (s : ℕ) → length (setField s) ≤ 9
 unfolding setField
@@ -89,90 +83,47 @@ module _ (order drops loads : List ℕ) (i : ℕ) where
   unfolding steps stepsBytes
   steps-none h = rw (drop-of-length-le order h) refl
 
--- ---- a part that was lent to the end of the list l, from i on, and came back
+-- ---- a list of its own, l, that was written from its start
+module _ (new l out : List ℕ) (n : ℕ) (count : n ≡ length new) (stored : out ≡ sets l 0 new) (fits : length new ≤ length l) where
+  pub own-long : n ≤ length out
+  own-long = omega (arith, ap length stored, length-sets l 0 new)
 
-abbrev pub ending : ℕ → List ℕ → List ℕ → List ℕ
-ending i l new = putMid i (length l - i) l new
-
-abbrev pub lent : ℕ → List ℕ → List ℕ
-lent i l = take (length l - i) (drop i l)
-
-lent-whole : (i : ℕ) (l : List ℕ) → lent i l ≡ drop i l
-lent-whole i l = take-all (length l - i) (drop i l) (simp length-drop (omega arith))
-
-part-stored : (l vs new : List ℕ) (i : ℕ) → new ≡ sets (lent i l) 0 vs → ending i l new ≡ sets l i vs
-part-stored l vs new i e =
-    let z : i + 0 ≡ i = omega arith in
-    let h : length (drop i l) ≤ length l - i = simp length-drop (omega arith) in
-    let n : drop (length l - i) (drop i l) ≡ [] = drop-of-length-le (drop i l) h in
-    rw (e, lent-whole i l, n, append-nil (sets (drop i l) 0 vs)) (sets-part l vs i 0 ∙ ap (λ (k : ℕ). sets l k vs) z)
-
-module _ (l vs : List ℕ) (i : ℕ) (h : i + length vs ≤ length l) where
-  pub lent-fits : length vs ≤ length (lent i l)
-  lent-fits = rw (lent-whole i l) (simp length-drop (omega arith))
-
-  pub part-put : (new : List ℕ) → new ≡ put vs (lent i l) → ending i l new ≡ sets l i vs
-  part-put new e = part-stored l vs new i (e ∙ put-fits vs (lent i l) lent-fits)
-
-  pub part-written : (new : List ℕ) → new ≡ overwritten vs (lent i l) → ending i l new ≡ sets l i vs
-  part-written new e = part-stored l vs new i (e ∙ sym (stored vs (lent i l) lent-fits))
-
--- ---- the answer of the plan check
-module _ (r : Counted) (o : Outcome ℕ) (e : countOutcome r ≡ o) where
-  pub counted-refused : (f : Refusal) → r ≡ Counted.Refused f → o ≡ refused (number f) (figure f)
-  unfolding countOutcome
-  counted-refused f p = sym e ∙ rw p refl
-
-  pub counted-done : (n : ℕ) → r ≡ Counted.Count n → o ≡ done n
-  unfolding countOutcome
-  counted-done n p = sym e ∙ rw p refl
+  pub own-front : take n out ≡ new
+  own-front = ap (take n) stored ∙ sets-front new l n (sym count) (omega arith)
 
 -- ---- what is answered and left
-module _ (places curves : ℕ) (wants order drops loads old : List ℕ) where
-  abbrev writing : Outcome (List ℕ)
-  writing = writePlan places curves wants order drops loads (length old)
-
+module _ (j : Job) (order : List ℕ) (p : Plan) (lent : ℕ) where
   abbrev bytes : List ℕ
-  bytes = planBytes order drops loads
+  bytes = planBytes order (p .drops) (p .loads)
 
-  pub write-refused : (k i : ℕ) → writing ≡ refused k i
-      → (refused k i ≡ writePlanAnswer places curves wants order drops loads old) × (old ≡ writePlanBuffer places curves wants order drops loads old)
-  unfolding writePlanAnswer writePlanBuffer mapped leaves
-  write-refused k i e = (rw e refl, rw e refl)
-
-  pub write-given : writing ≡ done bytes
-      → (done (length bytes) ≡ writePlanAnswer places curves wants order drops loads old) × (overwritten bytes old ≡ writePlanBuffer places curves wants order drops loads old)
-  unfolding writePlanAnswer writePlanBuffer mapped leaves
-  write-given e = (rw e refl, rw e refl)
-
-  pub unchecked : (k i : ℕ) → checking places curves wants order drops loads ≡ refused k i → writing ≡ refused k i
+  pub unchecked : (k i : ℕ) → checking j order p ≡ refused k i → writePlan j order p lent ≡ refused k i
   unfolding writePlan _>>=_
   unchecked k i e = rw e refl
 
-  module _ (m : ℕ) (e : checking places curves wants order drops loads ≡ done m) where
-    pub too-short : length old < length bytes → writing ≡ refused 9 (length bytes)
+  module _ (m : ℕ) (e : checking j order p ≡ done m) where
+    pub too-short : lent < length bytes → writePlan j order p lent ≡ refused 9 (length bytes)
     unfolding writePlan _>>=_ _>>_ room demand
-    too-short h = rw (e, lt-leb (length bytes) (length old) h) refl
+    too-short h = rw (e, lt-leb (length bytes) lent h) refl
 
-    pub long-enough : length bytes ≤ length old → writing ≡ done bytes
+    pub long-enough : length bytes ≤ lent → writePlan j order p lent ≡ done bytes
     unfolding writePlan _>>=_
-    long-enough h = rw e (done-both _ _ (done-room (length old) (length bytes) h))
+    long-enough h = rw e (done-both _ _ (done-room lent (length bytes) h))
 
-  -- what passed the check is a list of steps: a test below 256, a drop set and a load set for each test, at most 256 of them
-  pub record Writable : Type 0 where
-    pub tests : (i : ℕ) → i < length order → getD order i 0 < 256
-    pub few : length order ≤ 256
-    pub drop-sets : length drops ≡ length order
-    pub load-sets : length loads ≡ length order
+-- what passed the check is a list of steps: a test below 256, a drop set and a load set for each test, at most 256 of them
+pub record Writable (order : List ℕ) (p : Plan) : Type 0 where
+  pub tests : (i : ℕ) → i < length order → getD order i 0 < 256
+  pub few : length order ≤ 256
+  pub drop-sets : length (p .drops) ≡ length order
+  pub load-sets : length (p .loads) ≡ length order
 
-  pub writable : (m : ℕ) → checking places curves wants order drops loads ≡ done m → Writable
-  writable m e =
-      let p = passed places curves wants order drops loads m e in
-      let n = order-length (length wants) order (p .is-order) in
-      let b = p .is-job .tests-bounds in
-      record {
-        tests = λ i h. omega (arith, own-tests (length wants) order (p .is-order) i h);
-        few = omega arith;
-        drop-sets = p .drop-sets ∙ sym n;
-        load-sets = p .load-sets ∙ sym n;
-      }
+pub writable : (j : Job) (order : List ℕ) (p : Plan) (m : ℕ) → checking j order p ≡ done m → Writable order p
+writable j order p m e =
+    let ok = passed j order p m e in
+    let n = order-length (length (j .wants)) order (ok .is-order) in
+    let b = ok .is-job .tests-bounds in
+    record {
+      tests = λ i h. omega (arith, own-tests (length (j .wants)) order (ok .is-order) i h);
+      few = omega arith;
+      drop-sets = ok .drop-sets ∙ sym n;
+      load-sets = ok .load-sets ∙ sym n;
+    }

@@ -1,5 +1,5 @@
 -- The plan bytes of document 01: "Plan bytes".
 --     PlanBytes  written, read, and one step fetched
---     Answers    the answers of the readers of a set and of a step
+--     Contracts  the answers of the readers of a set and of a step: words that only contracts of private functions cite
 pub mod PlanBytes
-pub mod Answers
+pub mod Contracts

@@ -1,15 +1,16 @@
 -- "Plan bytes, step after step, nothing behind the last: a bit map (0 drops, 1 loads, 2 test; 3 to 7 zero), then those fields."
 use mathlib.Core.List.{List, [], _∷_, _++_, map}
-use Prim.Native.Nat.{ℕ, zero, suc, _+_, _-_, _*_}
-use lib.ListN.{length, getD, take, drop}
+use Prim.Native.Nat.{ℕ, zero, suc, _+_, _-_, _*_, min}
+use lib.ListN.{length, take, drop}
 use lib.Dec.{ltb}
 use Rattle.bitset.specs.Set.{bit}
 use Rattle.job.specs.Refusal.{Outcome, done, refused, _>>=_, _>>_, mapped, demand, room, leaves}
 use Rattle.lists.specs.Choice.{Found, nobody, found}
+use Rattle.job.specs.Words.{Job}
 use Rattle.job.specs.Handed.{between, countsKnown}
 use Rattle.job_bytes.specs.SetBytes.{stands, setBytes, Got, got, byteAt, readGroups}
 use Rattle.job_bytes.specs.JobBytes.{atEnd}
-use Rattle.planning.specs.Plan.{Step, steps}
+use Rattle.planning.specs.Plan.{Plan, planOf, entries, Step, steps}
 use Rattle.planning.specs.Planning.{checking}
 use Rattle.plan_bytes.specs.declared.StepPart.{StepPart}
 
@@ -33,19 +34,19 @@ abbrev pub planBytes : List ℕ → List ℕ → List ℕ → List ℕ
 planBytes order drops loads = stepsBytes (steps order drops loads)
 
 -- "writing a plan 8, 12, 9", after 5 and 10
-unfoldable pub writePlan : ℕ → ℕ → List ℕ → List ℕ → List ℕ → List ℕ → ℕ → Outcome (List ℕ)
-writePlan places curves wants order drops loads lent = do
-  _ ← checking places curves wants order drops loads
-  room lent (length (planBytes order drops loads))
-  done (planBytes order drops loads)
+unfoldable pub writePlan : Job → List ℕ → Plan → ℕ → Outcome (List ℕ)
+writePlan j order p lent = do
+  _ ← checking j order p
+  room lent (length (planBytes order (p .drops) (p .loads)))
+  done (planBytes order (p .drops) (p .loads))
 
 -- what writing answers, and what the lent buffer holds afterwards
-module _ (places curves : ℕ) (wants order drops loads old : List ℕ) where
+module _ (j : Job) (order : List ℕ) (p : Plan) (old : List ℕ) where
   unfoldable pub writePlanAnswer : Outcome ℕ
-  writePlanAnswer = mapped length (writePlan places curves wants order drops loads (length old))
+  writePlanAnswer = mapped length (writePlan j order p (length old))
 
   unfoldable pub writePlanBuffer : List ℕ
-  writePlanBuffer = leaves (writePlan places curves wants order drops loads (length old)) old
+  writePlanBuffer = leaves (writePlan j order p (length old)) old
 
 -- ---- read
 
@@ -54,6 +55,13 @@ pub record Placed : Type 0 where
   pub step : Step
   pub from : ℕ
   pub until : ℕ
+
+-- the steps' tests, and their sets as a plan is handed over
+abbrev pub testsOf : List Placed → List ℕ
+testsOf = map (λ s. s .step .test)
+
+abbrev pub planIn : List Placed → Plan
+planIn ss = planOf (map (λ s. s .step .drops) ss) (map (λ s. s .step .loads) ss)
 
 -- "11, offset: first malformed or surplus byte; the input length if cut": a job with so many curves and tests
 module _ (curves tests : ℕ) where
@@ -96,31 +104,26 @@ module _ (curves tests : ℕ) where
     countsKnown curves tests
     readPlanBytes bs
 
-  -- "reading a plan 11, 9", after 5 and 10
-  unfoldable pub readPlan : List ℕ → ℕ → ℕ → ℕ → Outcome (List Placed)
-  readPlan bs lentOrder lentDrops lentLoads = do
+  -- "reading a plan 11, 9", after 5 and 10: into lists of which the shortest has so many entries
+  unfoldable pub readPlan : List ℕ → ℕ → Outcome (List Placed)
+  readPlan bs lent = do
     ss ← planSteps bs
-    room lentOrder tests
-    room lentDrops tests
-    room lentLoads tests
+    room lent tests
     done ss
 
   -- what reading answers, the number of steps; and what the lent order, drops and loads hold afterwards
-  module _ (bs order drops loads : List ℕ) where
+  module _ (bs order : List ℕ) (lent : Plan) where
     abbrev pub planRead : Outcome (List Placed)
-    planRead = readPlan bs (length order) (length drops) (length loads)
+    planRead = readPlan bs (min (length order) (entries lent))
 
     unfoldable pub readPlanAnswer : Outcome ℕ
     readPlanAnswer = mapped length planRead
 
     unfoldable pub readPlanOrder : List ℕ
-    readPlanOrder = leaves (mapped (map (λ s. s .step .test)) planRead) order
+    readPlanOrder = leaves (mapped testsOf planRead) order
 
-    unfoldable pub readPlanDrops : List ℕ
-    readPlanDrops = leaves (mapped (map (λ s. s .step .drops)) planRead) drops
-
-    unfoldable pub readPlanLoads : List ℕ
-    readPlanLoads = leaves (mapped (map (λ s. s .step .loads)) planRead) loads
+    unfoldable pub readPlanLists : Plan
+    readPlanLists = planOf (leaves (mapped (λ ss. planIn ss .drops) planRead) (lent .drops)) (leaves (mapped (λ ss. planIn ss .loads) planRead) (lent .loads))
 
   -- ---- "A step's bytes can be fetched by position"
 

@@ -1,20 +1,27 @@
 // Plan bytes: written, read, and one step fetched by its position.
 ghost use mathlib.Core.Path.{_≡_};
-ghost use mathlib.Core.List.{map};
+ghost use mathlib.Core.List.{[], _∷_, _++_};
 ghost use Prim.Native.Nat.{ℕ, _+_, _-_, _*_, _≤_, _<_};
 ghost use lib.ListN.{length, getD, drop};
+ghost use lib.Seq.{sets};
+ghost use Rattle.lists.specs.Lent.{was, after};
 ghost use Rattle.job_bytes.specs.SetBytes.{stands, readGroups};
-ghost use Rattle.job.specs.Refusal.{done, mapped, room, examinedOutcome, countOutcome, leaves, overwritten};
-ghost use Rattle.plan_bytes.specs.PlanBytes.{setField, stepBytes, planBytes, writePlanAnswer, writePlanBuffer, readSet, readStep, readPlanBytes, planSteps, readPlanAnswer, readPlanOrder, readPlanDrops, readPlanLoads, fetched, partOf, stepPart, stepAt};
-ghost use Rattle.plan_bytes.specs.Answers.{setOutcome, stepOutcome};
+ghost use Rattle.job.specs.Refusal.{done, mapped, examinedOutcome, countOutcome, leaves};
+ghost use Rattle.job.specs.Words.{jobOf};
+ghost use Rattle.planning.specs.Plan.{planOf};
+ghost use Rattle.plan_bytes.specs.PlanBytes.{setField, stepBytes, planBytes, writePlanAnswer, writePlanBuffer, testsOf, planIn};
+ghost use Rattle.plan_bytes.specs.PlanBytes.{readSet, readStep, readPlanBytes, planSteps, readPlanAnswer, readPlanOrder, readPlanLists};
+ghost use Rattle.plan_bytes.specs.PlanBytes.{fetched, partOf, stepPart, stepAt};
+ghost use Rattle.plan_bytes.specs.Contracts.{setOutcome, stepOutcome};
 use job::Counted;
 use job::Examined;
 use job::Refusal;
+use job::Rig;
 use job::examine_counts;
 use job_bytes::set_bytes::GroupRead;
-use job_bytes::set_bytes::put_set;
-use job_bytes::set_bytes::read_group;
-use job_bytes::set_bytes::set_len;
+use job_bytes::set_bytes::put_front;
+use job_bytes::set_bytes::put_set_at;
+use job_bytes::set_bytes::read_due;
 use planning::check_plan;
 
 // What stands where a set is due.
@@ -35,22 +42,20 @@ enum StepRead {
 
 // The groups of a set, behind its group map.
 fn read_groups(plan: &[u8], start: usize, groups: u8, curves: usize) -> SetRead
-    requires { ⌜ curves ≤ 64 ⌝ }
-    ensures { λ r. ⌜ setOutcome (now (plan .entry)) r ≡ readGroups 11 11 11 curves 8 0 groups 0 start (drop start (now (plan .entry))) ⌝ }
+    requires { ⌜ (curves ≤ 64) × (start ≤ length (now plan)) ⌝ }
+    ensures { λ r. ⌜ setOutcome (was plan) r ≡ readGroups 11 11 11 curves 8 0 groups 0 start (drop start (was plan)) ⌝ }
 {
     let mut next = start;
     let mut set: u64 = 0;
     let mut j: usize = 0;
     while j < 8 {
-        if (groups >> j) % 2 == 1 {
-            match read_group(plan, next, j, curves) {
-                GroupRead::Curves(group) => {
-                    set = set | group;
-                    next += 1;
-                }
-                _ => {
-                    return SetRead::Fault(next);
-                }
+        match read_due(plan, next, groups, j, curves) {
+            GroupRead::Curves(group) => {
+                set = set | group;
+                next += ((groups >> j) % 2) as usize;
+            }
+            _ => {
+                return SetRead::Fault(next);
             }
         }
         j += 1;
@@ -61,7 +66,7 @@ fn read_groups(plan: &[u8], start: usize, groups: u8, curves: usize) -> SetRead
 // A set, if its bit stands: "A set is written as a group map and group bytes, neither zero."
 fn read_set(plan: &[u8], at: usize, stands: u8, curves: usize) -> SetRead
     requires { ⌜ curves ≤ 64 ⌝ }
-    ensures { λ r. ⌜ ((tests : ℕ) → setOutcome (now (plan .entry)) r ≡ readSet curves tests stands at (drop at (now (plan .entry)))) ⌝ }
+    ensures { λ r. ⌜ ((tests : ℕ) → setOutcome (was plan) r ≡ readSet curves tests stands at (drop at (was plan))) ⌝ }
 {
     if stands == 0 {
         return SetRead::Set(0, at);
@@ -78,7 +83,7 @@ fn read_set(plan: &[u8], at: usize, stands: u8, curves: usize) -> SetRead
 // One step: a map, then the drops, the loads and the test. "Bit 2 always stands." "A test or curve that the job lacks is malformed".
 fn read_step(plan: &[u8], at: usize, curves: usize, tests: usize) -> StepRead
     requires { ⌜ curves ≤ 64 ⌝ }
-    ensures { λ r. ⌜ stepOutcome (now (plan .entry)) at r ≡ readStep curves tests at (drop at (now (plan .entry))) ⌝ }
+    ensures { λ r. ⌜ stepOutcome (was plan) at r ≡ readStep curves tests at (drop at (was plan)) ⌝ }
 {
     if plan.len() <= at {
         return StepRead::Fault(at);
@@ -111,7 +116,7 @@ fn read_step(plan: &[u8], at: usize, curves: usize, tests: usize) -> StepRead
 // 11: the steps, "as many steps as tests", "nothing behind the last".
 fn examine_steps(curves: usize, tests: usize, plan: &[u8]) -> Examined
     requires { ⌜ curves ≤ 64 ⌝ }
-    ensures { λ r. ⌜ examinedOutcome r ≡ mapped (λ _. tt) (readPlanBytes curves tests (now (plan .entry))) ⌝ }
+    ensures { λ r. ⌜ examinedOutcome r ≡ mapped (λ _. tt) (readPlanBytes curves tests (was plan)) ⌝ }
 {
     let mut at: usize = 0;
     let mut k: usize = 0;
@@ -134,7 +139,7 @@ fn examine_steps(curves: usize, tests: usize, plan: &[u8]) -> Examined
 
 // 5, 10 and 11: whether the bytes are a plan of so many curves and tests.
 fn examine_plan(curves: usize, tests: usize, plan: &[u8]) -> Examined
-    ensures { λ r. ⌜ examinedOutcome r ≡ mapped (λ _. tt) (planSteps curves tests (now (plan .entry))) ⌝ }
+    ensures { λ r. ⌜ examinedOutcome r ≡ mapped (λ _. tt) (planSteps curves tests (was plan)) ⌝ }
 {
     match examine_counts(curves, tests) {
         Examined::Refused(r) => Examined::Refused(r),
@@ -153,9 +158,9 @@ fn fill_lists(
 )
     requires counts { ⌜ (curves ≤ 64) × (tests ≤ length (now order)) × (tests ≤ length (now drops)) × (tests ≤ length (now loads)) ⌝ }
     requires reads { ⌜ mapped (λ _. tt) (readPlanBytes curves tests (now plan)) ≡ done (tt {0}) ⌝ }
-    ensures tests { λ _. ⌜ now (order .exit) ≡ leaves (mapped (map (λ s. s .step .test)) (readPlanBytes curves tests (now (plan .entry)))) (now (order .entry)) ⌝ }
-    ensures drops { λ _. ⌜ now (drops .exit) ≡ leaves (mapped (map (λ s. s .step .drops)) (readPlanBytes curves tests (now (plan .entry)))) (now (drops .entry)) ⌝ }
-    ensures loads { λ _. ⌜ now (loads .exit) ≡ leaves (mapped (map (λ s. s .step .loads)) (readPlanBytes curves tests (now (plan .entry)))) (now (loads .entry)) ⌝ }
+    ensures tests { λ _. ⌜ after order ≡ leaves (mapped testsOf (readPlanBytes curves tests (was plan))) (was order) ⌝ }
+    ensures drops { λ _. ⌜ after drops ≡ leaves (mapped (λ ss. planIn ss .drops) (readPlanBytes curves tests (was plan))) (was drops) ⌝ }
+    ensures loads { λ _. ⌜ after loads ≡ leaves (mapped (λ ss. planIn ss .loads) (readPlanBytes curves tests (was plan))) (was loads) ⌝ }
 {
     let mut at: usize = 0;
     let mut k: usize = 0;
@@ -185,27 +190,24 @@ pub fn read_plan(
     drops: &mut [u64],
     loads: &mut [u64],
 ) -> Counted
-    ensures answer { λ r. ⌜ countOutcome r ≡ readPlanAnswer curves tests (now (plan .entry)) (now (order .entry)) (now (drops .entry)) (now (loads .entry)) ⌝ }
-    ensures order { λ _. ⌜ now (order .exit) ≡ readPlanOrder curves tests (now (plan .entry)) (now (order .entry)) (now (drops .entry)) (now (loads .entry)) ⌝ }
-    ensures drops { λ _. ⌜ now (drops .exit) ≡ readPlanDrops curves tests (now (plan .entry)) (now (order .entry)) (now (drops .entry)) (now (loads .entry)) ⌝ }
-    ensures loads { λ _. ⌜ now (loads .exit) ≡ readPlanLoads curves tests (now (plan .entry)) (now (order .entry)) (now (drops .entry)) (now (loads .entry)) ⌝ }
+    ensures answer { λ r. ⌜ countOutcome r ≡ readPlanAnswer curves tests (was plan) (was order) (planOf (was drops) (was loads)) ⌝ }
+    ensures order { λ _. ⌜ after order ≡ readPlanOrder curves tests (was plan) (was order) (planOf (was drops) (was loads)) ⌝ }
+    ensures lists { λ _. ⌜ planOf (after drops) (after loads) ≡ readPlanLists curves tests (was plan) (was order) (planOf (was drops) (was loads)) ⌝ }
 {
-    match examine_plan(curves, tests, plan) {
-        Examined::Refused(r) => Counted::Refused(r),
-        Examined::Passed => {
-            if order.len() < tests {
-                return Counted::Refused(Refusal::BufferTooSmall(tests));
-            }
-            if drops.len() < tests {
-                return Counted::Refused(Refusal::BufferTooSmall(tests));
-            }
-            if loads.len() < tests {
-                return Counted::Refused(Refusal::BufferTooSmall(tests));
-            }
-            fill_lists(curves, tests, plan, order, drops, loads);
-            Counted::Count(tests)
-        }
+    if let Examined::Refused(r) = examine_plan(curves, tests, plan) {
+        return Counted::Refused(r);
     }
+    if order.len() < tests {
+        return Counted::Refused(Refusal::BufferTooSmall(tests));
+    }
+    if drops.len() < tests {
+        return Counted::Refused(Refusal::BufferTooSmall(tests));
+    }
+    if loads.len() < tests {
+        return Counted::Refused(Refusal::BufferTooSmall(tests));
+    }
+    fill_lists(curves, tests, plan, order, drops, loads);
+    Counted::Count(tests)
 }
 
 // A part of the plan bytes: where it begins, and how many bytes it has.
@@ -218,8 +220,8 @@ pub struct StepPart {
 // Where the step at a position lies in the bytes of a plan that reads; else at their end, and empty.
 fn find_step(curves: usize, tests: usize, plan: &[u8], position: usize) -> StepPart
     requires { ⌜ curves ≤ 64 ⌝ }
-    ensures part { λ r. ⌜ r ≡ partOf curves tests (now (plan .entry)) (fetched curves tests position (readPlanBytes curves tests (now (plan .entry)))) ⌝ }
-    ensures inside { λ r. ⌜ r .start + r .count ≤ length (now (plan .entry)) ⌝ }
+    ensures part { λ r. ⌜ r ≡ partOf curves tests (was plan) (fetched curves tests position (readPlanBytes curves tests (was plan))) ⌝ }
+    ensures inside { λ r. ⌜ r .start + r .count ≤ length (was plan) ⌝ }
 {
     let size = plan.len();
     let mut start = size;
@@ -256,8 +258,8 @@ fn find_step(curves: usize, tests: usize, plan: &[u8], position: usize) -> StepP
 // Where the step at a position lies, or the end of the bytes: "the plan has no such step, its bytes would get refusal 11, or the handed counts are out of
 // range".
 pub fn step_part(curves: usize, tests: usize, plan: &[u8], position: usize) -> StepPart
-    ensures part { λ r. ⌜ r ≡ stepPart curves tests (now (plan .entry)) position ⌝ }
-    ensures inside { λ r. ⌜ r .start + r .count ≤ length (now (plan .entry)) ⌝ }
+    ensures part { λ r. ⌜ r ≡ stepPart curves tests (was plan) position ⌝ }
+    ensures inside { λ r. ⌜ r .start + r .count ≤ length (was plan) ⌝ }
 {
     match examine_counts(curves, tests) {
         Examined::Refused(_) => StepPart {
@@ -270,9 +272,9 @@ pub fn step_part(curves: usize, tests: usize, plan: &[u8], position: usize) -> S
 
 // "A step's bytes can be fetched by position: the answer is that part of the caller's plan bytes, or the empty part at their end".
 pub fn step_bytes(curves: usize, tests: usize, plan: &[u8], position: usize) -> &[u8]
-    ensures bytes { λ r. ⌜ now r ≡ stepAt curves tests (now (plan .entry)) position ⌝ }
+    ensures bytes { λ r. ⌜ now r ≡ stepAt curves tests (was plan) position ⌝ }
     ensures block { λ r. ⌜ r .ptr .0 ≡ plan .entry .ptr .0 ⌝ }
-    ensures place { λ r. ⌜ r .ptr .1 ≡ stepPart curves tests (now (plan .entry)) position .start + plan .entry .ptr .1 ⌝ }
+    ensures place { λ r. ⌜ r .ptr .1 ≡ stepPart curves tests (was plan) position .start + plan .entry .ptr .1 ⌝ }
 {
     let part = step_part(curves, tests, plan, position);
     let start = part.start;
@@ -280,25 +282,17 @@ pub fn step_bytes(curves: usize, tests: usize, plan: &[u8], position: usize) -> 
     &plan[start..end]
 }
 
-// How many bytes a set of a step takes: none if it is empty.
-fn field_len(s: u64) -> usize
-    ensures { λ r. ⌜ r ≡ length (setField s) ⌝ }
+// Writes a set of a step from `to` on, nothing if it is empty, and a zero byte behind it that the next is written over; answers where it ends.
+fn put_field(s: u64, to: usize, out: &mut [u8]) -> usize
+    requires { ⌜ to + 10 ≤ length (now out) ⌝ }
+    ensures end { λ r. ⌜ r ≡ to + length (setField s) ⌝ }
+    ensures bytes { λ _. ⌜ after out ≡ sets (was out) to (setField s ++ (0 ∷ [])) ⌝ }
 {
     if s == 0 {
-        return 0;
+        out[to] = 0;
+        return to;
     }
-    set_len(s)
-}
-
-// Writes a set of a step to the beginning of `out`, where it fits, and answers how many bytes it takes.
-fn put_field(s: u64, out: &mut [u8]) -> usize
-    ensures count { λ r. ⌜ r ≡ length (setField s) ⌝ }
-    ensures bytes { λ _. ⌜ now (out .exit) ≡ leaves (mapped (λ _. setField s) (room (length (now (out .entry))) (length (setField s)))) (now (out .entry)) ⌝ }
-{
-    if s == 0 {
-        return 0;
-    }
-    put_set(s, out)
+    put_set_at(s, to, out)
 }
 
 // The bit map of a step: "0 drops, 1 loads, 2 test". "Bit 2 always stands."
@@ -315,70 +309,60 @@ fn step_map(drops: u64, loads: u64) -> u8
     fields
 }
 
-// Writes a step to the beginning of `out`, and answers how many bytes it takes. "The test is one byte."
-fn put_step(test: u16, drops: u64, loads: u64, out: &mut [u8]) -> usize
-    requires { ⌜ (test < 256) × (length (stepBytes (record { test = test; drops = drops; loads = loads })) ≤ length (now out)) ⌝ }
-    ensures count { λ r. ⌜ r ≡ length (stepBytes (record { test = test; drops = drops; loads = loads })) ⌝ }
-    ensures bytes { λ _. ⌜ now (out .exit) ≡ overwritten (stepBytes (record { test = test; drops = drops; loads = loads })) (now (out .entry)) ⌝ }
+// Writes a step from `to` on, and answers where it ends. "The test is one byte."
+fn put_step(test: u16, drops: u64, loads: u64, to: usize, out: &mut [u8]) -> usize
+    requires { ⌜ (test < 256) × (to + 20 ≤ length (now out)) ⌝ }
+    ensures end { λ r. ⌜ r ≡ to + length (stepBytes (record { test = test; drops = drops; loads = loads })) ⌝ }
+    ensures bytes { λ _. ⌜ after out ≡ sets (was out) to (stepBytes (record { test = test; drops = drops; loads = loads })) ⌝ }
 {
-    out[0] = step_map(drops, loads);
-    let behind = 1 + put_field(drops, &mut out[1..]);
-    let last = behind + put_field(loads, &mut out[behind..]);
+    out[to] = step_map(drops, loads);
+    let behind = put_field(drops, to + 1, out);
+    let last = put_field(loads, behind, out);
     out[last] = test as u8;
     last + 1
 }
 
-// How many bytes the steps of a plan take.
-fn plan_len(order: &[u16], drops: &[u64], loads: &[u64]) -> usize
-    requires { ⌜ (length (now order) ≤ 256) × (length (now drops) ≡ length (now order)) × (length (now loads) ≡ length (now order)) ⌝ }
-    ensures { λ r. ⌜ r ≡ length (planBytes (now (order .entry)) (now (drops .entry)) (now (loads .entry))) ⌝ }
-{
-    let mut n: usize = 0;
-    let mut i: usize = 0;
-    while i < order.len() {
-        n += 2 + field_len(drops[i]) + field_len(loads[i]);
-        i += 1;
-    }
-    n
-}
-
-// Writes the steps of a plan to the beginning of `out`.
-fn put_plan(order: &[u16], drops: &[u64], loads: &[u64], out: &mut [u8])
+// Writes the steps of a plan to the beginning of `out`, and answers how many bytes they take.
+fn put_plan(order: &[u16], drops: &[u64], loads: &[u64], out: &mut [u8]) -> usize
     requires tests { ⌜ ((i : ℕ) → i < length (now order) → getD (now order) i 0 < 256) ⌝ }
     requires sets { ⌜ (length (now drops) ≡ length (now order)) × (length (now loads) ≡ length (now order)) ⌝ }
-    requires fits { ⌜ length (planBytes (now order) (now drops) (now loads)) ≤ length (now out) ⌝ }
-    ensures { λ _. ⌜ now (out .exit) ≡ overwritten (planBytes (now (order .entry)) (now (drops .entry)) (now (loads .entry))) (now (out .entry)) ⌝ }
+    requires fits { ⌜ 20 * length (now order) ≤ length (now out) ⌝ }
+    ensures count { λ r. ⌜ r ≡ length (planBytes (was order) (was drops) (was loads)) ⌝ }
+    ensures bytes { λ _. ⌜ after out ≡ sets (was out) 0 (planBytes (was order) (was drops) (was loads)) ⌝ }
 {
     let mut to: usize = 0;
     let mut i: usize = 0;
     while i < order.len() {
-        to += put_step(order[i], drops[i], loads[i], &mut out[to..]);
+        to = put_step(order[i], drops[i], loads[i], to, out);
         i += 1;
     }
+    to
 }
+
+// The bytes that a plan takes at most: 1 + 9 + 9 + 1 for each step.
+const MOST_BYTES: usize = 20 * job::MOST_TESTS;
 
 // Writes a plan that passes the check as plan bytes, and answers their count: "writing a plan 8, 12, 9", after 5 and 10.
 pub fn write_plan(
-    places: usize,
-    curves: usize,
+    rig: Rig,
     wants: &[u64],
     order: &[u16],
     drops: &[u64],
     loads: &[u64],
     out: &mut [u8],
 ) -> Counted
-    ensures answer { λ r. ⌜ countOutcome r ≡ writePlanAnswer places curves (now (wants .entry)) (now (order .entry)) (now (drops .entry)) (now (loads .entry)) (now (out .entry)) ⌝ }
-    ensures bytes { λ _. ⌜ now (out .exit) ≡ writePlanBuffer places curves (now (wants .entry)) (now (order .entry)) (now (drops .entry)) (now (loads .entry)) (now (out .entry)) ⌝ }
+    ensures answer { λ r. ⌜ countOutcome r ≡ writePlanAnswer (jobOf rig (was wants)) (was order) (planOf (was drops) (was loads)) (was out) ⌝ }
+    ensures bytes { λ _. ⌜ after out ≡ writePlanBuffer (jobOf rig (was wants)) (was order) (planOf (was drops) (was loads)) (was out) ⌝ }
 {
-    match check_plan(places, curves, wants, order, drops, loads) {
-        Counted::Refused(r) => Counted::Refused(r),
-        Counted::Count(_) => {
-            let need = plan_len(order, drops, loads);
-            if out.len() < need {
-                return Counted::Refused(Refusal::BufferTooSmall(need));
-            }
-            put_plan(order, drops, loads, out);
-            Counted::Count(need)
-        }
+    if let Counted::Refused(r) = check_plan(rig, wants, order, drops, loads) {
+        return Counted::Refused(r);
     }
+    // "Nothing lent changes under a refusal": the bytes go to a buffer of our own, and are copied once their number is known to fit
+    let mut bytes = [0u8; MOST_BYTES];
+    let need = put_plan(order, drops, loads, &mut bytes);
+    if out.len() < need {
+        return Counted::Refused(Refusal::BufferTooSmall(need));
+    }
+    put_front(&bytes[..need], out);
+    Counted::Count(need)
 }

@@ -1,5 +1,6 @@
 // Document 01's examples of plans and orders, run through planning; each answer is proved to be the paper's.
 use job::Counted;
+use job::Rig;
 ghost use mathlib.Core.Path.{_≡_};
 ghost use mathlib.Core.Bool.{true};
 
@@ -11,7 +12,16 @@ fn furthest_use() -> bool
     let order = [0u16, 1, 2, 3];
     let mut drops = [0u64; 4];
     let mut loads = [0u64; 4];
-    match planning::plan(2, 64, &wants, &order, &mut drops, &mut loads) {
+    match planning::plan(
+        Rig {
+            places: 2,
+            curves: 64,
+        },
+        &wants,
+        &order,
+        &mut drops,
+        &mut loads,
+    ) {
         Counted::Refused(_) => false,
         Counted::Count(n) => n == 3 && drops[2] == 2,
     }
@@ -25,7 +35,16 @@ fn nothing_dropped() -> bool
     let order = [0u16, 1, 2];
     let mut drops = [9u64; 3];
     let mut loads = [9u64; 3];
-    match planning::plan(2, 64, &wants, &order, &mut drops, &mut loads) {
+    match planning::plan(
+        Rig {
+            places: 2,
+            curves: 64,
+        },
+        &wants,
+        &order,
+        &mut drops,
+        &mut loads,
+    ) {
         Counted::Refused(_) => false,
         Counted::Count(n) => n == 3 && drops[2] == 0,
     }
@@ -39,7 +58,16 @@ fn just_fits() -> bool
     let order = [0u16];
     let mut drops = [0u64; 1];
     let mut loads = [0u64; 1];
-    match planning::plan(3, 64, &wants, &order, &mut drops, &mut loads) {
+    match planning::plan(
+        Rig {
+            places: 3,
+            curves: 64,
+        },
+        &wants,
+        &order,
+        &mut drops,
+        &mut loads,
+    ) {
         Counted::Refused(_) => false,
         Counted::Count(n) => n == 3 && drops[0] == 0,
     }
@@ -53,9 +81,18 @@ fn too_large() -> bool
     let order = [0u16];
     let mut drops = [0u64; 1];
     let mut loads = [0u64; 1];
-    match planning::plan(2, 64, &wants, &order, &mut drops, &mut loads) {
+    match planning::plan(
+        Rig {
+            places: 2,
+            curves: 64,
+        },
+        &wants,
+        &order,
+        &mut drops,
+        &mut loads,
+    ) {
         Counted::Count(_) => false,
-        Counted::Refused(r) => curveplan::number_of(r) == 7 && curveplan::figure_of(r) == 0,
+        Counted::Refused(r) => job::number_of(r) == 7 && job::figure_of(r) == 0,
     }
 }
 
@@ -67,9 +104,18 @@ fn repeated_test() -> bool
     let order = [0u16, 1, 1];
     let mut drops = [0u64; 3];
     let mut loads = [0u64; 3];
-    match planning::plan(2, 64, &wants, &order, &mut drops, &mut loads) {
+    match planning::plan(
+        Rig {
+            places: 2,
+            curves: 64,
+        },
+        &wants,
+        &order,
+        &mut drops,
+        &mut loads,
+    ) {
         Counted::Count(_) => false,
-        Counted::Refused(r) => curveplan::number_of(r) == 8 && curveplan::figure_of(r) == 2,
+        Counted::Refused(r) => job::number_of(r) == 8 && job::figure_of(r) == 2,
     }
 }
 
@@ -81,9 +127,18 @@ fn missing_test() -> bool
     let order = [0u16, 1];
     let mut drops = [0u64; 3];
     let mut loads = [0u64; 3];
-    match planning::plan(2, 64, &wants, &order, &mut drops, &mut loads) {
+    match planning::plan(
+        Rig {
+            places: 2,
+            curves: 64,
+        },
+        &wants,
+        &order,
+        &mut drops,
+        &mut loads,
+    ) {
         Counted::Count(_) => false,
-        Counted::Refused(r) => curveplan::number_of(r) == 8 && curveplan::figure_of(r) == 2,
+        Counted::Refused(r) => job::number_of(r) == 8 && job::figure_of(r) == 2,
     }
 }
 

@@ -7,30 +7,32 @@ use lib.Count.{ones}
 use Rattle.bitset.specs.Set.{inside}
 use Rattle.job.specs.Refusal.{Outcome, done, refused, _>>=_, _>>_, mapped, demand, room}
 use Rattle.lists.specs.Choice.{keep, choose, bestOf}
-use Rattle.job.specs.Handed.{between, listed, each, someTests, placesKnown, curvesKnown, testsKnown, wantsKnown, wantsFit, numbersKnown, jobKnown}
-use Rattle.planning.specs.Order.{orderFrom}
+use Rattle.job.specs.Words.{Job, jobOf}
+use Rattle.job.specs.Handed.{between, listed, each, someTests, placesKnown, curvesKnown, testsKnown, methodKnown, wantsKnown, wantsFit, numbersKnown, jobKnownBy}
+use Rattle.job.specs.Order.{orderFrom}
+use Rattle.job.specs.Calls.{checkingKnown, planningKnown}
 use Rattle.drive.specs.Steps.{dropsOf, loadsOf, moves, curveCount}
 use Rattle.drive.specs.Check.{orBreaks, keeps, checkFrom}
 use Rattle.drive.specs.Uses.{later, useBy, nextUse, further}
 use Rattle.drive.specs.Plan.{furthest, andThen, victims, dropsFor, planFrom}
-use Rattle.planning.specs.Plan.{inOrder}
+use Rattle.planning.specs.Plan.{planOf, inOrder}
 use Rattle.planning.specs.Planning.{ourPlan, planning, planAnswer, setsKnown, checkedOutcome, checking}
 
-abbrev wants : List ℕ
-wants = 1 ∷ 2 ∷ 1 ∷ []
+abbrev job : Job
+job = jobOf (record { places = 2; curves = 3 }) (1 ∷ 2 ∷ 1 ∷ [])
 
 abbrev asListed : List ℕ
 asListed = 0 ∷ 1 ∷ 2 ∷ []
 
 abbrev checked : List ℕ → List ℕ → Outcome ℕ
-checked drops loads = checking 2 3 wants asListed drops loads
+checked drops loads = checking job asListed (planOf drops loads)
 
 pub record OtherPlans : Type 0 where
   -- our plan: two loads
-  our-drops : dropsOf (ourPlan 2 3 wants asListed) ≡ 0 ∷ 0 ∷ 0 ∷ []
-  our-loads : loadsOf (ourPlan 2 3 wants asListed) ≡ 1 ∷ 2 ∷ 0 ∷ []
+  our-drops : dropsOf (ourPlan job asListed) ≡ 0 ∷ 0 ∷ 0 ∷ []
+  our-loads : loadsOf (ourPlan job asListed) ≡ 1 ∷ 2 ∷ 0 ∷ []
   ours-passes : checked (0 ∷ 0 ∷ 0 ∷ []) (1 ∷ 2 ∷ 0 ∷ []) ≡ done 2
-  ours-counts : planAnswer 2 3 wants asListed (0 ∷ 0 ∷ 0 ∷ []) (0 ∷ 0 ∷ 0 ∷ []) ≡ done 2
+  ours-counts : planAnswer job asListed (planOf (0 ∷ 0 ∷ 0 ∷ []) (0 ∷ 0 ∷ 0 ∷ [])) ≡ done 2
   -- curve 1 is loaded early, in step 0
   early : checked (0 ∷ 0 ∷ 0 ∷ []) (3 ∷ 0 ∷ 0 ∷ []) ≡ done 2
   -- curve 2, which no test wants, is loaded in step 0 and dropped in step 1
@@ -50,7 +52,7 @@ pub record OtherPlans : Type 0 where
   surplus : checked (0 ∷ 0 ∷ 0 ∷ []) (1 ∷ 2 ∷ 0 ∷ 0 ∷ []) ≡ refused 12 3
 
 pub other-plans : OtherPlans
-unfolding ones inside _>>=_ _>>_ mapped demand room keep choose bestOf between listed each someTests placesKnown curvesKnown testsKnown wantsKnown wantsFit numbersKnown jobKnown orderFrom inOrder moves curveCount orBreaks keeps checkFrom later useBy nextUse further furthest andThen victims dropsFor planFrom ourPlan planning planAnswer setsKnown checkedOutcome checking
+unfolding ones inside _>>=_ _>>_ mapped demand room keep choose bestOf between listed each someTests placesKnown curvesKnown testsKnown methodKnown wantsKnown wantsFit numbersKnown jobKnownBy orderFrom checkingKnown planningKnown inOrder moves curveCount orBreaks keeps checkFrom later useBy nextUse further furthest andThen victims dropsFor planFrom ourPlan planning planAnswer setsKnown checkedOutcome checking
 other-plans =
     record {
       our-drops = refl;

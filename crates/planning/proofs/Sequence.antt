@@ -1,56 +1,57 @@
 -- Planning and checking, examination by examination: which refusal the examinations so far come to, and what is known behind them.
 use mathlib.Core.Path.{_≡_, refl, _∙_}
-use mathlib.Core.Bool.{not, _&&_}
-use mathlib.Core.List.{List, [], _∷_, _++_}
-use Prim.Native.Nat.{ℕ, zero, suc, _≤_, _<_, min}
-use native.Mathlib.Omega.{arith}
-use lib.Dec.{ltb, eqb}
-use lib.ListN.{length, getD, take}
+use mathlib.Core.List.{List}
+use Prim.Native.Nat.{ℕ, _≤_, _<_, min}
+use lib.Dec.{eqb}
+use lib.ListN.{length, take}
 use lib.Seq.{sets}
-use borrow.Author.Tests.{ltb-true, eqb-true, eq-eqb, ne-eqb}
-use Rattle.job.specs.Refusal.{done, refused, _>>_, demand}
-use Rattle.job.specs.Handed.{allCurves, listed, jobKnown}
-use Rattle.job.specs.Words.{IsJob}
-use Rattle.job.proofs.Laws.{both, demand-true, both-done, done-both}
+use borrow.Author.Tests.{eqb-true, eq-eqb, ne-eqb, lt-leb}
+use Rattle.job.specs.Refusal.{done, refused, _>>=_, _>>_, demand, room}
+use Rattle.job.specs.Words.{Job, capacity, IsJob, IsOrder}
+use Rattle.job.specs.Handed.{allCurves, wantsFit, jobKnown}
+use Rattle.job.specs.Calls.{checkingKnown, planningKnown}
+use Rattle.job.proofs.Laws.{both, demand-true, both-done, done-both, done-room}
 use Rattle.job.proofs.Examination.{refused-both}
 use Rattle.job.proofs.JobExact.{job-exact}
+use Rattle.job.proofs.OrderExact.{order-exact}
 use Rattle.job.proofs.Orders.{order-length}
 use Rattle.lists.proofs.Overwritten.{sets-front}
 use Rattle.drive.specs.declared.Checked.the-variants.{Ends, Breaks}
 use Rattle.drive.specs.Steps.{moves, curveCount}
 use Rattle.drive.specs.Check.{checkFrom}
-use Rattle.planning.specs.Order.{orderFrom, orderKnown}
-use Rattle.planning.specs.Plan.{inOrder}
-use Rattle.planning.specs.Planning.{setsKnown, checkedOutcome, checking}
-use Rattle.planning.proofs.OrderExact.{passed-order}
+use Rattle.planning.specs.Plan.{Plan, inOrder}
+use Rattle.planning.specs.Planning.{ourPlan, planning, setsKnown, checkedOutcome, checking}
 use Rattle.planning.proofs.Turns.{length-inOrder}
 
 -- ---- behind the examinations
 
-pub job-of : (places curves : ℕ) (wants : List ℕ) → jobKnown places curves wants ≡ done tt → IsJob places curves wants
-job-of places curves wants = job-exact places curves wants .0
+module _ (j : Job) (order : List ℕ) where
+  -- the job is one, and the order is one of its tests
+  pub known-exact : checkingKnown j order ≡ done tt → IsJob j × IsOrder (length (j .wants)) order
+  unfolding checkingKnown
+  known-exact e = let a = both-done (jobKnown j) _ tt e in (job-exact j .0 (a .0), order-exact (length (j .wants)) order .0 (a .1))
 
--- the order has an entry for each test ..
-pub order-long : (n : ℕ) (order : List ℕ) → orderKnown n order ≡ done tt → length order ≡ n
-order-long n order e = order-length n order (passed-order n order e)
+  pub exact-known : IsJob j → IsOrder (length (j .wants)) order → checkingKnown j order ≡ done tt
+  unfolding checkingKnown
+  exact-known is ord = done-both _ _ (job-exact j .1 is) ∙ order-exact (length (j .wants)) order .1 ord
 
--- .. that is a test of the job
-below-from : (n : ℕ) (before ts : List ℕ) → orderFrom n before ts ≡ done tt → (i : ℕ) → i < length ts → getD ts i 0 < n
-unfolding orderFrom
-below-from n before [] e i h = absurd (omega arith)
-below-from n before (t ∷ ts) e zero h =
-    let q = both-done (demand (ltb (length before) n && ltb t n && not (listed before t)) 8 (length before)) (orderFrom n (before ++ (t ∷ [])) ts) tt e in
-    let a = both (ltb (length before) n && ltb t n) (not (listed before t)) (demand-true _ 8 (length before) (q .0)) in
-    ltb-true t n (both (ltb (length before) n) (ltb t n) (a .0) .1)
-below-from n before (t ∷ ts) e (suc i) h =
-    below-from n (before ++ (t ∷ [])) ts (both-done (demand (ltb (length before) n && ltb t n && not (listed before t)) 8 (length before)) (orderFrom n (before ++ (t ∷ [])) ts) tt e .1) i (omega arith)
+  -- planning asks for sizes besides
+  pub planning-parts : planningKnown j order ≡ done tt → (checkingKnown j order ≡ done tt) × (wantsFit (capacity (j .rig)) (j .wants) ≡ done tt)
+  unfolding planningKnown
+  planning-parts e = both-done (checkingKnown j order) _ tt e
 
-pub order-below : (n : ℕ) (order : List ℕ) → orderKnown n order ≡ done tt → (i : ℕ) → i < length order → getD order i 0 < n
-order-below n order = below-from n [] order
+  pub planning-known : checkingKnown j order ≡ done tt → planningKnown j order ≡ wantsFit (capacity (j .rig)) (j .wants)
+  unfolding planningKnown
+  planning-known e = done-both _ _ e
 
--- the wants of the steps, in the first entries of a list
-pub first-steps : (wants order lent : List ℕ) → orderKnown (length wants) order ≡ done tt → length wants ≤ length lent → take (length wants) (sets lent 0 (inOrder wants order)) ≡ inOrder wants order
-first-steps wants order lent e h = sets-front (inOrder wants order) lent (length wants) (length-inOrder wants order ∙ order-long (length wants) order e) h
+  module _ (known : checkingKnown j order ≡ done tt) where
+    -- the steps are as many as the tests
+    pub steps-length : length (inOrder (j .wants) order) ≡ length (j .wants)
+    steps-length = length-inOrder (j .wants) order ∙ order-length (length (j .wants)) order (known-exact known .1)
+
+    -- their wants, in the first entries of a list
+    pub first-steps : (lent : List ℕ) → length (j .wants) ≤ length lent → take (length (j .wants)) (sets lent 0 (inOrder (j .wants) order)) ≡ inOrder (j .wants) order
+    first-steps lent h = sets-front (inOrder (j .wants) order) lent (length (j .wants)) steps-length h
 
 -- ---- the lengths of the lists of sets
 module _ (n drops loads : ℕ) where
@@ -73,28 +74,38 @@ module _ (n drops loads : ℕ) where
       (eqb-true drops n (l .0), eqb-true loads n (l .1))
 
 -- ---- checking
-module _ (places curves : ℕ) (wants order drops loads : List ℕ) where
-  pub check-job : (k i : ℕ) → jobKnown places curves wants ≡ refused k i → checking places curves wants order drops loads ≡ refused k i
+module _ (j : Job) (order : List ℕ) (p : Plan) where
+  pub check-refused : (k i : ℕ) → checkingKnown j order ≡ refused k i → checking j order p ≡ refused k i
   unfolding checking
-  check-job k i e = refused-both _ _ k i e
+  check-refused k i e = refused-both _ _ k i e
 
-  module _ (job : jobKnown places curves wants ≡ done tt) where
-    pub check-order : (k i : ℕ) → orderKnown (length wants) order ≡ refused k i → checking places curves wants order drops loads ≡ refused k i
+  module _ (known : checkingKnown j order ≡ done tt) where
+    pub check-sets : (k i : ℕ) → setsKnown (length (j .wants)) (length (p .drops)) (length (p .loads)) ≡ refused k i → checking j order p ≡ refused k i
     unfolding checking
-    check-order k i e = done-both _ _ job ∙ refused-both _ _ k i e
+    check-sets k i e = done-both _ _ known ∙ refused-both _ _ k i e
 
-    module _ (ord : orderKnown (length wants) order ≡ done tt) where
-      pub check-sets : (k i : ℕ) → setsKnown (length wants) (length drops) (length loads) ≡ refused k i → checking places curves wants order drops loads ≡ refused k i
-      unfolding checking
-      check-sets k i e = done-both _ _ job ∙ done-both _ _ ord ∙ refused-both _ _ k i e
+    module _ (sets : setsKnown (length (j .wants)) (length (p .drops)) (length (p .loads)) ≡ done tt) where
+      pub check-broken : (i : ℕ) → checkFrom (capacity (j .rig)) (allCurves (j .rig .curves)) 0 0 (moves (inOrder (j .wants) order) (p .drops) (p .loads)) ≡ Breaks i
+          → checking j order p ≡ refused 12 i
+      unfolding checking checkedOutcome _>>_
+      check-broken i e = done-both _ _ known ∙ done-both _ _ sets ∙ rw e refl
 
-      module _ (sets : setsKnown (length wants) (length drops) (length loads) ≡ done tt) where
-        pub check-broken : (i : ℕ) → checkFrom places (allCurves curves) 0 0 (moves (inOrder wants order) drops loads) ≡ Breaks i
-            → checking places curves wants order drops loads ≡ refused 12 i
-        unfolding checking checkedOutcome _>>_
-        check-broken i e = done-both _ _ job ∙ done-both _ _ ord ∙ done-both _ _ sets ∙ rw e refl
+      pub check-ended : (h : ℕ) → checkFrom (capacity (j .rig)) (allCurves (j .rig .curves)) 0 0 (moves (inOrder (j .wants) order) (p .drops) (p .loads)) ≡ Ends h
+          → checking j order p ≡ done (curveCount (p .loads))
+      unfolding checking checkedOutcome _>>_
+      check-ended h e = done-both _ _ known ∙ done-both _ _ sets ∙ rw e refl
 
-        pub check-ended : (h : ℕ) → checkFrom places (allCurves curves) 0 0 (moves (inOrder wants order) drops loads) ≡ Ends h
-            → checking places curves wants order drops loads ≡ done (curveCount loads)
-        unfolding checking checkedOutcome _>>_
-        check-ended h e = done-both _ _ job ∙ done-both _ _ ord ∙ done-both _ _ sets ∙ rw e refl
+-- ---- planning
+module _ (j : Job) (order : List ℕ) (lent : ℕ) where
+  pub plan-refused : (k i : ℕ) → planningKnown j order ≡ refused k i → planning j order lent ≡ refused k i
+  unfolding planning
+  plan-refused k i e = refused-both _ _ k i e
+
+  module _ (known : planningKnown j order ≡ done tt) where
+    pub plan-short : lent < length (j .wants) → planning j order lent ≡ refused 9 (length (j .wants))
+    unfolding planning room demand _>>=_
+    plan-short h = done-both _ _ known ∙ rw (lt-leb (length (j .wants)) lent h) refl
+
+    pub plan-done : length (j .wants) ≤ lent → planning j order lent ≡ done (ourPlan j order)
+    unfolding planning _>>=_
+    plan-done h = done-both _ _ known ∙ rw (done-room lent (length (j .wants)) h) refl

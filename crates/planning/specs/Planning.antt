@@ -5,44 +5,35 @@ use Prim.Native.Nat.{ℕ, min}
 use lib.ListN.{length}
 use lib.Dec.{eqb}
 use Rattle.job.specs.Refusal.{Outcome, done, refused, _>>=_, _>>_, mapped, demand, room, leaves}
-use Rattle.job.specs.Handed.{allCurves, jobKnown, wantsFit}
+use Rattle.job.specs.Words.{Job, capacity}
+use Rattle.job.specs.Handed.{allCurves}
+use Rattle.job.specs.Calls.{checkingKnown, planningKnown}
 use Rattle.drive.specs.declared.Sets.{Sets}
 use Rattle.drive.specs.declared.Checked.{Checked}
 use Rattle.drive.specs.declared.Checked.the-variants.{Ends, Breaks}
 use Rattle.drive.specs.Steps.{dropsOf, loadsOf, moves, curveCount, loadCount}
 use Rattle.drive.specs.Check.{checkFrom}
 use Rattle.drive.specs.Plan.{furthest, planFrom}
-use Rattle.planning.specs.Order.{orderKnown}
-use Rattle.planning.specs.Plan.{inOrder}
+use Rattle.planning.specs.Plan.{Plan, planOf, entries, inOrder}
 
--- "a plan is a drop set and a load set for each step, the order giving the steps' tests": a list of `Sets`
 -- "Our plan": "The drive is empty before step 0."
-unfoldable pub ourPlan : ℕ → ℕ → List ℕ → List ℕ → List Sets
-ourPlan places curves wants order = planFrom (furthest curves) places 0 (inOrder wants order)
+unfoldable pub ourPlan : Job → List ℕ → List Sets
+ourPlan j order = planFrom (furthest (j .rig .curves)) (capacity (j .rig)) 0 (inOrder (j .wants) order)
 
--- (the last examination is bound, `_ ←`, so that no plan is computed under a refusal)
-unfoldable pub planning : ℕ → ℕ → List ℕ → List ℕ → ℕ → ℕ → Outcome (List Sets)
-planning places curves wants order lentDrops lentLoads = do
-  jobKnown places curves wants
-  orderKnown (length wants) order
-  wantsFit places wants
-  room lentDrops (length wants)
-  _ ← room lentLoads (length wants)
-  done (ourPlan places curves wants order)
+-- into lists of which the shortest has so many entries (the last examination is bound, `_ ←`, so that no plan is computed under a refusal)
+unfoldable pub planning : Job → List ℕ → ℕ → Outcome (List Sets)
+planning j order lent = do
+  planningKnown j order
+  _ ← room lent (length (j .wants))
+  done (ourPlan j order)
 
 -- what planning answers, "the load count .. beside its plan", and what the lent drops and loads hold afterwards
-module _ (places curves : ℕ) (wants order drops loads : List ℕ) where
-  abbrev pub planned : Outcome (List Sets)
-  planned = planning places curves wants order (length drops) (length loads)
-
+module _ (j : Job) (order : List ℕ) (lent : Plan) where
   unfoldable pub planAnswer : Outcome ℕ
-  planAnswer = mapped loadCount planned
+  planAnswer = mapped loadCount (planning j order (entries lent))
 
-  unfoldable pub planDrops : List ℕ
-  planDrops = leaves (mapped dropsOf planned) drops
-
-  unfoldable pub planLoads : List ℕ
-  planLoads = leaves (mapped loadsOf planned) loads
+  unfoldable pub planLists : Plan
+  planLists = planOf (leaves (mapped dropsOf (planning j order (entries lent))) (lent .drops)) (leaves (mapped loadsOf (planning j order (entries lent))) (lent .loads))
 
 -- 12: "before that, first missing or surplus position of the drops or loads, the smaller". A list with an entry for each of the n steps has no such position;
 -- one that is shorter lacks the entry at its length, and one that is longer has the entry n too many.
@@ -55,10 +46,9 @@ checkedOutcome (Ends held) = done held
 checkedOutcome (Breaks i) = refused 12 i
 
 -- the plan check: it answers the plan's load count
-unfoldable pub checking : ℕ → ℕ → List ℕ → List ℕ → List ℕ → List ℕ → Outcome ℕ
-checking places curves wants order drops loads = do
-  jobKnown places curves wants
-  orderKnown (length wants) order
-  setsKnown (length wants) (length drops) (length loads)
-  checkedOutcome (checkFrom places (allCurves curves) 0 0 (moves (inOrder wants order) drops loads))
-  done (curveCount loads)
+unfoldable pub checking : Job → List ℕ → Plan → Outcome ℕ
+checking j order p = do
+  checkingKnown j order
+  setsKnown (length (j .wants)) (length (p .drops)) (length (p .loads))
+  checkedOutcome (checkFrom (capacity (j .rig)) (allCurves (j .rig .curves)) 0 0 (moves (inOrder (j .wants) order) (p .drops) (p .loads)))
+  done (curveCount (p .loads))

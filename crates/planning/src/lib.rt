@@ -3,44 +3,18 @@ use drive::Checked;
 use job::Counted;
 use job::Examined;
 use job::Refusal;
+use job::Rig;
 ghost use mathlib.Core.Path.{_≡_};
 ghost use Prim.Native.Nat.{_≤_, min};
 ghost use lib.ListN.{length};
 ghost use lib.Seq.{sets};
 ghost use Rattle.lists.specs.Lent.{was, after};
 ghost use Rattle.job.specs.Refusal.{examinedOutcome, countOutcome};
+ghost use Rattle.job.specs.Words.{jobOf};
 ghost use Rattle.drive.specs.Steps.{curveCount};
-ghost use Rattle.planning.specs.Order.{orderKnown};
-ghost use Rattle.planning.specs.Plan.{inOrder};
-ghost use Rattle.planning.specs.Planning.{planAnswer, planDrops, planLoads, setsKnown, checking};
+ghost use Rattle.planning.specs.Plan.{planOf, inOrder};
+ghost use Rattle.planning.specs.Planning.{planAnswer, planLists, setsKnown, checking};
 ghost use Rattle.planning.specs.Demand3.{Demand3};
-
-// 8: "first position with a number out of range or seen before, or first missing or surplus position, the smaller".
-fn examine_order(tests: usize, order: &[u16]) -> Examined
-    requires { ⌜ tests ≤ 256 ⌝ }
-    ensures { λ r. ⌜ examinedOutcome r ≡ orderKnown tests (was order) ⌝ }
-{
-    let mut seen = [false; 256];
-    let mut i: usize = 0;
-    while i < order.len() {
-        if tests <= i {
-            return Examined::Refused(Refusal::BadOrder(i));
-        }
-        let t = order[i] as usize;
-        if tests <= t {
-            return Examined::Refused(Refusal::BadOrder(i));
-        }
-        if seen[t] {
-            return Examined::Refused(Refusal::BadOrder(i));
-        }
-        seen[t] = true;
-        i += 1;
-    }
-    if i < tests {
-        return Examined::Refused(Refusal::BadOrder(i));
-    }
-    Examined::Passed
-}
 
 // The smaller of two numbers.
 fn smaller(a: usize, b: usize) -> usize
@@ -87,87 +61,46 @@ fn count_curves(sets: &[u64]) -> usize
 }
 
 // Whether a plan from anywhere keeps the rules: its load count, or the first fault. "checking 8, 12", after 5 and 10.
-pub fn check_plan(
-    places: usize,
-    curves: usize,
-    wants: &[u64],
-    order: &[u16],
-    drops: &[u64],
-    loads: &[u64],
-) -> Counted
-    ensures { λ r. ⌜ countOutcome r ≡ checking places curves (was wants) (was order) (was drops) (was loads) ⌝ }
+pub fn check_plan(rig: Rig, wants: &[u64], order: &[u16], drops: &[u64], loads: &[u64]) -> Counted
+    ensures { λ r. ⌜ countOutcome r ≡ checking (jobOf rig (was wants)) (was order) (planOf (was drops) (was loads)) ⌝ }
 {
-    match job::examine(places, curves, wants) {
-        Examined::Refused(r) => {
-            return Counted::Refused(r);
-        }
-        Examined::Passed => {}
+    if let Examined::Refused(r) = job::examine_checking(rig, wants, order) {
+        return Counted::Refused(r);
     }
     let tests = wants.len();
-    match examine_order(tests, order) {
-        Examined::Refused(r) => {
-            return Counted::Refused(r);
-        }
-        Examined::Passed => {}
+    if let Examined::Refused(r) = examine_sets(tests, drops.len(), loads.len()) {
+        return Counted::Refused(r);
     }
-    match examine_sets(tests, drops.len(), loads.len()) {
-        Examined::Refused(r) => {
-            return Counted::Refused(r);
-        }
-        Examined::Passed => {}
-    }
-    let mut steps = [0u64; 256];
+    let mut steps = [0u64; job::MOST_TESTS];
     in_order(wants, order, &mut steps);
-    let all = bitset::below(curves);
+    let all = bitset::below(rig.curves);
     // "The drive is empty before step 0."
-    match drive::check_steps(places, all, 0, &steps[..tests], drops, loads) {
+    match drive::check_steps(rig.places, all, 0, &steps[..tests], drops, loads) {
         Checked::Breaks(i) => Counted::Refused(Refusal::PlanRejected(i)),
         Checked::Ends(_) => Counted::Count(count_curves(loads)),
     }
 }
 
-// Our plan for one job and one order of its tests, into the first entries of the drops and loads lent; answers the load count. "planning 8, 7, 9", after 5 and 10.
-pub fn plan(
-    places: usize,
-    curves: usize,
-    wants: &[u64],
-    order: &[u16],
-    drops: &mut [u64],
-    loads: &mut [u64],
-) -> Counted
-    ensures answer { λ r. ⌜ countOutcome r ≡ planAnswer places curves (was wants) (was order) (was drops) (was loads) ⌝ }
-    ensures dropped { λ _. ⌜ after drops ≡ planDrops places curves (was wants) (was order) (was drops) (was loads) ⌝ }
-    ensures loaded { λ _. ⌜ after loads ≡ planLoads places curves (was wants) (was order) (was drops) (was loads) ⌝ }
-    ensures demand3 { λ r. ⌜ Demand3 places curves (was wants) (was order) (countOutcome r) (after drops) (after loads) ⌝ }
+// Our plan for one job and one order of its tests, into the first entries of the drops and loads lent; answers the load count. "planning 8, 7, 9", after 5 and
+// 10.
+pub fn plan(rig: Rig, wants: &[u64], order: &[u16], drops: &mut [u64], loads: &mut [u64]) -> Counted
+    ensures answer { λ r. ⌜ countOutcome r ≡ planAnswer (jobOf rig (was wants)) (was order) (planOf (was drops) (was loads)) ⌝ }
+    ensures lists { λ _. ⌜ planOf (after drops) (after loads) ≡ planLists (jobOf rig (was wants)) (was order) (planOf (was drops) (was loads)) ⌝ }
+    ensures demand3 { λ r. ⌜ Demand3 (jobOf rig (was wants)) (was order) (countOutcome r) (planOf (after drops) (after loads)) ⌝ }
 {
-    match job::examine(places, curves, wants) {
-        Examined::Refused(r) => {
-            return Counted::Refused(r);
-        }
-        Examined::Passed => {}
+    if let Examined::Refused(r) = job::examine_planning(rig, wants, order) {
+        return Counted::Refused(r);
     }
     let tests = wants.len();
-    match examine_order(tests, order) {
-        Examined::Refused(r) => {
-            return Counted::Refused(r);
-        }
-        Examined::Passed => {}
-    }
-    match job::examine_sizes(places, wants) {
-        Examined::Refused(r) => {
-            return Counted::Refused(r);
-        }
-        Examined::Passed => {}
-    }
     if drops.len() < tests {
         return Counted::Refused(Refusal::BufferTooSmall(tests));
     }
     if loads.len() < tests {
         return Counted::Refused(Refusal::BufferTooSmall(tests));
     }
-    let mut steps = [0u64; 256];
+    let mut steps = [0u64; job::MOST_TESTS];
     in_order(wants, order, &mut steps);
     // "The drive is empty before step 0."
-    drive::plan_steps(places, 0, &steps[..tests], drops, loads);
+    drive::plan_steps(rig.places, 0, &steps[..tests], drops, loads);
     Counted::Count(count_curves(&loads[..tests]))
 }

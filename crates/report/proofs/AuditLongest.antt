@@ -2,44 +2,43 @@
 use mathlib.Core.Path.{_≡_, refl, ap, subst}
 use mathlib.Core.Logic.{_⊎_, inl, inr}
 use mathlib.Core.List.{List, [], _∷_, _++_}
-use Prim.Native.Nat.{ℕ, suc, _+_, _-_, _*_, _≤_, _<_, min}
+use Prim.Native.Nat.{ℕ, _+_, _-_, _≤_, _<_, min}
 use native.Mathlib.Omega.{arith}
 use lib.ListN.{length, length-append, length-map}
 use borrow.Author.Tests.{le-leb}
-use Rattle.bitset.specs.Set.{_∖_}
-use Rattle.bitset.proofs.Laws.{⊆-∪-r, size-mono}
 use Rattle.job.specs.Refusal.{Outcome, done, refused, _>>=_}
 use Rattle.job.specs.Handed.{between, jobKnown, countsKnown, allCurves}
 use Rattle.job.proofs.Laws.{and, done-both, done-room, both-done, mapped-done}
 use Rattle.job.proofs.Refuses.{Refuses, refuses, refuses-demand, refuses-both, refuses-bind, refuses-mapped}
 use Rattle.job.proofs.Examination.{counts-known}
 use Rattle.job.proofs.JobExact.{job-exact}
-use Rattle.job_bytes.specs.JobBytes.{Job, readBytes}
+use Rattle.job.specs.Words.{capacity}
+use Rattle.job.specs.Order.{orderFrom, orderKnown}
+use Rattle.job.specs.Calls.{checkingKnown}
+use Rattle.job_bytes.specs.JobBytes.{Request, jobIn, readBytes}
 use Rattle.job_bytes.proofs.JobBounds.{figure-short}
 use Rattle.job_bytes.proofs.ReadExact.{ReadJob, read-exact}
 use Rattle.job_bytes.proofs.SetRoundTrip.{Bytes}
-use Rattle.planning.specs.Order.{orderFrom}
 use Rattle.drive.specs.declared.Checked.{Checked}
 use Rattle.drive.specs.declared.Checked.the-variants.{Ends, Breaks}
 use Rattle.drive.specs.Steps.{Move, moves}
 use Rattle.drive.specs.Check.{checkFrom}
 use Rattle.drive.proofs.CheckExact.{fault-within}
 use Rattle.drive.proofs.Moves.{length-moves}
-use Rattle.planning.specs.Plan.{inOrder}
+use Rattle.planning.specs.Plan.{Plan, inOrder}
 use Rattle.planning.specs.Planning.{setsKnown, checkedOutcome, checking}
 use Rattle.planning.proofs.CheckExact.{check-few}
 use Rattle.planning.proofs.Turns.{length-inOrder}
-use Rattle.plan_bytes.specs.PlanBytes.{Placed, readPlanBytes, planSteps}
+use Rattle.plan_bytes.specs.PlanBytes.{Placed, testsOf, planIn, readPlanBytes, planSteps}
 use Rattle.plan_bytes.proofs.ReadPlan.{plan-count}
 use Rattle.plan_bytes.proofs.PlanBounds.{plan-figure, plan-eleven}
-use Rattle.curveplan.proofs.ReadRefuses.{ByReading, read-refuses}
+use Rattle.job_bytes.proofs.ReadRefuses.{ByReading, read-refuses}
 use Rattle.report.specs.Report.{text, decimal, printed}
-use Rattle.report.specs.Audit.{Audit, testsOf, dropsOf, loadsOf, auditSteps, auditPlan, audit, auditText, writeAudit}
+use Rattle.report.specs.Audit.{Audit, auditSteps, auditPlan, audit, auditText, writeAudit}
 use Rattle.report.proofs.Digits.{decimal-length}
 use Rattle.report.proofs.Lines.{refusal-length}
 use Rattle.report.proofs.Auditing.{counts-lines}
 use Rattle.report.proofs.Fewest.{passed-planned, audit-says, audit-fewer}
-use Rattle.report.proofs.Inputs.{few}
 
 -- ---- which refusals an audit prints
 
@@ -80,12 +79,9 @@ unfolding planSteps
 steps-count curves tests plan ss e = plan-count curves tests plan ss (both-done (countsKnown curves tests) (readPlanBytes curves tests plan) ss e .1)
 
 -- of a job that was read, so that the examinations of its numbers refuse nothing
-module _ (j : Job) (r : ReadJob j) where
-  abbrev p : ℕ
-  p = j .head .places
-
+module _ (j : Request) (r : ReadJob j) where
   abbrev c : ℕ
-  c = j .head .curves
+  c = j .head .rig .curves
 
   abbrev t : ℕ
   t = j .head .tests
@@ -106,32 +102,31 @@ module _ (j : Job) (r : ReadJob j) where
       go (refused k i) e =
           rw (refuses (λ (k i : ℕ). k ≡ 11) (readPlanBytes c t plan) k i (plan-eleven c t plan) e) (at-offset i (omega (arith, plan-figure c t plan k i e, r .tests, r .is-job .tests-bounds .1)))
 
-  check-small : (order drops loads : List ℕ) → length order ≤ 256 → Refuses OfPlan (checking p c (j .wants) order drops loads)
-  unfolding checking setsKnown
-  check-small order drops loads m =
+  check-small : (order : List ℕ) (p : Plan) → length order ≤ 256 → Refuses OfPlan (checking (jobIn j) order p)
+  unfolding checking checkingKnown setsKnown
+  check-small order p m =
       let n = length (j .wants) in
       let l : n ≤ 256 = r .is-job .tests-bounds .1 in
-      rw (done-both (jobKnown p c (j .wants)) _ (job-exact p c (j .wants) .1 (r .is-job)))
-      (refuses-both OfPlan _ _ (order-small n [] order (omega arith))
-      (refuses-both OfPlan _ _ (refuses-demand OfPlan _ 12 (min (min (length drops) (length loads)) n) (at-step _ (omega arith)))
-      (refuses-both OfPlan _ _ (steps-small p (allCurves c) (moves (inOrder (j .wants) order) drops loads)
-      (omega (arith, length-moves (inOrder (j .wants) order) drops loads, length-inOrder (j .wants) order))) tt)))
+      refuses-both OfPlan _ _ (rw (done-both (jobKnown (jobIn j)) (orderKnown n order) (job-exact (jobIn j) .1 (r .is-job))) (order-small n [] order (omega arith)))
+      (refuses-both OfPlan _ _ (refuses-demand OfPlan _ 12 (min (min (length (p .drops)) (length (p .loads))) n) (at-step _ (omega arith)))
+      (refuses-both OfPlan _ _ (steps-small (capacity (j .head .rig)) (allCurves c) (moves (inOrder (j .wants) order) (p .drops) (p .loads))
+      (omega (arith, length-moves (inOrder (j .wants) order) (p .drops) (p .loads), length-inOrder (j .wants) order))) tt))
 
   audit-small : (plan : List ℕ) → Refuses OfPlan (auditPlan j plan)
   unfolding auditPlan auditSteps _>>=_
   audit-small plan =
       refuses-bind OfPlan (planSteps c t plan) _ (plan-small plan)
       (λ ss e.
-      refuses-bind OfPlan (checking p c (j .wants) (testsOf ss) (dropsOf ss) (loadsOf ss)) _
-      (check-small (testsOf ss) (dropsOf ss) (loadsOf ss) (omega (arith, steps-count c t plan ss e, length-map ss (λ s. s .step .test), r .tests, r .is-job .tests-bounds .1)))
-      (λ m f. rw (passed-planned p c (j .wants) (testsOf ss) (dropsOf ss) (loadsOf ss) m f t (omega (arith, r .tests))) tt))
+      refuses-bind OfPlan (checking (jobIn j) (testsOf ss) (planIn ss)) _
+      (check-small (testsOf ss) (planIn ss) (omega (arith, steps-count c t plan ss e, length-map ss (λ s. s .step .test), r .tests, r .is-job .tests-bounds .1)))
+      (λ m f. rw (passed-planned (jobIn j) (testsOf ss) (planIn ss) m f t (omega (arith, r .tests))) tt))
 
 -- A REFUSED JOB has a number from 1 to 6 ..
 pub audit-job-refuses : (job plan : List ℕ) → Refuses OfJob (audit job plan)
 unfolding audit
 audit-job-refuses job plan = refuses-mapped OfJob (λ j. auditPlan j plan) (readBytes job) (go (readBytes job) refl)
   where
-    go : (o : Outcome Job) → readBytes job ≡ o → Refuses OfJob o
+    go : (o : Outcome Request) → readBytes job ≡ o → Refuses OfJob o
     go (done j) e = tt
     go (refused k i) e = let n = refuses ByReading (readBytes job) k i (read-refuses job) e in (n .0, n .1, figure-short job k i e .0)
 
@@ -198,8 +193,8 @@ audit-longest job plan all = go (audit job plan) refl
         counts-short (a .loads) (a .fewest)
         (omega (
           arith,
-          check-few (s .j .head .places) (s .j .head .curves) (s .j .wants) (testsOf (s .steps)) (dropsOf (s .steps)) (loadsOf (s .steps)) (a .loads) (s .passes),
-          read-exact job (s .j) all (s .job-read) .is-job .tests-bounds .1,
+          check-few (jobIn (s .request)) (testsOf (s .steps)) (planIn (s .steps)) (a .loads) (s .passes),
+          read-exact job (s .request) all (s .job-read) .is-job .tests-bounds .1,
         ))
         (audit-fewer job plan a all e)
 

@@ -11,30 +11,30 @@ use borrow.Author.Tests.{le-leb, eqb-true}
 use Rattle.bitset.specs.Set.{size}
 use Rattle.bitset.proofs.Laws.{⊆-by-bits, size-mono}
 use Rattle.job.specs.Refusal.{Outcome, done, refused, _>>=_}
-use Rattle.job.specs.Words.{digit, count}
-use Rattle.job.specs.Handed.{allCurves, wantsFit}
-use Rattle.job_bytes.specs.JobBytes.{Job, readBytes}
+use Rattle.job.specs.Words.{Job, capacity, digit, count}
+use Rattle.job.specs.Handed.{wantsFit}
+use Rattle.job.specs.Calls.{planningKnown}
+use Rattle.job_bytes.specs.JobBytes.{Request, jobIn, readBytes}
 use Rattle.job.proofs.Laws.{bind-done, mapped-done, true-each, done-same, refused≢done}
-use Rattle.job.proofs.JobExact.{job-exact}
 use Rattle.job_bytes.proofs.ReadExact.{read-exact}
 use Rattle.job_bytes.proofs.SetRoundTrip.{Bytes}
-use Rattle.drive.specs.Steps.{Move, moved, wantsOf, loadCount, dropsOf as planDrops, loadsOf as planLoads}
+use Rattle.drive.specs.Steps.{Move, moved, wantsOf, loadCount}
 use Rattle.drive.proofs.CheckExact.{AllKept}
 use Rattle.drive.proofs.Moves.{wants-of}
-use Rattle.planning.specs.Plan.{inOrder}
+use Rattle.planning.specs.Plan.{Plan, handed, inOrder}
 use Rattle.planning.specs.Planning.{ourPlan, planning, checking}
 use Rattle.planning.proofs.CheckExact.{passed, check-count}
-use Rattle.planning.proofs.OrderExact.{order-exact}
-use Rattle.planning.proofs.Demand3.{planning-done, our-check, our-least}
-use Rattle.plan_bytes.specs.PlanBytes.{Placed, planSteps}
-use Rattle.report.specs.Audit.{Audit, testsOf, dropsOf, loadsOf, auditSteps, auditPlan, audit}
+use Rattle.planning.proofs.Sequence.{exact-known, planning-known, plan-done}
+use Rattle.planning.proofs.Demand3.{our-check, our-least}
+use Rattle.plan_bytes.specs.PlanBytes.{Placed, testsOf, planIn, planSteps}
+use Rattle.report.specs.Audit.{Audit, auditSteps, auditPlan, audit}
 
-abbrev pub Small : ℕ → List ℕ → Type 0
+abbrev Small : ℕ → List ℕ → Type 0
 Small p [] = Unit {0}
 Small p (w ∷ ws) = (size w ≤ p) × Small p ws
 
 -- a drive that holds the wants and at most its places has a place for each
-pub steps-small : {p all h : ℕ} {ms : List Move} → AllKept p all h ms → Small p (wantsOf ms)
+steps-small : {p all h : ℕ} {ms : List Move} → AllKept p all h ms → Small p (wantsOf ms)
 steps-small AllKept.none = tt
 steps-small (AllKept.step {h = h} {m = m} ok r) = (omega (arith, size-mono (m .want) (moved h (m .sets)) (⊆-by-bits (m .want) (moved h (m .sets)) (ok .wants)), ok .room), steps-small r)
 
@@ -47,61 +47,55 @@ listed-small p wants (o ∷ os) s t h = go (eqb o t) refl h (listed-small p want
     go true e g r = rw (eqb-true o t e) at (s .0)
     go false e g r = r (omega arith)
 
-module _ (p c : ℕ) (wants order drops loads : List ℕ) (m : ℕ) (e : checking p c wants order drops loads ≡ done m) where
+module _ (j : Job) (order : List ℕ) (p : Plan) (m : ℕ) (e : checking j order p ≡ done m) where
   -- EVERY TEST OF A PLAN THAT PASSES FITS
-  pub passed-fits : wantsFit p wants ≡ done tt
+  pub passed-fits : wantsFit (capacity (j .rig)) (j .wants) ≡ done tt
   unfolding wantsFit
   passed-fits =
-      let ok = passed p c wants order drops loads m e in
-      true-each (λ w. leb (size w) p) 7 0 wants
-      (λ t l. le-leb (size (getD wants t 0)) p (listed-small p wants order (rw (wants-of (inOrder wants order) drops loads) at (steps-small (ok .steps))) t (omega (arith, ok .is-order .once t l))))
+      let ok = passed j order p m e in
+      true-each (λ w. leb (size w) (capacity (j .rig))) 7 0 (j .wants)
+      (λ t l. le-leb (size (getD (j .wants) t 0)) (capacity (j .rig))
+      (listed-small (capacity (j .rig)) (j .wants) order (rw (wants-of (inOrder (j .wants) order) (p .drops) (p .loads)) at (steps-small (ok .steps))) t (omega (arith, ok .is-order .once t l))))
+
+  passed-known : planningKnown j order ≡ done tt
+  passed-known = let ok = passed j order p m e in planning-known j order (exact-known j order (ok .is-job) (ok .is-order)) ∙ passed-fits
 
   -- so planning the same order is done
-  pub passed-planned : (n : ℕ) → length wants ≤ n → planning p c wants order n n ≡ done (ourPlan p c wants order)
-  passed-planned n l =
-      let ok = passed p c wants order drops loads m e in
-      planning-done p c wants order n n (job-exact p c wants .1 (ok .is-job)) (order-exact (length wants) order .1 (ok .is-order)) passed-fits l l
+  pub passed-planned : (n : ℕ) → length (j .wants) ≤ n → planning j order n ≡ done (ourPlan j order)
+  passed-planned n l = plan-done j order n passed-known l
 
   -- THE FEWEST: our plan for the order passes, and no plan that passes has fewer loads
-  pub ours-passes : checking p c wants order (planDrops (ourPlan p c wants order)) (planLoads (ourPlan p c wants order)) ≡ done (loadCount (ourPlan p c wants order))
-  ours-passes =
-      let ok = passed p c wants order drops loads m e in
-      our-check p c wants order (job-exact p c wants .1 (ok .is-job)) (order-exact (length wants) order .1 (ok .is-order)) passed-fits
+  pub ours-passes : checking j order (handed (ourPlan j order)) ≡ done (loadCount (ourPlan j order))
+  ours-passes = our-check j order passed-known
 
-pub ours-least : (p c : ℕ) (wants order drops loads : List ℕ) (m : ℕ) → checking p c wants order drops loads ≡ done m → loadCount (ourPlan p c wants order) ≤ m
-ours-least p c wants order drops loads m e = omega (arith, our-least p c wants order drops loads m e, check-count p c wants order drops loads m e)
+pub ours-least : (j : Job) (order : List ℕ) (p : Plan) (m : ℕ) → checking j order p ≡ done m → loadCount (ourPlan j order) ≤ m
+ours-least j order p m e = omega (arith, our-least j order p m e, check-count j order p m e)
 
 -- ---- what an audit says that is done
 
 pub record Says (job plan : List ℕ) (a : Audit) : Type 0 where
-  pub j : Job
+  pub request : Request
   pub steps : List Placed
-  pub job-read : readBytes job ≡ done j
-  pub plan-read : planSteps (j .head .curves) (j .head .tests) plan ≡ done steps
+  pub job-read : readBytes job ≡ done request
+  pub plan-read : planSteps (request .head .rig .curves) (request .head .tests) plan ≡ done steps
   -- the plan passes, with the loads answered
-  pub passes : checking (j .head .places) (j .head .curves) (j .wants) (testsOf steps) (dropsOf steps) (loadsOf steps) ≡ done (a .loads)
+  pub passes : checking (jobIn request) (testsOf steps) (planIn steps) ≡ done (a .loads)
   -- a plan for the same job and order passes with the fewest loads answered
-  pub reached : (drops : List ℕ) × (loads : List ℕ) × (checking (j .head .places) (j .head .curves) (j .wants) (testsOf steps) drops loads ≡ done (a .fewest))
+  pub reached : (other : Plan) × (checking (jobIn request) (testsOf steps) other ≡ done (a .fewest))
   -- and none that passes has fewer
-  pub least : (drops loads : List ℕ) (m : ℕ) → checking (j .head .places) (j .head .curves) (j .wants) (testsOf steps) drops loads ≡ done m → a .fewest ≤ m
+  pub least : (other : Plan) (m : ℕ) → checking (jobIn request) (testsOf steps) other ≡ done m → a .fewest ≤ m
 
 -- a job that was read, and steps of which the check passes
-said : (j : Job) (order drops loads : List ℕ) (a : Audit) → length (j .wants) ≤ j .head .tests → auditSteps j order drops loads ≡ done a
-    → (checking (j .head .places) (j .head .curves) (j .wants) order drops loads ≡ done (a .loads)) × (a .fewest ≡ loadCount (ourPlan (j .head .places) (j .head .curves) (j .wants) order))
+said : (q : Request) (order : List ℕ) (p : Plan) (a : Audit) → length (q .wants) ≤ q .head .tests → auditSteps q order p ≡ done a
+    → (checking (jobIn q) order p ≡ done (a .loads)) × (a .fewest ≡ loadCount (ourPlan (jobIn q) order))
 unfolding auditSteps _>>=_
-said j order drops loads a l e = go (checking (j .head .places) (j .head .curves) (j .wants) order drops loads) refl e
+said q order p a l e = go (checking (jobIn q) order p) refl e
   where
-    p : ℕ
-    p = j .head .places
-
-    c : ℕ
-    c = j .head .curves
-
-    go : (o : Outcome ℕ) → checking p c (j .wants) order drops loads ≡ o
-        → _>>=_ o (λ count. _>>=_ (planning p c (j .wants) order (j .head .tests) (j .head .tests)) (λ plan. done (record { loads = count; fewest = loadCount plan }))) ≡ done a
-        → (checking p c (j .wants) order drops loads ≡ done (a .loads)) × (a .fewest ≡ loadCount (ourPlan p c (j .wants) order))
+    go : (o : Outcome ℕ) → checking (jobIn q) order p ≡ o
+        → _>>=_ o (λ count. _>>=_ (planning (jobIn q) order (q .head .tests)) (λ sets. done (record { loads = count; fewest = loadCount sets }))) ≡ done a
+        → (checking (jobIn q) order p ≡ done (a .loads)) × (a .fewest ≡ loadCount (ourPlan (jobIn q) order))
     go (done m) h f =
-        let g : done (record { loads = m; fewest = loadCount (ourPlan p c (j .wants) order) }) ≡ done a = rw (passed-planned p c (j .wants) order drops loads m h (j .head .tests) l) at f in
+        let g : done (record { loads = m; fewest = loadCount (ourPlan (jobIn q) order) }) ≡ done a = rw (passed-planned (jobIn q) order p m h (q .head .tests) l) at f in
         let same = done-same g in
         (h ∙ ap (λ (x : Audit). done (x .loads)) same, sym (ap (λ (x : Audit). x .fewest) same))
     go (refused k i) h f = absurd (refused≢done f)
@@ -110,25 +104,19 @@ said j order drops loads a l e = go (checking (j .head .places) (j .head .curves
 pub audit-says : (job plan : List ℕ) (a : Audit) → Bytes job → audit job plan ≡ done (done a) → Says job plan a
 unfolding audit auditPlan
 audit-says job plan a all e =
-    let r = mapped-done (λ j. auditPlan j plan) (readBytes job) (done a) e in
-    let s = bind-done (planSteps (r .0 .head .curves) (r .0 .head .tests) plan) (λ ss. auditSteps (r .0) (testsOf ss) (dropsOf ss) (loadsOf ss)) a (r .2) in
-    let is = read-exact job (r .0) all (r .1) in
-    let t = said (r .0) (testsOf (s .0)) (dropsOf (s .0)) (loadsOf (s .0)) a (omega (arith, is .tests)) (s .2) in
-    let p = r .0 .head .places in
-    let c = r .0 .head .curves in
+    let r = mapped-done (λ q. auditPlan q plan) (readBytes job) (done a) e in
+    let q = r .0 in
+    let s = bind-done (planSteps (q .head .rig .curves) (q .head .tests) plan) (λ ss. auditSteps q (testsOf ss) (planIn ss)) a (r .2) in
+    let t = said q (testsOf (s .0)) (planIn (s .0)) a (omega (arith, read-exact job q all (r .1) .tests)) (s .2) in
     record {
-      j = r .0;
+      request = q;
       steps = s .0;
       job-read = r .1;
       plan-read = s .1;
       passes = t .0;
-      reached = (
-        planDrops (ourPlan p c (r .0 .wants) (testsOf (s .0))),
-        planLoads (ourPlan p c (r .0 .wants) (testsOf (s .0))),
-        ours-passes p c (r .0 .wants) (testsOf (s .0)) (dropsOf (s .0)) (loadsOf (s .0)) (a .loads) (t .0) ∙ ap done (sym (t .1)),
-      );
-      least = λ ds ls m h. omega (arith, ours-least p c (r .0 .wants) (testsOf (s .0)) ds ls m h, t .1);
+      reached = (handed (ourPlan (jobIn q) (testsOf (s .0))), ours-passes (jobIn q) (testsOf (s .0)) (planIn (s .0)) (a .loads) (t .0) ∙ ap done (sym (t .1)));
+      least = λ other m h. omega (arith, ours-least (jobIn q) (testsOf (s .0)) other m h, t .1);
     }
 
 pub audit-fewer : (job plan : List ℕ) (a : Audit) → Bytes job → audit job plan ≡ done (done a) → a .fewest ≤ a .loads
-audit-fewer job plan a all e = let s = audit-says job plan a all e in s .least (dropsOf (s .steps)) (loadsOf (s .steps)) (a .loads) (s .passes)
+audit-fewer job plan a all e = let s = audit-says job plan a all e in s .least (planIn (s .steps)) (a .loads) (s .passes)

@@ -8,9 +8,9 @@ use lib.Seq.{sets-eq, length-take-le}
 use borrow.Author.Tests.{le-leb, lt-leb}
 use Rattle.job.specs.declared.Counted.{Counted}
 use Rattle.job.specs.declared.Refusal.{Refusal}
-use Rattle.job.specs.Refusal.{Outcome, done, refused, number, figure, countOutcome, _>>_, mapped, demand, room, overwritten, leaves}
+use Rattle.job.specs.Refusal.{Outcome, done, refused, countOutcome, _>>_, mapped, demand, room, overwritten, leaves}
 use Rattle.job.proofs.Laws.{done-same, refused≢done, done-mapped, count-done, count-refused}
-use Rattle.report.specs.Text.{Wrote, fitted, Filled}
+use Rattle.report.specs.Contracts.{Wrote, fitted, Filled}
 
 module _ (text old : List ℕ) where
   fitted-short : length old < length text → fitted text (length old) ≡ refused 9 (length text)
@@ -23,7 +23,7 @@ module _ (text old : List ℕ) where
 
   module _ {dummy measured : List ℕ} {n : ℕ} (first : Wrote dummy 0 text measured n) where
     pub fill-short : length old < n → Filled text old (countOutcome (Counted.Refused (Refusal.BufferTooSmall n))) old
-    unfolding countOutcome number figure mapped leaves
+    unfolding countOutcome mapped leaves
     fill-short h =
         let e : n ≡ length text = omega (arith, first .behind) in
         let f = fitted-short (omega arith) in

@@ -5,20 +5,20 @@ use Prim.Native.Nat.{ℕ, _≤_}
 use native.Mathlib.Omega.{arith}
 use lib.ListN.{length, take}
 use lib.Seq.{take-take}
-use Rattle.job.specs.Refusal.{Outcome, done, refused, mapped, _>>=_}
-use Rattle.job_bytes.specs.JobBytes.{Job, readBytes}
+use Rattle.job.specs.Refusal.{Outcome, done, refused, mapped}
+use Rattle.job_bytes.specs.JobBytes.{Request, readBytes}
 use Rattle.job_bytes.proofs.JobBounds.{Bounded, read, read-bounded, prefix-reads}
 use Rattle.plan_bytes.proofs.PlanBounds.{prefix-plan}
-use Rattle.curveplan.specs.Call.{planJob}
+use Rattle.planned.specs.Planned.{planJob}
 use Rattle.report.specs.Report.{sheet}
 use Rattle.report.specs.Audit.{auditPlan, audit}
 use Rattle.report.specs.Input.{Enough}
 
 -- a job that reads has at most 256 tests
-pub few : (bs : List ℕ) (j : Job) → readBytes bs ≡ done j → j .head .tests ≤ 256
+pub few : (bs : List ℕ) (j : Request) → readBytes bs ≡ done j → j .head .tests ≤ 256
 few bs j e = of (subst (Bounded bs) e (read-bounded bs))
   where
-    of : {j : Job} → Bounded bs (done j) → j .head .tests ≤ 256
+    of : {j : Request} → Bounded bs (done j) → j .head .tests ≤ 256
     of (read j l t) = t
 
 job-prefix : (n : ℕ) (bs : List ℕ) → 2311 ≤ n → readBytes (take n bs) ≡ readBytes bs
@@ -39,9 +39,9 @@ pub audit-plan-prefix : (n : ℕ) (job plan : List ℕ) → 5121 ≤ n → audit
 unfolding audit
 audit-plan-prefix n job plan l = go (readBytes job) refl
   where
-    go : (o : Outcome Job) → readBytes job ≡ o → mapped (λ j. auditPlan j (take n plan)) o ≡ mapped (λ j. auditPlan j plan) o
+    go : (o : Outcome Request) → readBytes job ≡ o → mapped (λ j. auditPlan j (take n plan)) o ≡ mapped (λ j. auditPlan j plan) o
     go (refused k i) e = unfold mapped in refl
-    go (done j) e = unfold mapped auditPlan in rw (prefix-plan (j .head .curves) (j .head .tests) n plan (omega (arith, few job j e))) refl
+    go (done j) e = unfold mapped auditPlan in rw (prefix-plan (j .head .rig .curves) (j .head .tests) n plan (omega (arith, few job j e))) refl
 
 pub audit-prefix : (job plan : List ℕ) → audit (take 2311 job) (take 5121 plan) ≡ audit job plan
 audit-prefix job plan = audit-job-prefix 2311 job (take 5121 plan) (omega arith) ∙ audit-plan-prefix 5121 job plan (omega arith)

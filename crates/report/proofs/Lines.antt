@@ -12,13 +12,13 @@ use Rattle.job.specs.declared.Head.{Head}
 use Rattle.drive.specs.Steps.{curveCount}
 use Rattle.planning.specs.Plan.{steps}
 use Rattle.report.specs.Report.{text, decimal, setText, stepText, stepsText, headText, planText, printed}
-use Rattle.report.specs.Text.{shown}
+use Rattle.report.specs.Contracts.{shown}
 use Rattle.report.proofs.Digits.{decimal-length, decimal-word}
 use Rattle.report.proofs.Curves.{set-length}
 
 pub head-line : (h : Head) (order drops loads : List ℕ) →
     headText (shown h order drops loads)
-    ≡ (decimal (h .tests) ++ text " tests, ") ++ (decimal (h .places) ++ text " places, method ") ++ (decimal (h .method) ++ text "\n")
+    ≡ (decimal (h .tests) ++ text " tests, ") ++ (decimal (h .rig .places) ++ text " places, method ") ++ (decimal (h .method) ++ text "\n")
 unfolding headText
 head-line h order drops loads = simp append-assoc
 
@@ -64,9 +64,9 @@ lengths₆ a b c d e f = simp length-append
 
 pub head-length : (h : Head) (order drops loads : List ℕ) →
     length (headText (shown h order drops loads))
-    ≡ length (decimal (h .tests) ++ text " tests, ") + length (decimal (h .places) ++ text " places, method ") + length (decimal (h .method) ++ text "\n")
+    ≡ length (decimal (h .tests) ++ text " tests, ") + length (decimal (h .rig .places) ++ text " places, method ") + length (decimal (h .method) ++ text "\n")
 head-length h order drops loads =
-    rw (head-line h order drops loads) (lengths₃ (decimal (h .tests) ++ text " tests, ") (decimal (h .places) ++ text " places, method ") (decimal (h .method) ++ text "\n"))
+    rw (head-line h order drops loads) (lengths₃ (decimal (h .tests) ++ text " tests, ") (decimal (h .rig .places) ++ text " places, method ") (decimal (h .method) ++ text "\n"))
 
 pub step-length : (i t d l : ℕ) →
     length (stepText i (record { test = t; drops = d; loads = l }))
@@ -126,7 +126,7 @@ step-short k =
     }
 
 -- the whole: of at most 256 steps, all of whose numbers a word holds
-pub plan-word : (h : Head) (order drops loads : List ℕ) → h .tests < 2 ^ 64 → h .places < 2 ^ 64 → h .method < 2 ^ 64 → length order ≤ 256
+pub plan-word : (h : Head) (order drops loads : List ℕ) → h .tests < 2 ^ 64 → h .rig .places < 2 ^ 64 → h .method < 2 ^ 64 → length order ≤ 256
     → ((j : ℕ) → j < length order → getD order j 0 < 2 ^ 64) → curveCount loads < 2 ^ 64
     → length (planText (shown h order drops loads)) < 2 ^ 64
 unfolding text
@@ -136,10 +136,10 @@ plan-word h order drops loads t p m n o c =
       plan-length h order drops loads,
       head-length h [] [] [],
       length-append (decimal (h .tests)) (text " tests, "),
-      length-append (decimal (h .places)) (text " places, method "),
+      length-append (decimal (h .rig .places)) (text " places, method "),
       length-append (decimal (h .method)) (text "\n"),
       decimal-word (h .tests) t,
-      decimal-word (h .places) p,
+      decimal-word (h .rig .places) p,
       decimal-word (h .method) m,
       loads-length (curveCount loads),
       length-append (decimal (curveCount loads)) (text "\n"),

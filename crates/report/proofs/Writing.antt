@@ -6,7 +6,7 @@ use native.Mathlib.Omega.{arith}
 use lib.ListN.{length, length-append}
 use lib.Seq.{sets, length-sets}
 use Rattle.job_bytes.proofs.Encoding.{sets-append}
-use Rattle.report.specs.Text.{Wrote}
+use Rattle.report.specs.Contracts.{Wrote}
 
 pub wrote-nil : (old : List ℕ) (at : ℕ) → Wrote old at [] old at
 wrote-nil old at = record { behind = omega arith; written = refl }

@@ -1,12 +1,13 @@
 -- "my sheet has 41 loads; can the same list be run with 40?": a plan from anywhere, beside the fewest loads that its order allows.
-use mathlib.Core.List.{List, map, _++_}
+use mathlib.Core.List.{List, _++_}
 use Prim.Native.Nat.{ℕ, _-_}
 use lib.ListN.{length}
 use Rattle.job.specs.Refusal.{Outcome, done, refused, _>>=_, _>>_, mapped, room, leaves, number, figure}
-use Rattle.job_bytes.specs.JobBytes.{Job, readBytes}
+use Rattle.job_bytes.specs.JobBytes.{Request, jobIn, readBytes}
 use Rattle.drive.specs.Steps.{loadCount}
+use Rattle.planning.specs.Plan.{Plan}
 use Rattle.planning.specs.Planning.{checking, planning}
-use Rattle.plan_bytes.specs.PlanBytes.{Placed, planSteps}
+use Rattle.plan_bytes.specs.PlanBytes.{testsOf, planIn, planSteps}
 use Rattle.report.specs.declared.audit.Audited.{Audited}
 use Rattle.report.specs.Report.{text, decimal, printed}
 
@@ -15,32 +16,22 @@ pub record Audit : Type 0 where
   pub loads : ℕ
   pub fewest : ℕ
 
--- the steps' tests, drops and loads
-abbrev pub testsOf : List Placed → List ℕ
-testsOf = map (λ s. s .step .test)
-
-abbrev pub dropsOf : List Placed → List ℕ
-dropsOf = map (λ s. s .step .drops)
-
-abbrev pub loadsOf : List Placed → List ℕ
-loadsOf = map (λ s. s .step .loads)
-
 -- the steps of a plan for a job: 8, 12, then planning the same order (which refuses nothing then: `Fewest`)
-unfoldable pub auditSteps : Job → List ℕ → List ℕ → List ℕ → Outcome Audit
-auditSteps j order drops loads = do
-  count ← checking (j .head .places) (j .head .curves) (j .wants) order drops loads
-  plan ← planning (j .head .places) (j .head .curves) (j .wants) order (j .head .tests) (j .head .tests)
-  done (record { loads = count; fewest = loadCount plan })
+unfoldable pub auditSteps : Request → List ℕ → Plan → Outcome Audit
+auditSteps q order p = do
+  count ← checking (jobIn q) order p
+  sets ← planning (jobIn q) order (q .head .tests)
+  done (record { loads = count; fewest = loadCount sets })
 
 -- a plan's bytes for a job: 11 before that
-unfoldable pub auditPlan : Job → List ℕ → Outcome Audit
-auditPlan j plan = do
-  ss ← planSteps (j .head .curves) (j .head .tests) plan
-  auditSteps j (testsOf ss) (dropsOf ss) (loadsOf ss)
+unfoldable pub auditPlan : Request → List ℕ → Outcome Audit
+auditPlan q plan = do
+  ss ← planSteps (q .head .rig .curves) (q .head .tests) plan
+  auditSteps q (testsOf ss) (planIn ss)
 
 -- a job's bytes and a plan's bytes: what comes of reading the job, 1 to 6, and within it what comes of the plan, so that a refusal tells which of the two it is of
 unfoldable pub audit : List ℕ → List ℕ → Outcome (Outcome Audit)
-audit job plan = mapped (λ j. auditPlan j plan) (readBytes job)
+audit job plan = mapped (λ q. auditPlan q plan) (readBytes job)
 
 -- what the functions answer
 unfoldable pub auditedOutcome : Audited → Outcome (Outcome Audit)

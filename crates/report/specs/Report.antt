@@ -6,9 +6,10 @@ use Prim.Native.String.{String}
 use lib.ListN.{length}
 use Rattle.bitset.specs.Set.{bit}
 use Rattle.job.specs.Refusal.{Outcome, done, refused, _>>=_, _>>_, mapped, room, leaves}
+use Rattle.job.specs.Words.{capacity}
 use Rattle.drive.specs.Steps.{curveCount}
 use Rattle.planning.specs.Plan.{Step, steps}
-use Rattle.curveplan.specs.Call.{Planned, planJob}
+use Rattle.planned.specs.Planned.{Planned, planJob}
 
 -- the bytes of a text
 unfoldable pub text : String → List ℕ
@@ -48,10 +49,13 @@ stepsText i (s ∷ ss) = stepText i s ++ stepsText (suc i) ss
 
 -- the first line: "4 tests, 2 places, method 0"
 unfoldable pub headText : Planned → List ℕ
-headText p = decimal (p .job .head .tests) ++ text " tests, " ++ decimal (p .job .head .places) ++ text " places, method " ++ decimal (p .job .head .method) ++ text "\n"
+headText p =
+    let h = p .request .head in
+    decimal (h .tests) ++ text " tests, " ++ decimal (capacity (h .rig)) ++ text " places, method " ++ decimal (h .method) ++ text "\n"
 
 unfoldable pub planText : Planned → List ℕ
-planText p = headText p ++ stepsText 0 (steps (p .order) (p .drops) (p .loads)) ++ text "loads " ++ decimal (curveCount (p .loads)) ++ text "\n"
+planText p =
+    headText p ++ stepsText 0 (steps (p .order) (p .plan .drops) (p .plan .loads)) ++ text "loads " ++ decimal (curveCount (p .plan .loads)) ++ text "\n"
 
 -- "A refusal prints only `refused 7 at 0` with its own figures."
 unfoldable pub printed : Outcome Planned → List ℕ

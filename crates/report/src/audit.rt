@@ -5,14 +5,18 @@ use crate::write_refusal;
 use job::Counted;
 use job::Head;
 use job::JobRead;
+use job::MOST_TESTS;
 use job::Refusal;
 ghost use mathlib.Core.Path.{_≡_};
 ghost use Prim.Native.Nat.{_≤_};
 ghost use lib.ListN.{length};
+ghost use Rattle.lists.specs.Lent.{was, after};
 ghost use Rattle.job.specs.Refusal.{done, mapped, countOutcome, overwritten};
+ghost use Rattle.job.specs.Words.{jobOf};
 ghost use Rattle.drive.specs.Steps.{loadCount};
+ghost use Rattle.planning.specs.Plan.{planOf};
 ghost use Rattle.planning.specs.Planning.{planning};
-ghost use Rattle.report.specs.Text.{Wrote, Filled};
+ghost use Rattle.report.specs.Contracts.{Wrote, Filled};
 ghost use Rattle.report.specs.Audit.{auditedOutcome, auditSteps, auditPlan, audit, auditText, auditAnswer, auditBuffer};
 
 // A buffer that takes every audit.
@@ -28,18 +32,12 @@ pub enum Audited {
 // A load count beside that of our plan for the same order.
 fn beside_fewest(head: Head, wants: &[u64], order: &[u16], count: usize) -> Audited
     requires { ⌜ (length (now wants) ≡ head .tests) × (head .tests ≤ 256) ⌝ }
-    ensures { λ r. ⌜ auditedOutcome r ≡ done (mapped (λ p. record { loads = count; fewest = loadCount p }) (planning (head .places) (head .curves) (now (wants .entry)) (now (order .entry)) (head .tests) (head .tests))) ⌝ }
+    ensures { λ r. ⌜ auditedOutcome r
+        ≡ done (mapped (λ p. record { loads = count; fewest = loadCount p }) (planning (jobOf (head .rig) (was wants)) (was order) (head .tests))) ⌝ }
 {
-    let mut drops = [0u64; 256];
-    let mut loads = [0u64; 256];
-    match planning::plan(
-        head.places,
-        head.curves,
-        wants,
-        order,
-        &mut drops,
-        &mut loads,
-    ) {
+    let mut drops = [0u64; MOST_TESTS];
+    let mut loads = [0u64; MOST_TESTS];
+    match planning::plan(head.rig, wants, order, &mut drops, &mut loads) {
         Counted::Refused(r) => Audited::PlanRefused(r),
         Counted::Count(fewest) => Audited::Counts(count, fewest),
     }
@@ -48,9 +46,9 @@ fn beside_fewest(head: Head, wants: &[u64], order: &[u16], count: usize) -> Audi
 // The steps of a plan: the plan check, then the fewest loads.
 fn audit_steps(head: Head, wants: &[u64], order: &[u16], drops: &[u64], loads: &[u64]) -> Audited
     requires { ⌜ (length (now wants) ≡ head .tests) × (head .tests ≤ 256) ⌝ }
-    ensures { λ r. ⌜ auditedOutcome r ≡ done (auditSteps (record { head = head; wants = now (wants .entry) }) (now (order .entry)) (now (drops .entry)) (now (loads .entry))) ⌝ }
+    ensures { λ r. ⌜ auditedOutcome r ≡ done (auditSteps (record { head = head; wants = was wants }) (was order) (planOf (was drops) (was loads))) ⌝ }
 {
-    match planning::check_plan(head.places, head.curves, wants, order, drops, loads) {
+    match planning::check_plan(head.rig, wants, order, drops, loads) {
         Counted::Refused(r) => Audited::PlanRefused(r),
         Counted::Count(count) => beside_fewest(head, wants, order, count),
     }
@@ -59,13 +57,13 @@ fn audit_steps(head: Head, wants: &[u64], order: &[u16], drops: &[u64], loads: &
 // A plan's bytes for a job that was read.
 fn audit_plan(head: Head, wants: &[u64], plan: &[u8]) -> Audited
     requires { ⌜ (length (now wants) ≡ head .tests) × (head .tests ≤ 256) ⌝ }
-    ensures { λ r. ⌜ auditedOutcome r ≡ done (auditPlan (record { head = head; wants = now (wants .entry) }) (now (plan .entry))) ⌝ }
+    ensures { λ r. ⌜ auditedOutcome r ≡ done (auditPlan (record { head = head; wants = was wants }) (was plan)) ⌝ }
 {
     let n = head.tests;
-    let mut order = [0u16; 256];
-    let mut drops = [0u64; 256];
-    let mut loads = [0u64; 256];
-    match plan_bytes::read_plan(head.curves, n, plan, &mut order, &mut drops, &mut loads) {
+    let mut order = [0u16; MOST_TESTS];
+    let mut drops = [0u64; MOST_TESTS];
+    let mut loads = [0u64; MOST_TESTS];
+    match plan_bytes::read_plan(head.rig.curves, n, plan, &mut order, &mut drops, &mut loads) {
         Counted::Refused(r) => Audited::PlanRefused(r),
         Counted::Count(_) => audit_steps(head, wants, &order[..n], &drops[..n], &loads[..n]),
     }
@@ -73,9 +71,9 @@ fn audit_plan(head: Head, wants: &[u64], plan: &[u8]) -> Audited
 
 // A job's bytes and a plan's bytes.
 fn audit(job: &[u8], plan: &[u8]) -> Audited
-    ensures { λ r. ⌜ auditedOutcome r ≡ audit (now (job .entry)) (now (plan .entry)) ⌝ }
+    ensures { λ r. ⌜ auditedOutcome r ≡ audit (was job) (was plan) ⌝ }
 {
-    let mut wants = [0u64; 256];
+    let mut wants = [0u64; MOST_TESTS];
     match job_bytes::read_job(job, &mut wants) {
         JobRead::Refused(r) => Audited::JobRefused(r),
         JobRead::Read(head) => {
@@ -87,7 +85,7 @@ fn audit(job: &[u8], plan: &[u8]) -> Audited
 
 fn put_counts(out: &mut [u8], loads: usize, fewest: usize) -> usize
     requires { ⌜ fewest ≤ loads ⌝ }
-    ensures { λ r. ⌜ Wrote (now (out .entry)) 0 (auditText (done (done (record { loads = loads; fewest = fewest })))) (now (out .exit)) r ⌝ }
+    ensures { λ r. ⌜ Wrote (was out) 0 (auditText (done (done (record { loads = loads; fewest = fewest })))) (after out) r ⌝ }
 {
     let mut to = put_text(out, 0, b"loads ");
     to = put_number(out, to, loads, b"\nfewest ");
@@ -98,7 +96,7 @@ fn put_counts(out: &mut [u8], loads: usize, fewest: usize) -> usize
 // The counts as text, where the buffer has room for it.
 fn write_counts(loads: usize, fewest: usize, out: &mut [u8]) -> Counted
     requires { ⌜ fewest ≤ loads ⌝ }
-    ensures { λ r. ⌜ Filled (auditText (done (done (record { loads = loads; fewest = fewest })))) (now (out .entry)) (countOutcome r) (now (out .exit)) ⌝ }
+    ensures { λ r. ⌜ Filled (auditText (done (done (record { loads = loads; fewest = fewest })))) (was out) (countOutcome r) (after out) ⌝ }
 {
     let mut none = [0u8; 1];
     let needed = put_counts(&mut none, loads, fewest);
@@ -110,8 +108,8 @@ fn write_counts(loads: usize, fewest: usize, out: &mut [u8]) -> Counted
 
 // The audit of a plan's bytes for a job's bytes, as text in a lent buffer.
 pub fn write_audit(job: &[u8], plan: &[u8], out: &mut [u8]) -> Counted
-    ensures answer { λ r. ⌜ countOutcome r ≡ auditAnswer (now (job .entry)) (now (plan .entry)) (now (out .entry)) ⌝ }
-    ensures bytes { λ _. ⌜ now (out .exit) ≡ auditBuffer (now (job .entry)) (now (plan .entry)) (now (out .entry)) ⌝ }
+    ensures answer { λ r. ⌜ countOutcome r ≡ auditAnswer (was job) (was plan) (was out) ⌝ }
+    ensures bytes { λ _. ⌜ after out ≡ auditBuffer (was job) (was plan) (was out) ⌝ }
 {
     match audit(job, plan) {
         Audited::JobRefused(r) => write_refusal(b"", r, out),
@@ -122,8 +120,8 @@ pub fn write_audit(job: &[u8], plan: &[u8], out: &mut [u8]) -> Counted
 
 // The whole audit of a plan's bytes for a job's bytes, for every input, and how many bytes it has.
 pub fn audit_text(job: &[u8], plan: &[u8], text: &mut [u8; AUDIT_BYTES]) -> usize
-    ensures count { λ n. ⌜ n ≡ length (auditText (audit (now (job .entry)) (now (plan .entry)))) ⌝ }
-    ensures bytes { λ _. ⌜ now (text .exit) ≡ overwritten (auditText (audit (now (job .entry)) (now (plan .entry)))) (now (text .entry)) ⌝ }
+    ensures count { λ n. ⌜ n ≡ length (auditText (audit (was job) (was plan))) ⌝ }
+    ensures bytes { λ _. ⌜ after text ≡ overwritten (auditText (audit (was job) (was plan))) (was text) ⌝ }
 {
     match write_audit(job, plan, text) {
         Counted::Count(n) => n,

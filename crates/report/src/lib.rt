@@ -1,16 +1,17 @@
 // The text of the sheet, as bytes in a lent buffer.
 use job::Counted;
 use job::Head;
-use job::JobRead;
+use job::MOST_TESTS;
 use job::Refusal;
+use planned::JobPlanned;
 ghost use mathlib.Core.Path.{_≡_};
 ghost use mathlib.Core.List.{[], _∷_, _++_};
 ghost use Prim.Native.Nat.{_+_, _^_, _≤_, _<_};
 ghost use lib.ListN.{length};
+ghost use Rattle.lists.specs.Lent.{was, after};
 ghost use Rattle.report.specs.Report.{text, decimal, setText, stepText, stepsText, headText, planText, printed, sheet, sheetAnswer, sheetBuffer};
-ghost use Rattle.report.specs.Text.{Wrote, shown, Filled};
+ghost use Rattle.report.specs.Contracts.{Wrote, shown, Filled};
 ghost use Rattle.job.specs.Refusal.{refused, number, figure, countOutcome, overwritten};
-ghost use Rattle.curveplan.specs.Call.{planInOrder, orderAndPlan};
 ghost use Rattle.drive.specs.Steps.{curveCount};
 ghost use Rattle.planning.specs.Plan.{steps};
 
@@ -24,7 +25,7 @@ pub const SHEET_BYTES: usize = 105_000;
 
 fn put_byte(out: &mut [u8], at: usize, b: u8) -> usize
     requires { ⌜ at + 1 < 2 ^ 64 ⌝ }
-    ensures { λ r. ⌜ Wrote (now (out .entry)) at (b ∷ []) (now (out .exit)) r ⌝ }
+    ensures { λ r. ⌜ Wrote (was out) at (b ∷ []) (after out) r ⌝ }
 {
     if at < out.len() {
         out[at] = b;
@@ -34,7 +35,7 @@ fn put_byte(out: &mut [u8], at: usize, b: u8) -> usize
 
 fn put_text(out: &mut [u8], at: usize, text: &[u8]) -> usize
     requires { ⌜ at + length (now text) < 2 ^ 64 ⌝ }
-    ensures { λ r. ⌜ Wrote (now (out .entry)) at (now (text .entry)) (now (out .exit)) r ⌝ }
+    ensures { λ r. ⌜ Wrote (was out) at (was text) (after out) r ⌝ }
 {
     let mut to = at;
     let mut i = 0;
@@ -48,7 +49,7 @@ fn put_text(out: &mut [u8], at: usize, text: &[u8]) -> usize
 // A number in decimal digits.
 fn put_decimal(out: &mut [u8], at: usize, n: usize) -> usize
     requires { ⌜ at + length (decimal n) < 2 ^ 64 ⌝ }
-    ensures { λ r. ⌜ Wrote (now (out .entry)) at (decimal n) (now (out .exit)) r ⌝ }
+    ensures { λ r. ⌜ Wrote (was out) at (decimal n) (after out) r ⌝ }
 {
     let mut to = at;
     if 10 <= n {
@@ -60,7 +61,7 @@ fn put_decimal(out: &mut [u8], at: usize, n: usize) -> usize
 // A number and the text behind it.
 fn put_number(out: &mut [u8], at: usize, n: usize, text: &[u8]) -> usize
     requires { ⌜ at + length (decimal n ++ now text) < 2 ^ 64 ⌝ }
-    ensures { λ r. ⌜ Wrote (now (out .entry)) at (decimal n ++ now (text .entry)) (now (out .exit)) r ⌝ }
+    ensures { λ r. ⌜ Wrote (was out) at (decimal n ++ was text) (after out) r ⌝ }
 {
     let to = put_decimal(out, at, n);
     put_text(out, to, text)
@@ -69,7 +70,7 @@ fn put_number(out: &mut [u8], at: usize, n: usize, text: &[u8]) -> usize
 // The curves of a set "in rising order", or "none", each behind a space.
 fn put_set(out: &mut [u8], at: usize, s: u64) -> usize
     requires { ⌜ at + length (setText s) < 2 ^ 64 ⌝ }
-    ensures { λ r. ⌜ Wrote (now (out .entry)) at (setText s) (now (out .exit)) r ⌝ }
+    ensures { λ r. ⌜ Wrote (was out) at (setText s) (after out) r ⌝ }
 {
     if s == 0 {
         return put_text(out, at, b" none");
@@ -94,7 +95,7 @@ fn put_step(
     loads: u64,
 ) -> usize
     requires { ⌜ at + length (stepText position (record { test = test; drops = drops; loads = loads })) < 2 ^ 64 ⌝ }
-    ensures { λ r. ⌜ Wrote (now (out .entry)) at (stepText position (record { test = test; drops = drops; loads = loads })) (now (out .exit)) r ⌝ }
+    ensures { λ r. ⌜ Wrote (was out) at (stepText position (record { test = test; drops = drops; loads = loads })) (after out) r ⌝ }
 {
     let mut to = put_number(out, at, position, b": test ");
     to = put_number(out, to, test, b" drop");
@@ -108,7 +109,7 @@ fn put_step(
 fn put_steps(out: &mut [u8], at: usize, order: &[u16], drops: &[u64], loads: &[u64]) -> usize
     requires { ⌜ (length (now drops) ≡ length (now order)) × (length (now loads) ≡ length (now order)) ⌝ }
     requires { ⌜ at + length (stepsText 0 (steps (now order) (now drops) (now loads))) < 2 ^ 64 ⌝ }
-    ensures { λ r. ⌜ Wrote (now (out .entry)) at (stepsText 0 (steps (now (order .entry)) (now (drops .entry)) (now (loads .entry)))) (now (out .exit)) r ⌝ }
+    ensures { λ r. ⌜ Wrote (was out) at (stepsText 0 (steps (was order) (was drops) (was loads))) (after out) r ⌝ }
 {
     let mut to = at;
     let mut i = 0;
@@ -122,17 +123,17 @@ fn put_steps(out: &mut [u8], at: usize, order: &[u16], drops: &[u64], loads: &[u
 // "test count, places and method"
 fn put_head(out: &mut [u8], at: usize, head: Head) -> usize
     requires { ⌜ at + length (headText (shown head [] [] [])) < 2 ^ 64 ⌝ }
-    ensures { λ r. ⌜ Wrote (now (out .entry)) at (headText (shown head [] [] [])) (now (out .exit)) r ⌝ }
+    ensures { λ r. ⌜ Wrote (was out) at (headText (shown head [] [] [])) (after out) r ⌝ }
 {
     let mut to = put_number(out, at, head.tests, b" tests, ");
-    to = put_number(out, to, head.places, b" places, method ");
+    to = put_number(out, to, head.rig.places, b" places, method ");
     put_number(out, to, head.method, b"\n")
 }
 
 // "the load count"
 fn put_loads(out: &mut [u8], at: usize, count: usize) -> usize
     requires { ⌜ at + length (text "loads " ++ decimal count ++ text "\n") < 2 ^ 64 ⌝ }
-    ensures { λ r. ⌜ Wrote (now (out .entry)) at (text "loads " ++ decimal count ++ text "\n") (now (out .exit)) r ⌝ }
+    ensures { λ r. ⌜ Wrote (was out) at (text "loads " ++ decimal count ++ text "\n") (after out) r ⌝ }
 {
     let to = put_text(out, at, b"loads ");
     put_number(out, to, count, b"\n")
@@ -149,7 +150,7 @@ fn put_plan(
     requires { ⌜ (length (now drops) ≡ length (now order)) × (length (now loads) ≡ length (now order)) ⌝ }
     requires { ⌜ count ≡ curveCount (now loads) ⌝ }
     requires { ⌜ length (planText (shown head (now order) (now drops) (now loads))) < 2 ^ 64 ⌝ }
-    ensures { λ r. ⌜ Wrote (now (out .entry)) 0 (planText (shown head (now (order .entry)) (now (drops .entry)) (now (loads .entry)))) (now (out .exit)) r ⌝ }
+    ensures { λ r. ⌜ Wrote (was out) 0 (planText (shown head (was order) (was drops) (was loads))) (after out) r ⌝ }
 {
     let mut to = put_head(out, 0, head);
     to = put_steps(out, to, order, drops, loads);
@@ -159,7 +160,7 @@ fn put_plan(
 // "A refusal prints only `refused 7 at 0` with its own figures", behind the words that say of what: none on the sheet.
 fn put_refusal(out: &mut [u8], of: &[u8], number: usize, figure: usize) -> usize
     requires { ⌜ length (now of) ≤ 256 ⌝ }
-    ensures { λ r. ⌜ Wrote (now (out .entry)) 0 (now (of .entry) ++ printed (refused number figure)) (now (out .exit)) r ⌝ }
+    ensures { λ r. ⌜ Wrote (was out) 0 (was of ++ printed (refused number figure)) (after out) r ⌝ }
 {
     let mut to = put_text(out, 0, of);
     to = put_text(out, to, b"refused ");
@@ -178,8 +179,8 @@ fn write_plan(
 ) -> Counted
     requires { ⌜ (length (now drops) ≡ length (now order)) × (length (now loads) ≡ length (now order)) ⌝ }
     requires { ⌜ count ≡ curveCount (now loads) ⌝ }
-    requires { ⌜ (head .tests ≤ 256) × (head .places ≤ 64) × (head .method ≤ 3) × (length (now order) ≤ 256) ⌝ }
-    ensures { λ r. ⌜ Filled (planText (shown head (now (order .entry)) (now (drops .entry)) (now (loads .entry)))) (now (out .entry)) (countOutcome r) (now (out .exit)) ⌝ }
+    requires { ⌜ (head .tests ≤ 256) × (head .rig .places ≤ 64) × (head .method ≤ 3) × (length (now order) ≤ 256) ⌝ }
+    ensures { λ r. ⌜ Filled (planText (shown head (was order) (was drops) (was loads))) (was out) (countOutcome r) (after out) ⌝ }
 {
     let mut none = [0u8; 1];
     let needed = put_plan(&mut none, head, order, drops, loads, count);
@@ -192,10 +193,10 @@ fn write_plan(
 // The line of a refusal, where the buffer has room for it.
 fn write_refusal(of: &[u8], r: Refusal, out: &mut [u8]) -> Counted
     requires { ⌜ length (now of) ≤ 256 ⌝ }
-    ensures { λ c. ⌜ Filled (now (of .entry) ++ printed (refused (number r) (figure r))) (now (out .entry)) (countOutcome c) (now (out .exit)) ⌝ }
+    ensures { λ c. ⌜ Filled (was of ++ printed (refused (number r) (figure r))) (was out) (countOutcome c) (after out) ⌝ }
 {
-    let number = curveplan::number_of(r) as usize;
-    let figure = curveplan::figure_of(r) as usize;
+    let number = job::number_of(r) as usize;
+    let figure = job::figure_of(r) as usize;
     let mut none = [0u8; 1];
     let bytes = put_refusal(&mut none, of, number, figure);
     if out.len() < bytes {
@@ -204,62 +205,29 @@ fn write_refusal(of: &[u8], r: Refusal, out: &mut [u8]) -> Counted
     Counted::Count(put_refusal(out, of, number, figure))
 }
 
-// The sheet of a job in a given order: planning, and its plan or its refusal.
-fn write_ordered(head: Head, wants: &[u64], order: &[u16], out: &mut [u8]) -> Counted
-    requires { ⌜ (head .tests ≤ 256) × (head .places ≤ 64) × (head .method ≤ 3) ⌝ }
-    requires { ⌜ (length (now wants) ≡ head .tests) × (length (now order) ≡ head .tests) ⌝ }
-    ensures { λ r. ⌜ Filled (printed (planInOrder (record { head = head; wants = now (wants .entry) }) (now (order .entry)))) (now (out .entry)) (countOutcome r) (now (out .exit)) ⌝ }
-{
-    let n = head.tests;
-    let mut drops = [0u64; 256];
-    let mut loads = [0u64; 256];
-    match planning::plan(
-        head.places,
-        head.curves,
-        wants,
-        order,
-        &mut drops,
-        &mut loads,
-    ) {
-        Counted::Refused(r) => write_refusal(b"", r, out),
-        Counted::Count(count) => write_plan(head, order, &drops[..n], &loads[..n], count, out),
-    }
-}
-
-// The sheet of a job that was read: ordering, and planning in that order.
-fn write_read(head: Head, wants: &[u64], out: &mut [u8]) -> Counted
-    requires { ⌜ (head .tests ≤ 256) × (head .places ≤ 64) × (head .method ≤ 3) ⌝ }
-    requires { ⌜ length (now wants) ≡ head .tests ⌝ }
-    ensures { λ r. ⌜ Filled (printed (orderAndPlan (record { head = head; wants = now (wants .entry) }))) (now (out .entry)) (countOutcome r) (now (out .exit)) ⌝ }
-{
-    let n = head.tests;
-    let mut order = [0u16; 256];
-    match ordering::order_tests(head.places, head.curves, head.method, wants, &mut order) {
-        Counted::Refused(r) => write_refusal(b"", r, out),
-        Counted::Count(_) => write_ordered(head, wants, &order[..n], out),
-    }
-}
-
 // "prints test count, places and method; for each step its position, test, drops and loads in rising order; the load count": of a job's bytes, in a lent
 // buffer.
 pub fn write_report(job: &[u8], out: &mut [u8]) -> Counted
-    ensures answer { λ r. ⌜ countOutcome r ≡ sheetAnswer (now (job .entry)) (now (out .entry)) ⌝ }
-    ensures bytes { λ _. ⌜ now (out .exit) ≡ sheetBuffer (now (job .entry)) (now (out .entry)) ⌝ }
+    ensures answer { λ r. ⌜ countOutcome r ≡ sheetAnswer (was job) (was out) ⌝ }
+    ensures bytes { λ _. ⌜ after out ≡ sheetBuffer (was job) (was out) ⌝ }
 {
-    let mut wants = [0u64; 256];
-    match job_bytes::read_job(job, &mut wants) {
-        JobRead::Refused(r) => write_refusal(b"", r, out),
-        JobRead::Read(head) => {
+    let mut wants = [0u64; MOST_TESTS];
+    let mut order = [0u16; MOST_TESTS];
+    let mut drops = [0u64; MOST_TESTS];
+    let mut loads = [0u64; MOST_TESTS];
+    match planned::plan_job(job, &mut wants, &mut order, &mut drops, &mut loads) {
+        JobPlanned::Refused(r) => write_refusal(b"", r, out),
+        JobPlanned::Planned(head, count) => {
             let n = head.tests;
-            write_read(head, &wants[..n], out)
+            write_plan(head, &order[..n], &drops[..n], &loads[..n], count, out)
         }
     }
 }
 
 // The whole sheet of a job's bytes, for every input, and how many bytes it has.
 pub fn sheet_text(job: &[u8], text: &mut [u8; SHEET_BYTES]) -> usize
-    ensures count { λ n. ⌜ n ≡ length (sheet (now (job .entry))) ⌝ }
-    ensures bytes { λ _. ⌜ now (text .exit) ≡ overwritten (sheet (now (job .entry))) (now (text .entry)) ⌝ }
+    ensures count { λ n. ⌜ n ≡ length (sheet (was job)) ⌝ }
+    ensures bytes { λ _. ⌜ after text ≡ overwritten (sheet (was job)) (was text) ⌝ }
 {
     match write_report(job, text) {
         Counted::Count(n) => n,

@@ -1,6 +1,7 @@
 // Prints the sheet of the job on standard input.
 use libc::STDIN_FILENO;
 use libc::STDOUT_FILENO;
+ghost use Rattle.lists.specs.Lent.{after};
 ghost use Rattle.io.specs.Counts.{Counts};
 ghost use Rattle.report.specs.Report.{sheet};
 ghost use Rattle.report.specs.Input.{Enough};
@@ -10,8 +11,8 @@ const JOB_INPUT: usize = 2_311;
 
 // Reads standard input, as much as can matter: whatever the whole of it is, its sheet is that of the bytes read.
 fn read_input(job: &mut [u8; JOB_INPUT]) -> usize
-    ensures count { λ n. ⌜ Counts n (now (job .exit)) ⌝ }
-    ensures enough { λ n. ⌜ Enough sheet n (now (job .exit)) ⌝ }
+    ensures count { λ n. ⌜ Counts n (after job) ⌝ }
+    ensures enough { λ n. ⌜ Enough sheet n (after job) ⌝ }
 {
     io::read_full(STDIN_FILENO, job)
 }

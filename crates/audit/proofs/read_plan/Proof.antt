@@ -7,9 +7,6 @@ use borrow.Author.Needs.{needs}
 use Rattle.audit.proofs.read_plan.Statement.{statement}
 use Rattle.audit.proofs.read_plan.Tie as tie
 
-read-full-requires : tie.Need-read-full-requires
-read-full-requires c κs = search needs
-
 returns : tie.Need-returns
 returns c =
     let r = c .read-full in
@@ -19,4 +16,4 @@ returns c =
     )
 
 pub read-plan-spec : {M : Type 1} → statement M
-read-plan-spec = tie.close (tie.spec read-full-requires returns)
+read-plan-spec = tie.close (tie.spec (λ c κs. search needs) returns)

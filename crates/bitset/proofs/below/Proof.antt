@@ -8,9 +8,6 @@ use borrow.Author.Needs.{needs}
 use Rattle.bitset.proofs.below.Statement.{statement}
 use Rattle.bitset.proofs.below.Tie as tie
 
-shl-result : tie.Need-shl-result
-shl-result c = search needs
-
 sub-result : tie.Need-sub-result
 sub-result c = omega (arith, shl-one 64 (c .before .args .n) (omega arith), pow-pos (c .before .args .n))
 
@@ -21,4 +18,4 @@ returns-2 : tie.Need-returns-2
 returns-2 c = rw (min-eq-right {n = 64} {m = c .before .args .n} (omega arith)) refl
 
 pub below-spec : {M : Type 1} → statement M
-below-spec = tie.close (tie.spec shl-result sub-result returns returns-2)
+below-spec = tie.close (tie.spec (λ c. search needs) sub-result returns returns-2)

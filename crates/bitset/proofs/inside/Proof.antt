@@ -7,12 +7,9 @@ use borrow.Author.Needs.{needs}
 use Rattle.bitset.proofs.inside.Statement.{statement}
 use Rattle.bitset.proofs.inside.Tie as tie
 
-without-requires : tie.Need-without-requires
-without-requires c κs = search needs
-
 returns : tie.Need-returns
 unfolding inside
 returns c = ap (λ (x : ℕ). eqb x 0) (c .without .ensures)
 
 pub inside-spec : {M : Type 1} → statement M
-inside-spec = tie.close (tie.spec without-requires returns)
+inside-spec = tie.close (tie.spec (λ c κs. search needs) returns)

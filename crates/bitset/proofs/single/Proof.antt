@@ -6,14 +6,8 @@ use borrow.Author.Needs.{needs}
 use Rattle.bitset.proofs.single.Statement.{statement}
 use Rattle.bitset.proofs.single.Tie as tie
 
-shl-result : tie.Need-shl-result
-shl-result c = search needs
-
-returns : tie.Need-returns
-returns c = search needs
-
 returns-2 : tie.Need-returns-2
 returns-2 c = sym (shl-none 64 (c .before .args .k) (omega arith))
 
 pub single-spec : {M : Type 1} → statement M
-single-spec = tie.close (tie.spec shl-result returns returns-2)
+single-spec = tie.close (tie.spec (λ c. search needs) (λ c. search needs) returns-2)

@@ -8,8 +8,5 @@ use Rattle.bitset.proofs.size.Tie as tie
 cast-result : tie.Need-cast-result
 cast-result c = omega (arith, size-le 64 (c .args .s) (omega arith))
 
-returns : tie.Need-returns
-returns c = search needs
-
 pub size-spec : {M : Type 1} → statement M
-size-spec = tie.close (tie.spec cast-result returns)
+size-spec = tie.close (tie.spec cast-result (λ c. search needs))

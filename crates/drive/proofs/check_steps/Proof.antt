@@ -26,21 +26,6 @@ abbrev μ-loop : tie.MeasureT-loop
 loop-holds : tie.Need-loop-holds Inv-loop μ-loop
 loop-holds c = record { turns = omega arith; goes = refl }
 
-entry-requires : tie.Need-entry-requires Inv-loop μ-loop
-entry-requires c κs = tt
-
-entry-requires-2 : tie.Need-entry-requires-2 Inv-loop μ-loop
-entry-requires-2 c κs = tt
-
-mul-keeps : tie.Need-mul-keeps Inv-loop μ-loop
-mul-keeps c = search needs
-
-shared-slice-read-keeps : tie.Need-shared-slice-read-keeps Inv-loop μ-loop
-shared-slice-read-keeps c = search needs
-
-keeps-requires : tie.Need-keeps-requires Inv-loop μ-loop
-keeps-requires c κs = tt
-
 returns : tie.Need-returns Inv-loop μ-loop
 returns c =
     let k = c .before .before .before .before .before .before in
@@ -48,15 +33,6 @@ returns c =
     sym (k .loop .inv .goes
     ∙ check-breaks (a .capacity) (a .all) (k .loop .held) (k .loop .i) (now (a .wants)) (now (a .drops)) (now (a .loads)) _ _ _ (c .before .before .before .before .before .loop-test .taken)
     (c .before .before .before .before .entry .ensures) (c .before .before .before .entry2 .ensures) (c .before .keeps .ensures) (not-true _ (c .if1 .taken)))
-
-moved-requires : tie.Need-moved-requires Inv-loop μ-loop
-moved-requires c κs = tt
-
-add-i : tie.Need-add-i Inv-loop μ-loop
-add-i c = search needs
-
-loop-less : tie.Need-loop-less Inv-loop μ-loop
-loop-less c = search needs
 
 loop-again : tie.Need-loop-again Inv-loop μ-loop
 loop-again c =
@@ -78,19 +54,5 @@ returns-2 c =
 
 pub check-steps-spec : {M : Type 1} → statement M
 check-steps-spec =
-    tie.close
-    (tie.spec
-    Inv-loop
-    μ-loop
-    loop-holds
-    entry-requires
-    entry-requires-2
-    mul-keeps
-    shared-slice-read-keeps
-    keeps-requires
-    returns
-    moved-requires
-    add-i
-    loop-less
-    loop-again
-    returns-2)
+    tie.close (tie.spec Inv-loop μ-loop loop-holds (λ c κs. tt) (λ c κs. tt) (λ c. search needs) (λ c. search needs) (λ c κs. tt) returns (λ c κs. tt)
+    (λ c. search needs) (λ c. search needs) loop-again returns-2)

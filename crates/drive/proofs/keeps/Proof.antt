@@ -53,27 +53,6 @@ after-4 c =
     (λ w. else _ _ _ _ e (w .0 .left) (w .1))
     (c .if3 .came)
 
-without-requires : tie.Need-without-requires
-without-requires c κs = search needs
-
-union-requires : tie.Need-union-requires
-union-requires c κs = search needs
-
-inside-requires : tie.Need-inside-requires
-inside-requires c κs = search needs
-
-common-requires : tie.Need-common-requires
-common-requires c κs = search needs
-
-inside-requires-2 : tie.Need-inside-requires-2
-inside-requires-2 c κs = search needs
-
-inside-requires-3 : tie.Need-inside-requires-3
-inside-requires-3 c κs = search needs
-
-size-requires : tie.Need-size-requires
-size-requires c κs = search needs
-
 returns : tie.Need-returns
 unfolding keeps
 returns c =
@@ -87,14 +66,5 @@ returns-2 c = else _ _ _ _ (after-4 (c .before)) (c .if4 .left) refl
 
 pub keeps-spec : {M : Type 1} → statement M
 keeps-spec =
-    tie.close
-    (tie.spec
-    without-requires
-    union-requires
-    inside-requires
-    common-requires
-    inside-requires-2
-    inside-requires-3
-    size-requires
-    returns
-    returns-2)
+    tie.close (tie.spec (λ c κs. search needs) (λ c κs. search needs) (λ c κs. search needs) (λ c κs. search needs) (λ c κs. search needs)
+    (λ c κs. search needs) (λ c κs. search needs) returns returns-2)

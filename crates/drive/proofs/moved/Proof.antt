@@ -6,14 +6,8 @@ use Rattle.bitset.specs.Set.{_∪_}
 use Rattle.drive.proofs.moved.Statement.{statement}
 use Rattle.drive.proofs.moved.Tie as tie
 
-without-requires : tie.Need-without-requires
-without-requires c κs = search needs
-
-union-requires : tie.Need-union-requires
-union-requires c κs = search needs
-
 returns : tie.Need-returns
 returns c = c .union .ensures ∙ ap (λ (x : ℕ). x ∪ c .before .before .args .sets .loads) (c .before .without .ensures)
 
 pub moved-spec : {M : Type 1} → statement M
-moved-spec = tie.close (tie.spec without-requires union-requires returns)
+moved-spec = tie.close (tie.spec (λ c κs. search needs) (λ c κs. search needs) returns)

@@ -1,93 +1,110 @@
 -- `plan_steps` meets its contract. The invariant: what is written in all comes to what is written and what the steps from i on will write, and so does what is held
--- at the end.
-use mathlib.Core.Path.{_≡_, refl, ap, _∙_}
-use Prim.Native.Nat.{_+_, _-_, _≤_}
+-- at the end; and the list of loads still has, from step i on, what the steps after each want together.
+use mathlib.Core.Path.{_≡_, refl, sym, ap, _∙_}
+use Prim.Native.Nat.{ℕ, _+_, _-_, _≤_, _<_}
+use mathlib.Core.List.{List}
 use native.Mathlib.Omega.{arith}
 use borrow.Author.Needs.{needs}
-use lib.ListN.{length, getD, drop}
+use lib.ListN.{length, getD, drop, set, length-set, length-map}
+use lib.Seq.{getD-set-other}
 use denote.Ref.{now}
-use Rattle.drive.specs.Plan.{furthest, next}
-use Rattle.drive.proofs.Turns.{Goes, goes-on, goes-end}
+use Rattle.drive.specs.Steps.{loadsOf}
+use Rattle.drive.specs.Plan.{furthest, next, planFrom}
+use Rattle.drive.specs.Contracts.{together}
+use Rattle.drive.proofs.Moves.{length-plan}
+use Rattle.drive.proofs.Turns.{Goes, goes-on, goes-end, sets-over}
 use Rattle.drive.proofs.plan_steps.Statement.{statement}
 use Rattle.drive.proofs.plan_steps.Tie as tie
 
 abbrev Inv-loop : tie.InvT-loop
-Inv-loop capacity start wants drops₀ loads₀ held₀ i₀ drops loads held i =
+Inv-loop capacity start wants drops₀ loads₀ groups₀ when₀ held₀ i₀ drops loads groups when held i =
     record {
       turns : i ≤ length wants;
+      long-groups : length groups ≡ 64;
+      long-when : length when ≡ 64;
+      ahead : (j : ℕ) → i ≤ j → j < length wants → j < length loads → getD loads j 0 ≡ together (drop (j + 1) wants);
       goes : Goes (furthest 64) capacity start wants drops₀ loads₀ drops loads held i;
     }
 
 abbrev μ-loop : tie.MeasureT-loop
-μ-loop capacity start wants drops₀ loads₀ held₀ i₀ drops loads held i = length wants - i
+μ-loop capacity start wants drops₀ loads₀ groups₀ when₀ held₀ i₀ drops loads groups when held i = length wants - i
 
 loop-holds : tie.Need-loop-holds Inv-loop μ-loop
-loop-holds c = record { turns = omega arith; goes = record { long-drops = refl; long-loads = refl; ends = refl; dropped = refl; loaded = refl } }
+loop-holds c =
+    record {
+      turns = omega arith;
+      long-groups = refl;
+      long-when = refl;
+      ahead = λ j l h m. c .before .before .write-later .ensures .0 j h (omega (arith, c .before .before .write-later .kept .1 .0));
+      goes = record { long-drops = refl; long-loads = refl; ends = refl; dropped = refl; loaded = refl };
+    }
 
-mul-step : tie.Need-mul-step Inv-loop μ-loop
-mul-step c = search needs
+wanted-later-requires : tie.Need-wanted-later-requires Inv-loop μ-loop
+wanted-later-requires c κs =
+    let l = c .before .before in
+    let q = l .before .loop in
+    λ h. q .inv .ahead (q .i) (omega arith) (l .loop-test .taken) h ∙ ap together (sym (c .before .later .ensures))
 
-shared-slice-read-step : tie.Need-shared-slice-read-step Inv-loop μ-loop
-shared-slice-read-step c = search needs
+slice-aggregate-drops-with : tie.Need-slice-aggregate-drops-with Inv-loop μ-loop
+slice-aggregate-drops-with c = sym (c .before .before .before .before .before .before .loop .inv .long-groups)
 
-later-requires : tie.Need-later-requires Inv-loop μ-loop
-later-requires c κs = omega arith
+slice-aggregate-drops-with-2 : tie.Need-slice-aggregate-drops-with-2 Inv-loop μ-loop
+slice-aggregate-drops-with-2 c = sym (c .before .before .before .before .before .before .before .loop .inv .long-when)
 
-step-requires : tie.Need-step-requires Inv-loop μ-loop
-step-requires c κs = tt
-
-put-requires : tie.Need-put-requires Inv-loop μ-loop
-put-requires c κs = tt
-
-put-requires-2 : tie.Need-put-requires-2 Inv-loop μ-loop
-put-requires-2 c κs = tt
-
-moved-requires : tie.Need-moved-requires Inv-loop μ-loop
-moved-requires c κs = tt
+drops-with-requires : tie.Need-drops-with-requires Inv-loop μ-loop
+drops-with-requires c κs =
+    let i = c .before .before .before .before .before .before .before .loop .inv in
+    (c .before .before .before .wanted-later .ensures, (omega (arith, i .long-groups), omega (arith, i .long-when)))
 
 add-i : tie.Need-add-i Inv-loop μ-loop
-add-i c = search needs
+add-i c =
+    let st = c .before .before .before .before .before .before .before .before .before .before .before .before in
+    let l = st .before .before .before .before .before .before .before in
+    omega (arith, l .loop-test .taken, l .before .before .before .before .before .before .before .before .before .good)
 
-loop-less : tie.Need-loop-less Inv-loop μ-loop
-loop-less c = search needs
+-- the entries behind step i are not written yet
+ahead-too : (wants loads : List ℕ) (i u : ℕ) → ((j : ℕ) → i ≤ j → j < length wants → j < length loads → getD loads j 0 ≡ together (drop (j + 1) wants))
+    → (j : ℕ) → i + 1 ≤ j → j < length wants → j < length (set loads i u) → getD (set loads i u) j 0 ≡ together (drop (j + 1) wants)
+ahead-too wants loads i u old j l h m = getD-set-other loads i j u 0 (λ e. omega arith) ∙ old j (omega arith) h (omega (arith, length-set loads i u))
 
 loop-again : tie.Need-loop-again Inv-loop μ-loop
 loop-again c =
     let put = c .before .before .before .before .before .before .before in
-    let st = put .before .before in
-    let k = st .before .before .before .before in
-    let a = k .before .before .before .before .args in
-    let w = getD (now (a .wants)) (k .loop .i) 0 in
-    let e : st .step .result ≡ next (furthest 64) (a .capacity) (k .loop .held) w (drop (k .loop .i + 1) (now (a .wants))) =
-    st .step .ensures ∙ ap (next (furthest 64) (a .capacity) (k .loop .held) w) (st .before .later .ensures) in
-    record { turns = omega arith; goes = rw (put .put .ensures, c .before .before .before .put2 .ensures, c .moved .ensures) (goes-on _ _ _ _ _ _ (k .loop .inv .goes) (st .before .before .before .loop-test .taken) e) }
+    let put2 = c .before .before .before in
+    let st = c .before .before .before .before .before .before .before .before .before .before .before .before in
+    let l = st .before .before .before .before .before .before .before in
+    let q = l .before .loop in
+    let a = l .before .before .before .before .before .before .before .before .before .args in
+    let w = now (a .wants) in
+    let t = c .before .before .before .before .before .before .before .before .before .with-drops in
+    let drops = rw (st .before .before .before .before .before .before .later .ensures) at (st .drops-with .ensures) in
+    let e : t .result ≡ next (furthest 64) (a .capacity) (q .held) (getD w (q .i) 0) (drop (q .i + 1) w) = rw drops at (t .ensures) in
+    record {
+      turns = omega (arith, l .loop-test .taken);
+      long-groups = st .drops-with .kept .1 .1 .1 .1 .1 .0 ∙ q .inv .long-groups;
+      long-when = st .drops-with .kept .1 .1 .1 .1 .1 .1 .0 ∙ q .inv .long-when;
+      ahead = rw (put2 .put2 .ensures) (ahead-too w (q .loads) (q .i) (t .result .loads) (q .inv .ahead));
+      goes = rw (put .put .ensures, put2 .put2 .ensures, c .moved .ensures) (goes-on _ _ _ _ _ _ (q .inv .goes) (l .loop-test .taken) e);
+    }
 
 same-length : tie.Need-same-length Inv-loop μ-loop
 same-length c = c .before .loop .inv .goes .long-drops
 
 same-length-2 : tie.Need-same-length-2 Inv-loop μ-loop
-same-length-2 c = c .before .loop .inv .goes .long-loads
+same-length-2 c = c .before .loop .inv .goes .long-loads ∙ c .before .before .before .before .write-later .kept .1 .0
 
 returns : tie.Need-returns Inv-loop μ-loop
-returns c = goes-end _ _ _ _ _ _ (c .before .loop .inv .goes) (c .loop-test .left)
+returns c =
+    let a = c .before .before .before .before .before .before .before .before .before .args in
+    let l = c .before .before .before .before .write-later in
+    let g = goes-end _ _ _ _ _ _ (c .before .loop .inv .goes) (c .loop-test .left) in
+    let ss = planFrom (furthest 64) (a .capacity) (a .start) (now (a .wants)) in
+    let n : length (loadsOf ss) ≡ length (now (a .wants)) = length-map ss (λ s. s .loads) ∙ length-plan (furthest 64) (a .capacity) (a .start) (now (a .wants)) in
+    let over = sets-over (loadsOf ss) _ (now (a .loads)) 0 (l .kept .1 .0) (λ j h. absurd (omega arith)) (λ j h. l .ensures .1 j (omega arith)) in
+    (g .0, (g .1 .0, g .1 .1 ∙ over))
 
 pub plan-steps-spec : {M : Type 1} → statement M
 plan-steps-spec =
-    tie.close
-    (tie.spec
-    Inv-loop
-    μ-loop
-    loop-holds
-    mul-step
-    shared-slice-read-step
-    later-requires
-    step-requires
-    put-requires
-    put-requires-2
-    moved-requires
-    add-i
-    loop-less
-    loop-again
-    same-length
-    same-length-2
-    returns)
+    tie.close (tie.spec Inv-loop μ-loop (λ c κs. tt) loop-holds (λ c κs. omega arith) wanted-later-requires (λ c. search needs) (λ c. search needs)
+    slice-aggregate-drops-with slice-aggregate-drops-with-2 drops-with-requires (λ c κs. tt) (λ c κs. tt) (λ c κs. tt) (λ c κs. tt) add-i
+    (λ c. search needs) loop-again same-length same-length-2 returns)

@@ -1,17 +1,10 @@
 -- `step` meets its contract.
-use mathlib.Core.Path.{refl}
 use borrow.Author.Needs.{needs}
 use Rattle.drive.proofs.step.Statement.{statement}
 use Rattle.drive.proofs.step.Tie as tie
 
-drops-for-requires : tie.Need-drops-for-requires
-drops-for-requires c κs = search needs
-
-without-requires : tie.Need-without-requires
-without-requires c κs = search needs
-
 returns : tie.Need-returns
-returns c = rw (c .before .drops-for .ensures, c .without .ensures) refl
+returns c = rw (c .before .drops-for .ensures) at (c .with-drops .ensures)
 
 pub step-spec : {M : Type 1} → statement M
-step-spec = tie.close (tie.spec drops-for-requires without-requires returns)
+step-spec = tie.close (tie.spec (λ c κs. search needs) (λ c κs. search needs) returns)

@@ -6,15 +6,6 @@ use Rattle.exports.specs.Numbers.{numbered}
 use Rattle.exports.proofs.counted.Statement.{statement}
 use Rattle.exports.proofs.counted.Tie as tie
 
-enum-known-c : tie.Need-enum-known-c
-enum-known-c c = search needs
-
-enum-known-c-2 : tie.Need-enum-known-c-2
-enum-known-c-2 c = search needs
-
-refusal-requires : tie.Need-refusal-requires
-refusal-requires c κs = search needs
-
 returns : tie.Need-returns
 unfolding numbered countOutcome
 returns c = rw (c .before .c .given .1)
@@ -24,4 +15,4 @@ unfolding countOutcome
 returns-2 c = c .refusal .ensures ∙ rw (c .before .before .c2 .given .1) refl
 
 pub counted-spec : {M : Type 1} → statement M
-counted-spec = tie.close (tie.spec enum-known-c enum-known-c-2 refusal-requires returns returns-2)
+counted-spec = tie.close (tie.spec (λ c. search needs) (λ c. search needs) (λ c κs. search needs) returns returns-2)

@@ -5,14 +5,8 @@ use Rattle.exports.specs.Numbers.{numbered}
 use Rattle.exports.proofs.curveplan_check_plan.Statement.{statement}
 use Rattle.exports.proofs.curveplan_check_plan.Tie as tie
 
-check-plan-requires : tie.Need-check-plan-requires
-check-plan-requires c κs = search needs
-
-counted-requires : tie.Need-counted-requires
-counted-requires c κs = search needs
-
 returns : tie.Need-returns
 returns c = c .counted .ensures ∙ ap numbered (c .before .check-plan .ensures)
 
 pub curveplan-check-plan-spec : {M : Type 1} → statement M
-curveplan-check-plan-spec = tie.close (tie.spec check-plan-requires counted-requires returns)
+curveplan-check-plan-spec = tie.close (tie.spec (λ c κs. search needs) (λ c κs. search needs) returns)

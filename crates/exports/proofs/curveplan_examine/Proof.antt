@@ -5,14 +5,8 @@ use Rattle.exports.specs.Numbers.{passing}
 use Rattle.exports.proofs.curveplan_examine.Statement.{statement}
 use Rattle.exports.proofs.curveplan_examine.Tie as tie
 
-examine-requires : tie.Need-examine-requires
-examine-requires c κs = search needs
-
-examined-requires : tie.Need-examined-requires
-examined-requires c κs = search needs
-
 returns : tie.Need-returns
-returns c = c .examined .ensures ∙ ap passing (c .before .examine .ensures)
+returns c = c .examined .ensures ∙ ap passing (c .before .examine-job .ensures)
 
 pub curveplan-examine-spec : {M : Type 1} → statement M
-curveplan-examine-spec = tie.close (tie.spec examine-requires examined-requires returns)
+curveplan-examine-spec = tie.close (tie.spec (λ c κs. search needs) (λ c κs. search needs) returns)

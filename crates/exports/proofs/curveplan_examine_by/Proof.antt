@@ -5,14 +5,8 @@ use Rattle.exports.specs.Numbers.{passing}
 use Rattle.exports.proofs.curveplan_examine_by.Statement.{statement}
 use Rattle.exports.proofs.curveplan_examine_by.Tie as tie
 
-examine-by-requires : tie.Need-examine-by-requires
-examine-by-requires c κs = search needs
-
-examined-requires : tie.Need-examined-requires
-examined-requires c κs = search needs
-
 returns : tie.Need-returns
-returns c = c .examined .ensures ∙ ap passing (c .before .examine-by .ensures)
+returns c = c .examined .ensures ∙ ap passing (c .before .examine-job .ensures)
 
 pub curveplan-examine-by-spec : {M : Type 1} → statement M
-curveplan-examine-by-spec = tie.close (tie.spec examine-by-requires examined-requires returns)
+curveplan-examine-by-spec = tie.close (tie.spec (λ c κs. search needs) (λ c κs. search needs) returns)

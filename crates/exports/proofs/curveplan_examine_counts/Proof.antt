@@ -5,15 +5,8 @@ use Rattle.exports.specs.Numbers.{passing}
 use Rattle.exports.proofs.curveplan_examine_counts.Statement.{statement}
 use Rattle.exports.proofs.curveplan_examine_counts.Tie as tie
 
-examine-counts-requires : tie.Need-examine-counts-requires
-examine-counts-requires c κs = search needs
-
-examined-requires : tie.Need-examined-requires
-examined-requires c κs = search needs
-
 returns : tie.Need-returns
 returns c = c .examined .ensures ∙ ap passing (c .before .examine-counts .ensures)
 
 pub curveplan-examine-counts-spec : {M : Type 1} → statement M
-curveplan-examine-counts-spec =
-    tie.close (tie.spec examine-counts-requires examined-requires returns)
+curveplan-examine-counts-spec = tie.close (tie.spec (λ c κs. search needs) (λ c κs. search needs) returns)

@@ -5,15 +5,8 @@ use Rattle.exports.specs.Numbers.{passing}
 use Rattle.exports.proofs.curveplan_examine_sizes.Statement.{statement}
 use Rattle.exports.proofs.curveplan_examine_sizes.Tie as tie
 
-examine-sizes-requires : tie.Need-examine-sizes-requires
-examine-sizes-requires c κs = search needs
-
-examined-requires : tie.Need-examined-requires
-examined-requires c κs = search needs
-
 returns : tie.Need-returns
 returns c = c .examined .ensures ∙ ap passing (c .before .examine-sizes .ensures)
 
 pub curveplan-examine-sizes-spec : {M : Type 1} → statement M
-curveplan-examine-sizes-spec =
-    tie.close (tie.spec examine-sizes-requires examined-requires returns)
+curveplan-examine-sizes-spec = tie.close (tie.spec (λ c κs. search needs) (λ c κs. search needs) returns)

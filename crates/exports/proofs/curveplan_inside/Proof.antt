@@ -5,14 +5,8 @@ use Rattle.job.specs.Words.{digit}
 use Rattle.exports.proofs.curveplan_inside.Statement.{statement}
 use Rattle.exports.proofs.curveplan_inside.Tie as tie
 
-inside-requires : tie.Need-inside-requires
-inside-requires c κs = search needs
-
-truth-requires : tie.Need-truth-requires
-truth-requires c κs = search needs
-
 returns : tie.Need-returns
 returns c = c .truth .ensures ∙ ap digit (c .before .inside .ensures)
 
 pub curveplan-inside-spec : {M : Type 1} → statement M
-curveplan-inside-spec = tie.close (tie.spec inside-requires truth-requires returns)
+curveplan-inside-spec = tie.close (tie.spec (λ c κs. search needs) (λ c κs. search needs) returns)

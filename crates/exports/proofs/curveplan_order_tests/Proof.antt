@@ -5,18 +5,8 @@ use Rattle.exports.specs.Numbers.{numbered}
 use Rattle.exports.proofs.curveplan_order_tests.Statement.{statement}
 use Rattle.exports.proofs.curveplan_order_tests.Tie as tie
 
-order-tests-requires : tie.Need-order-tests-requires
-order-tests-requires c κs = search needs
-
-counted-requires : tie.Need-counted-requires
-counted-requires c κs = search needs
-
-same-length : tie.Need-same-length
-same-length c = search needs
-
 returns : tie.Need-returns
 returns c = let e = c .before .before .before .order-tests .ensures in (c .counted .ensures ∙ ap numbered (e .0), e .1)
 
 pub curveplan-order-tests-spec : {M : Type 1} → statement M
-curveplan-order-tests-spec =
-    tie.close (tie.spec order-tests-requires counted-requires same-length returns)
+curveplan-order-tests-spec = tie.close (tie.spec (λ c κs. search needs) (λ c κs. search needs) (λ c. search needs) returns)

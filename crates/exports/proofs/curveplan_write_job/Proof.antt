@@ -5,18 +5,8 @@ use Rattle.exports.specs.Numbers.{numbered}
 use Rattle.exports.proofs.curveplan_write_job.Statement.{statement}
 use Rattle.exports.proofs.curveplan_write_job.Tie as tie
 
-write-job-requires : tie.Need-write-job-requires
-write-job-requires c κs = search needs
-
-counted-requires : tie.Need-counted-requires
-counted-requires c κs = search needs
-
-same-length : tie.Need-same-length
-same-length c = search needs
-
 returns : tie.Need-returns
 returns c = let e = c .before .before .before .write-job .ensures in (c .counted .ensures ∙ ap numbered (e .0), e .1)
 
 pub curveplan-write-job-spec : {M : Type 1} → statement M
-curveplan-write-job-spec =
-    tie.close (tie.spec write-job-requires counted-requires same-length returns)
+curveplan-write-job-spec = tie.close (tie.spec (λ c κs. search needs) (λ c κs. search needs) (λ c. search needs) returns)

@@ -5,18 +5,8 @@ use Rattle.exports.specs.Numbers.{numbered}
 use Rattle.exports.proofs.curveplan_write_plan.Statement.{statement}
 use Rattle.exports.proofs.curveplan_write_plan.Tie as tie
 
-write-plan-requires : tie.Need-write-plan-requires
-write-plan-requires c κs = search needs
-
-counted-requires : tie.Need-counted-requires
-counted-requires c κs = search needs
-
-same-length : tie.Need-same-length
-same-length c = search needs
-
 returns : tie.Need-returns
 returns c = let e = c .before .before .before .write-plan .ensures in (c .counted .ensures ∙ ap numbered (e .0), e .1)
 
 pub curveplan-write-plan-spec : {M : Type 1} → statement M
-curveplan-write-plan-spec =
-    tie.close (tie.spec write-plan-requires counted-requires same-length returns)
+curveplan-write-plan-spec = tie.close (tie.spec (λ c κs. search needs) (λ c κs. search needs) (λ c. search needs) returns)

@@ -6,15 +6,6 @@ use Rattle.exports.specs.Numbers.{numbered}
 use Rattle.exports.proofs.examined.Statement.{statement}
 use Rattle.exports.proofs.examined.Tie as tie
 
-enum-told : tie.Need-enum-told
-enum-told c = search needs
-
-enum-known-e : tie.Need-enum-known-e
-enum-known-e c = search needs
-
-refusal-requires : tie.Need-refusal-requires
-refusal-requires c κs = search needs
-
 returns : tie.Need-returns
 unfolding numbered mapped examinedOutcome
 returns c = rw (c .enum-told .given .1)
@@ -24,4 +15,4 @@ unfolding mapped examinedOutcome
 returns-2 c = c .refusal .ensures ∙ rw (c .before .before .e .given .1) refl
 
 pub examined-spec : {M : Type 1} → statement M
-examined-spec = tie.close (tie.spec enum-told enum-known-e refusal-requires returns returns-2)
+examined-spec = tie.close (tie.spec (λ c. search needs) (λ c. search needs) (λ c κs. search needs) returns returns-2)

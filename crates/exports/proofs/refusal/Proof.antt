@@ -7,14 +7,8 @@ use Rattle.exports.proofs.Numbers.{number-small}
 use Rattle.exports.proofs.refusal.Statement.{statement}
 use Rattle.exports.proofs.refusal.Tie as tie
 
-number-of-requires : tie.Need-number-of-requires
-number-of-requires c κs = search needs
-
 mul-result : tie.Need-mul-result
 mul-result c = omega (arith, c .number-of .ensures, number-small (c .before .args .r))
-
-figure-of-requires : tie.Need-figure-of-requires
-figure-of-requires c κs = search needs
 
 add-result : tie.Need-add-result
 add-result c = omega (arith, c .before .number-of .ensures, number-small (c .before .before .args .r))
@@ -24,5 +18,4 @@ unfolding numbered
 returns c = rw (c .before .number-of .ensures, c .figure-of .ensures) refl
 
 pub refusal-spec : {M : Type 1} → statement M
-refusal-spec =
-    tie.close (tie.spec number-of-requires mul-result figure-of-requires add-result returns)
+refusal-spec = tie.close (tie.spec (λ c κs. search needs) mul-result (λ c κs. search needs) add-result returns)

@@ -1,15 +1,13 @@
 -- `job::examine_wants` meets its contract. The invariant: the examination of all tests comes to that of the tests from t on.
 use mathlib.Core.Path.{_≡_, refl, sym, ap, _∙_}
-use Prim.Native.Nat.{ℕ, _+_, _-_, _≤_, _<_, min}
+use Prim.Native.Nat.{ℕ, _+_, _-_, _≤_, min}
 use borrow.Author.Needs.{needs}
 use native.Mathlib.Omega.{arith}
-use borrow.Author.Tests.{le-leb, lt-leb}
 use lib.ListN.{length, drop, getD}
-use lib.Dec.{leb}
 use native.Mathlib.Nat.{min-eq-left}
-use Rattle.bitset.specs.Set.{size, inside, below}
-use Rattle.job.specs.Refusal.{refused, examinedOutcome, number, figure}
-use Rattle.job.specs.Handed.{allCurves, each, wantsFit, wantsKnown}
+use Rattle.bitset.specs.Set.{inside, below}
+use Rattle.job.specs.Refusal.{examinedOutcome}
+use Rattle.job.specs.Handed.{allCurves, each, wantsKnown}
 use Rattle.job.proofs.Laws.{each-pass, each-fail, each-end}
 use Rattle.job.proofs.examine_wants.Statement.{statement}
 use Rattle.job.proofs.examine_wants.Tie as tie
@@ -24,55 +22,18 @@ Inv-loop curves wants all t₀ t = (t ≤ length wants) × (each (λ w. inside w
 abbrev μ-loop : tie.MeasureT-loop
 μ-loop curves wants all t₀ t = length wants - t
 
-below-requires : tie.Need-below-requires Inv-loop μ-loop
-below-requires c κs = search needs
-
-loop-holds : tie.Need-loop-holds Inv-loop μ-loop
-loop-holds c = (omega arith, refl)
-
-mul-inside : tie.Need-mul-inside Inv-loop μ-loop
-mul-inside c = search needs
-
-shared-slice-read-inside : tie.Need-shared-slice-read-inside Inv-loop μ-loop
-shared-slice-read-inside c = search needs
-
-inside-requires : tie.Need-inside-requires Inv-loop μ-loop
-inside-requires c κs = search needs
-
-add-t : tie.Need-add-t Inv-loop μ-loop
-add-t c = search needs
-
-loop-less : tie.Need-loop-less Inv-loop μ-loop
-loop-less c = search needs
-
 loop-again : tie.Need-loop-again Inv-loop μ-loop
 loop-again c = (omega arith, c .before .before .before .before .loop .inv .1 ∙ each-pass (λ w. inside w (allCurves (c .before .before .before .before .before .before .before .args .curves))) 10 4 (c .before .before .before .before .before .before .before .args .wants .now) (c .before .before .before .before .loop .t) (omega arith) (ap (λ (x : ℕ). inside (getD (c .before .before .before .before .before .before .before .args .wants .now) (c .before .before .before .before .loop .t) 0) x) (sym (all-curves (c .before .before .before .before .before .before .before .args .curves) (c .before .before .before .before .before .below .result) (c .before .before .before .before .before .below .ensures) (c .before .before .before .before .before .before .before .pre .0))) ∙ sym (c .before .inside .ensures) ∙ c .if1 .taken))
 
-add-t10 : tie.Need-add-t10 Inv-loop μ-loop
-add-t10 c = search needs
-
 returns : tie.Need-returns Inv-loop μ-loop
-unfolding examinedOutcome number figure wantsKnown
+unfolding examinedOutcome wantsKnown
 returns c = sym (c .before .before .before .before .loop .inv .1 ∙ each-fail (λ w. inside w (allCurves (c .before .before .before .before .before .before .before .args .curves))) 10 4 (c .before .before .before .before .before .before .before .args .wants .now) (c .before .before .before .before .loop .t) (omega arith) (ap (λ (x : ℕ). inside (getD (c .before .before .before .before .before .before .before .args .wants .now) (c .before .before .before .before .loop .t) 0) x) (sym (all-curves (c .before .before .before .before .before .before .before .args .curves) (c .before .before .before .before .before .below .result) (c .before .before .before .before .before .below .ensures) (c .before .before .before .before .before .before .before .pre .0))) ∙ sym (c .before .inside .ensures) ∙ c .if1 .left))
 
 returns-2 : tie.Need-returns-2 Inv-loop μ-loop
-unfolding examinedOutcome number figure wantsKnown
+unfolding examinedOutcome wantsKnown
 returns-2 c = sym (c .before .loop .inv .1 ∙ each-end (λ w. inside w (allCurves (c .before .before .before .before .args .curves))) 10 4 (c .before .before .before .before .args .wants .now) (c .before .loop .t) (omega arith))
 
 pub examine-wants-spec : {M : Type 1} → statement M
 examine-wants-spec =
-    tie.close
-    (tie.spec
-    Inv-loop
-    μ-loop
-    below-requires
-    loop-holds
-    mul-inside
-    shared-slice-read-inside
-    inside-requires
-    add-t
-    loop-less
-    loop-again
-    add-t10
-    returns
-    returns-2)
+    tie.close (tie.spec Inv-loop μ-loop (λ c κs. search needs) (λ c. (omega arith, refl)) (λ c. search needs) (λ c. search needs)
+    (λ c κs. search needs) (λ c. search needs) (λ c. search needs) loop-again (λ c. search needs) returns returns-2)

@@ -1,5 +1,4 @@
 -- `job::in_bounds` meets its contract.
-use mathlib.Core.Path.{sym}
 use borrow.Author.Tests.{le-leb, lt-leb}
 use Rattle.job.specs.Handed.{between}
 use Rattle.job.proofs.in_bounds.Statement.{statement}

@@ -2,99 +2,53 @@
 use mathlib.Core.Path.{_≡_, _∙_}
 use native.Mathlib.Omega.{arith}
 use denote.Ref.{now}
-use Rattle.job.specs.Refusal.{done, countOutcome, number, figure}
-use Rattle.job.specs.Handed.{jobKnownBy, wantsFit}
+use lib.ListN.{length}
+use Rattle.job.specs.Refusal.{done, countOutcome}
+use Rattle.job.specs.Words.{jobOf}
+use Rattle.job.specs.Handed.{jobKnownBy}
+use Rattle.job.specs.Calls.{orderingKnown}
+use Rattle.job.proofs.Laws.{both-done, made-refused, made-done}
 use Rattle.job.proofs.JobExact.{job-by-exact}
 use Rattle.job.proofs.Examination.{examined-refused, examined-passed}
-use Rattle.ordering.proofs.Ordered.{not-known, not-fit, no-room, order-answer, order-list}
+use Rattle.ordering.specs.Ordering.{orderAnswer, orderList}
+use Rattle.ordering.proofs.Ordered.{not-known, no-room, ordered, order-entries}
 use borrow.Author.Needs.{needs}
 use Rattle.ordering.proofs.order_tests.Statement.{statement}
 use Rattle.ordering.proofs.order_tests.Tie as tie
 
--- 5 and 10 were asked, and 7
-known : (c : tie.After-enum-told) → let a = c .before .before .before .before .before .args in jobKnownBy (a .places) (a .curves) (a .method) (now (a .wants)) ≡ done tt
-known c = examined-passed _ _ (c .enum-told .given .1) (c .before .before .examine-by .ensures)
-
-fit : (c : tie.After-enum-told2) → let a = c .before .before .before .before .before .before .before .before .args in wantsFit (a .places) (now (a .wants)) ≡ done tt
-fit c = examined-passed _ _ (c .enum-told2 .given .1) (c .before .before .examine-sizes .ensures)
-
-examine-by-requires : tie.Need-examine-by-requires
-examine-by-requires c κs = search needs
-
-enum-known-r : tie.Need-enum-known-r
-enum-known-r c = search needs
+-- 5, 10 and 7 were asked
+known : (c : tie.After-enum-told) → let a = c .before .before .before .before .before .args in orderingKnown (a .method) (jobOf (a .rig) (now (a .wants))) ≡ done tt
+known c = examined-passed _ _ (c .enum-told .given .1) (c .before .before .examine-ordering .ensures)
 
 returns : tie.Need-returns
-unfolding countOutcome
+unfolding countOutcome orderAnswer orderList
 returns c =
     let k = c .before .before .before in
     let a = k .before .before .before .args in
-    let e = not-known (a .places) (a .curves) (a .method) (now (a .wants)) (now (a .order)) _ _ (examined-refused _ _ _ (c .before .r .given .1) (k .examine-by .ensures)) in
-    (e .answer, e .list)
-
-enum-told : tie.Need-enum-told
-enum-told c = search needs
-
-examine-sizes-requires : tie.Need-examine-sizes-requires
-examine-sizes-requires c κs = search needs
-
-enum-known-r-2 : tie.Need-enum-known-r-2
-enum-known-r-2 c = search needs
+    made-refused _ _ _ _ (not-known (a .method) (jobOf (a .rig) (now (a .wants))) (length (now (a .order))) _ _ (examined-refused _ _ _ (c .before .r .given .1) (k .examine-ordering .ensures)))
 
 returns-2 : tie.Need-returns-2
-unfolding countOutcome
+unfolding countOutcome orderAnswer orderList
 returns-2 c =
-    let k = c .before .before .before in
-    let a = k .before .before .before .before .before .before .args in
-    let e =
-    not-fit (a .places) (a .curves) (a .method) (now (a .wants)) (now (a .order)) (known (k .before)) _ _ (examined-refused _ _ _ (c .before .r2 .given .1) (k .examine-sizes .ensures))
-    in
-    (e .answer, e .list)
-
-enum-told-2 : tie.Need-enum-told-2
-enum-told-2 c = search needs
-
-returns-3 : tie.Need-returns-3
-unfolding countOutcome number figure
-returns-3 c =
-    let k = c .before in
-    let a = k .before .before .before .before .before .before .before .before .args in
-    let e = no-room (a .places) (a .curves) (a .method) (now (a .wants)) (now (a .order)) (known (k .before .before .before)) (fit k) (c .if1 .taken) in
-    (e .answer, e .list)
+    let a = c .before .before .before .before .before .before .args in
+    made-refused _ _ _ _ (no-room (a .method) (jobOf (a .rig) (now (a .wants))) (length (now (a .order))) (known (c .before)) (c .if1 .taken))
 
 write-order-requires : tie.Need-write-order-requires
+unfolding orderingKnown
 write-order-requires c κs =
-    let k = c .before .before in
-    let a = k .before .before .before .before .before .before .before .before .args in
-    (job-by-exact (a .places) (a .curves) (now (a .wants)) (a .method) .0 (known (k .before .before .before)) .0 .tests-bounds .1, omega arith)
+    let a = c .before .before .before .before .before .before .before .args in
+    let j = jobOf (a .rig) (now (a .wants)) in
+    (job-by-exact j (a .method) .0 (both-done (jobKnownBy (a .method) j) _ tt (known (c .before .before)) .0) .0 .tests-bounds .1, omega arith)
 
-same-length : tie.Need-same-length
-same-length c = search needs
-
-returns-4 : tie.Need-returns-4
-unfolding countOutcome
-returns-4 c =
-    let k = c .before .before .before .before .before in
-    let a = k .before .before .before .before .before .before .before .before .args in
-    let ws = now (a .wants) in
-    let old = now (a .order) in (
-      order-answer (a .places) (a .curves) (a .method) ws old (known (k .before .before .before)) (fit k) (omega arith),
-      c .before .before .write-order .ensures ∙ order-list (a .places) (a .curves) (a .method) ws old (known (k .before .before .before)) (fit k) (omega arith),
-    )
+returns-3 : tie.Need-returns-3
+unfolding countOutcome orderAnswer orderList
+returns-3 c =
+    let k = c .before .before .before .before in
+    let a = k .before .before .before .before .before .before .args in
+    let m = made-done _ (now (a .order)) _ (ordered (a .method) (jobOf (a .rig) (now (a .wants))) (length (now (a .order))) (known (k .before)) (omega arith)) in
+    (rw (order-entries (a .method) (a .rig .places) (now (a .wants))) at (m .0), c .before .before .write-order .ensures ∙ m .1)
 
 pub order-tests-spec : {M : Type 1} → statement M
 order-tests-spec =
-    tie.close
-    (tie.spec
-    examine-by-requires
-    enum-known-r
-    returns
-    enum-told
-    examine-sizes-requires
-    enum-known-r-2
-    returns-2
-    enum-told-2
-    returns-3
-    write-order-requires
-    same-length
-    returns-4)
+    tie.close (tie.spec (λ c κs. search needs) (λ c. search needs) returns (λ c. search needs) returns-2 write-order-requires (λ c. search needs)
+    returns-3)

@@ -16,13 +16,17 @@ use Rattle.packages.proofs.best_partner.Statement.{statement}
 use Rattle.packages.proofs.best_partner.Tie as tie
 
 abbrev Inv-loop : tie.InvT-loop
-Inv-loop bound curves first second₀ most₀ j₀ second most j = record { turns : first < j; within : j ≤ length curves; row : rows.rowTo (λ u. leb (size u) bound) curves first j ≡ rows.chosen first second; count : most ≡ rows.score curves first second; few : most ≤ 65; low : second < j }
+Inv-loop bound curves first second₀ most₀ j₀ second most j = record {
+  turns : first < j;
+  within : j ≤ length curves;
+  row : rows.rowTo (λ u. leb (size u) bound) curves first j ≡ rows.chosen first second;
+  count : most ≡ rows.score curves first second;
+  few : most ≤ 65;
+  low : second < j;
+}
 
 abbrev μ-loop : tie.MeasureT-loop
 μ-loop bound curves first second₀ most₀ j₀ second most j = length curves - j
-
-add-j : tie.Need-add-j Inv-loop μ-loop
-add-j c = search needs
 
 loop-holds : tie.Need-loop-holds Inv-loop μ-loop
 loop-holds c =
@@ -36,50 +40,11 @@ loop-holds c =
       low = omega arith;
     }
 
-mul-shared : tie.Need-mul-shared Inv-loop μ-loop
-mul-shared c = search needs
-
-shared-slice-read-shared : tie.Need-shared-slice-read-shared Inv-loop μ-loop
-shared-slice-read-shared c = search needs
-
-mul-shared-2 : tie.Need-mul-shared-2 Inv-loop μ-loop
-mul-shared-2 c = search needs
-
-shared-slice-read-shared-2 : tie.Need-shared-slice-read-shared-2 Inv-loop μ-loop
-shared-slice-read-shared-2 c = search needs
-
-shared-requires : tie.Need-shared-requires Inv-loop μ-loop
-shared-requires c κs = search needs
-
 add-common : tie.Need-add-common Inv-loop μ-loop
 add-common c =
     let k = c .before .before .before .before .before .before in
     let few = rows.few-shared (getD (now (k .args .curves)) (k .args .first) 0) _ (c .shared .result) (c .before .shared-slice-known3 .given (k .args .first) .fits) (c .shared .ensures) in
     omega arith
-
-mul-union : tie.Need-mul-union Inv-loop μ-loop
-mul-union c = search needs
-
-shared-slice-read-union : tie.Need-shared-slice-read-union Inv-loop μ-loop
-shared-slice-read-union c = search needs
-
-mul-union-2 : tie.Need-mul-union-2 Inv-loop μ-loop
-mul-union-2 c = search needs
-
-shared-slice-read-union-2 : tie.Need-shared-slice-read-union-2 Inv-loop μ-loop
-shared-slice-read-union-2 c = search needs
-
-union-requires : tie.Need-union-requires Inv-loop μ-loop
-union-requires c κs = search needs
-
-size-requires : tie.Need-size-requires Inv-loop μ-loop
-size-requires c κs = search needs
-
-add-j-2 : tie.Need-add-j-2 Inv-loop μ-loop
-add-j-2 c = search needs
-
-loop-less : tie.Need-loop-less Inv-loop μ-loop
-loop-less c = search needs
 
 loop-again : tie.Need-loop-again Inv-loop μ-loop
 loop-again c =
@@ -147,27 +112,6 @@ returns c =
 
 pub best-partner-spec : {M : Type 1} → statement M
 best-partner-spec =
-    tie.close
-    (tie.spec
-    Inv-loop
-    μ-loop
-    add-j
-    loop-holds
-    mul-shared
-    shared-slice-read-shared
-    mul-shared-2
-    shared-slice-read-shared-2
-    shared-requires
-    add-common
-    mul-union
-    shared-slice-read-union
-    mul-union-2
-    shared-slice-read-union-2
-    union-requires
-    size-requires
-    add-j-2
-    loop-less
-    loop-again
-    mul-result
-    add-result
-    returns)
+    tie.close (tie.spec Inv-loop μ-loop (λ c. search needs) loop-holds (λ c. search needs) (λ c. search needs) (λ c. search needs) (λ c. search needs)
+    (λ c κs. search needs) add-common (λ c. search needs) (λ c. search needs) (λ c. search needs) (λ c. search needs) (λ c κs. search needs)
+    (λ c κs. search needs) (λ c. search needs) (λ c. search needs) loop-again mul-result add-result returns)

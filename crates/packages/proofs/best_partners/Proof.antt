@@ -10,35 +10,24 @@ use borrow.Author.Count.{below-more}
 use borrow.Author.Needs.{needs}
 use denote.Ref.{now}
 use Rattle.bitset.specs.Set.{size}
-use Rattle.packages.specs.Ratings.{Rated}
+use Rattle.packages.specs.Contracts.{Rated}
 use Rattle.packages.proofs.Rows as rows
 use Rattle.packages.proofs.Renew.{row-rated}
 use Rattle.packages.proofs.best_partners.Statement.{statement}
 use Rattle.packages.proofs.best_partners.Tie as tie
 
 abbrev Inv-loop : tie.InvT-loop
-Inv-loop bound curves ratings₀ k₀ ratings k = record { turns : k ≤ length curves; long : length ratings ≡ length ratings₀; done : (i : ℕ) → i < k → Rated (λ u. leb (size u) bound) curves i (getD ratings i 0) }
+Inv-loop bound curves ratings₀ k₀ ratings k = record {
+  turns : k ≤ length curves;
+  long : length ratings ≡ length ratings₀;
+  done : (i : ℕ) → i < k → Rated (λ u. leb (size u) bound) curves i (getD ratings i 0);
+}
 
 abbrev μ-loop : tie.MeasureT-loop
 μ-loop bound curves ratings₀ k₀ ratings k = length curves - k
 
 loop-holds : tie.Need-loop-holds Inv-loop μ-loop
 loop-holds c = record { turns = omega arith; long = refl; done = λ i h. absurd (omega arith) }
-
-best-partner-requires : tie.Need-best-partner-requires Inv-loop μ-loop
-best-partner-requires c κs = search needs
-
-mul-ratings : tie.Need-mul-ratings Inv-loop μ-loop
-mul-ratings c = search needs
-
-slice-write-ratings : tie.Need-slice-write-ratings Inv-loop μ-loop
-slice-write-ratings c = search needs
-
-add-k : tie.Need-add-k Inv-loop μ-loop
-add-k c = search needs
-
-loop-less : tie.Need-loop-less Inv-loop μ-loop
-loop-less c = search needs
 
 loop-again : tie.Need-loop-again Inv-loop μ-loop
 loop-again c =
@@ -66,16 +55,5 @@ returns c = λ k h. c .before .loop .inv .done k (omega arith)
 
 pub best-partners-spec : {M : Type 1} → statement M
 best-partners-spec =
-    tie.close
-    (tie.spec
-    Inv-loop
-    μ-loop
-    loop-holds
-    best-partner-requires
-    mul-ratings
-    slice-write-ratings
-    add-k
-    loop-less
-    loop-again
-    same-length
-    returns)
+    tie.close (tie.spec Inv-loop μ-loop loop-holds (λ c κs. search needs) (λ c. search needs) (λ c. search needs) (λ c. search needs)
+    (λ c. search needs) loop-again same-length returns)

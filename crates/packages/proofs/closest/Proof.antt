@@ -11,7 +11,7 @@ use lib.ListN.{length, getD, set, length-set, List·getD-eq-default}
 use borrow.Author.Needs.{needs}
 use denote.Ref.{now}
 use Rattle.bitset.specs.Set.{size}
-use Rattle.packages.specs.Ratings.{Rated}
+use Rattle.packages.specs.Contracts.{Rated}
 use Rattle.packages.proofs.Rows as rows
 use Rattle.packages.proofs.Renew.{row-rated, rated-score}
 use Rattle.packages.proofs.Ratings.{rated-none, rated-pair, weights, weights-set, lighter}
@@ -41,7 +41,8 @@ place c =
 
 -- what the scan found for it
 found-rating : (c : tie.After-best-partner Inv-loop μ-loop)
-    → Rated (λ u. leb (size u) (c .before .before .before .before .before .before .before .before .before .before .args .bound)) (now (c .before .before .before .before .before .before .before .before .before .before .args .curves)) (c .before .before .before .before .before .highest .result) (c .best-partner .result)
+    → let h = c .before .before .before .before .before in let a = h .before .before .before .before .before .args in
+    Rated (λ u. leb (size u) (a .bound)) (now (a .curves)) (h .highest .result) (c .best-partner .result)
 found-rating c =
     let a = c .before .before .before .before .before .before .before .before .before .before .args in
     let f = c .before .before .before .before .before .highest .result in
@@ -55,12 +56,6 @@ turned fits cs rs f k r l new old (no e) = subst (Rated fits cs k) (sym (getD-se
 loop-holds : tie.Need-loop-holds Inv-loop μ-loop
 loop-holds c = (refl, c .before .before .pre .1)
 
-highest-requires : tie.Need-highest-requires Inv-loop μ-loop
-highest-requires c κs = search needs
-
-entry-requires : tie.Need-entry-requires Inv-loop μ-loop
-entry-requires c κs = search needs
-
 same-length : tie.Need-same-length Inv-loop μ-loop
 same-length c = c .before .before .before .before .before .loop .inv .0
 
@@ -73,7 +68,8 @@ returns c =
     let f = h .highest .result in
     let e : c .before .entry .result ≡ getD rs f 0 = c .before .entry .ensures in
     let l = inside rs f (λ z. omega (arith, e, z, c .if1 .taken)) in (
-      rated-pair (λ u. leb (size u) (a .bound)) (now (a .curves)) rs (q .loop .inv .1) f (omega (arith, l, q .loop .inv .0, q .before .before .before .pre .0)) (h .highest .ensures .0) (h .highest .ensures .1) (omega (arith, e, c .if1 .taken))
+      rated-pair (λ u. leb (size u) (a .bound)) (now (a .curves)) rs (q .loop .inv .1) f (omega (arith, l, q .loop .inv .0, q .before .before .before .pre .0))
+          (h .highest .ensures .0) (h .highest .ensures .1) (omega (arith, e, c .if1 .taken))
           ∙ ap (λ (r : ℕ). rows.chosen f (r % 256)) (sym e),
       q .loop .inv .1,
     )
@@ -126,24 +122,12 @@ loop-again c =
     let rs = q .loop .ratings in
     let f = c .before .before .before .before .before .highest .result in (
       simp length-set (q .loop .inv .0),
-      λ k l. turned (λ u. leb (size u) (a .bound)) (now (a .curves)) rs f k (c .best-partner .result) (omega (arith, place (c .before), q .loop .inv .0, q .before .before .before .pre .0)) (found-rating c) (q .loop .inv .1 k l) (ℕ-discrete k f),
+      λ k l.
+          turned (λ u. leb (size u) (a .bound)) (now (a .curves)) rs f k (c .best-partner .result) (omega (arith, place (c .before), q .loop .inv .0, q .before .before .before .pre .0))
+          (found-rating c) (q .loop .inv .1 k l) (ℕ-discrete k f),
     )
 
 pub closest-spec : {M : Type 1} → statement M
 closest-spec =
-    tie.close
-    (tie.spec
-    Inv-loop
-    μ-loop
-    loop-holds
-    highest-requires
-    entry-requires
-    same-length
-    returns
-    same-length-2
-    returns-2
-    best-partner-requires
-    mul-ratings
-    slice-write-ratings
-    loop-less
-    loop-again)
+    tie.close (tie.spec Inv-loop μ-loop loop-holds (λ c κs. search needs) (λ c κs. search needs) same-length returns same-length-2 returns-2
+    best-partner-requires mul-ratings slice-write-ratings loop-less loop-again)

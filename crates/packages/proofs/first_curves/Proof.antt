@@ -20,24 +20,6 @@ abbrev μ-loop : tie.MeasureT-loop
 loop-holds : tie.Need-loop-holds Inv-loop μ-loop
 loop-holds c = (omega arith, refl, refl)
 
-mul-curves : tie.Need-mul-curves Inv-loop μ-loop
-mul-curves c = search needs
-
-shared-slice-read-curves : tie.Need-shared-slice-read-curves Inv-loop μ-loop
-shared-slice-read-curves c = search needs
-
-mul-curves-2 : tie.Need-mul-curves-2 Inv-loop μ-loop
-mul-curves-2 c = search needs
-
-array-write-curves : tie.Need-array-write-curves Inv-loop μ-loop
-array-write-curves c = search needs
-
-add-t : tie.Need-add-t Inv-loop μ-loop
-add-t c = search needs
-
-loop-less : tie.Need-loop-less Inv-loop μ-loop
-loop-less c = search needs
-
 loop-again : tie.Need-loop-again Inv-loop μ-loop
 loop-again c =
     let k = c .before .before in
@@ -46,7 +28,8 @@ loop-again c =
     let h : t < length ws = omega arith in (
       omega arith,
       set-long _ (k .loop .curves) _ _ _ (k .loop .inv .1),
-      rw (add-one t, take-suc-set (k .loop .curves) t (getD ws t 0) (omega (arith, k .loop .inv .1, k .before .pre)), take-suc ws t 0 h) (ap (λ (l : List ℕ). l ++ (getD ws t 0 ∷ [])) (k .loop .inv .2)),
+      rw (add-one t, take-suc-set (k .loop .curves) t (getD ws t 0) (omega (arith, k .loop .inv .1, k .before .pre)), take-suc ws t 0 h)
+          (ap (λ (l : List ℕ). l ++ (getD ws t 0 ∷ [])) (k .loop .inv .2)),
     )
 
 returns : tie.Need-returns Inv-loop μ-loop
@@ -58,16 +41,5 @@ returns c =
 
 pub first-curves-spec : {M : Type 1} → statement M
 first-curves-spec =
-    tie.close
-    (tie.spec
-    Inv-loop
-    μ-loop
-    loop-holds
-    mul-curves
-    shared-slice-read-curves
-    mul-curves-2
-    array-write-curves
-    add-t
-    loop-less
-    loop-again
-    returns)
+    tie.close (tie.spec Inv-loop μ-loop loop-holds (λ c. search needs) (λ c. search needs) (λ c. search needs) (λ c. search needs) (λ c. search needs)
+    (λ c. search needs) loop-again returns)

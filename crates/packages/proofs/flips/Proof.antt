@@ -6,39 +6,6 @@ use Rattle.packages.proofs.Runs as runs
 use Rattle.packages.proofs.flips.Statement.{statement}
 use Rattle.packages.proofs.flips.Tie as tie
 
-head-requires : tie.Need-head-requires
-head-requires c κs = search needs
-
-tail-requires : tie.Need-tail-requires
-tail-requires c κs = search needs
-
-head-requires-2 : tie.Need-head-requires-2
-head-requires-2 c κs = search needs
-
-tail-requires-2 : tie.Need-tail-requires-2
-tail-requires-2 c κs = search needs
-
-shared-requires : tie.Need-shared-requires
-shared-requires c κs = search needs
-
-shared-requires-2 : tie.Need-shared-requires-2
-shared-requires-2 c κs = search needs
-
-shared-requires-3 : tie.Need-shared-requires-3
-shared-requires-3 c κs = search needs
-
-shared-requires-4 : tie.Need-shared-requires-4
-shared-requires-4 c κs = search needs
-
-more-requires : tie.Need-more-requires
-more-requires c κs = search needs
-
-more-requires-2 : tie.Need-more-requires-2
-more-requires-2 c κs = search needs
-
-more-requires-3 : tie.Need-more-requires-3
-more-requires-3 c κs = search needs
-
 returns : tie.Need-returns
 returns c =
     let a = c .before .before .before .before .before .before .before .before .before .before .before .before .before .before .args in
@@ -57,17 +24,5 @@ returns c =
 
 pub flips-spec : {M : Type 1} → statement M
 flips-spec =
-    tie.close
-    (tie.spec
-    head-requires
-    tail-requires
-    head-requires-2
-    tail-requires-2
-    shared-requires
-    shared-requires-2
-    shared-requires-3
-    shared-requires-4
-    more-requires
-    more-requires-2
-    more-requires-3
-    returns)
+    tie.close (tie.spec (λ c κs. search needs) (λ c κs. search needs) (λ c κs. search needs) (λ c κs. search needs) (λ c κs. search needs)
+    (λ c κs. search needs) (λ c κs. search needs) (λ c κs. search needs) (λ c κs. search needs) (λ c κs. search needs) (λ c κs. search needs) returns)

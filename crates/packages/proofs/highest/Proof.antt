@@ -20,25 +20,18 @@ entries rs k s h = go (decLt k (length rs))
     go (no l) = omega (arith, List·getD-eq-default rs 0 {n = k} (omega arith))
 
 abbrev Inv-loop : tie.InvT-loop
-Inv-loop ratings first₀ most₀ i₀ first most i = record { turns : i ≤ length ratings; count : most ≤ getD ratings first 0 / 256; all : (k : ℕ) → k < i → getD ratings k 0 / 256 ≤ most; earlier : (k : ℕ) → k < first → getD ratings k 0 / 256 < most }
+Inv-loop ratings first₀ most₀ i₀ first most i = record {
+  turns : i ≤ length ratings;
+  count : most ≤ getD ratings first 0 / 256;
+  all : (k : ℕ) → k < i → getD ratings k 0 / 256 ≤ most;
+  earlier : (k : ℕ) → k < first → getD ratings k 0 / 256 < most;
+}
 
 abbrev μ-loop : tie.MeasureT-loop
 μ-loop ratings first₀ most₀ i₀ first most i = length ratings - i
 
 loop-holds : tie.Need-loop-holds Inv-loop μ-loop
 loop-holds c = record { turns = omega arith; count = omega arith; all = λ k h. absurd (omega arith); earlier = λ k h. absurd (omega arith) }
-
-mul-count : tie.Need-mul-count Inv-loop μ-loop
-mul-count c = search needs
-
-shared-slice-read-count : tie.Need-shared-slice-read-count Inv-loop μ-loop
-shared-slice-read-count c = search needs
-
-add-i : tie.Need-add-i Inv-loop μ-loop
-add-i c = search needs
-
-loop-less : tie.Need-loop-less Inv-loop μ-loop
-loop-less c = search needs
 
 loop-again : tie.Need-loop-again Inv-loop μ-loop
 loop-again c =
@@ -67,14 +60,4 @@ returns c =
 
 pub highest-spec : {M : Type 1} → statement M
 highest-spec =
-    tie.close
-    (tie.spec
-    Inv-loop
-    μ-loop
-    loop-holds
-    mul-count
-    shared-slice-read-count
-    add-i
-    loop-less
-    loop-again
-    returns)
+    tie.close (tie.spec Inv-loop μ-loop loop-holds (λ c. search needs) (λ c. search needs) (λ c. search needs) (λ c. search needs) loop-again returns)

@@ -16,12 +16,6 @@ Inv-loop xs₀ first second value k₀ xs k = (second ≤ k) × (k < length xs�
 abbrev μ-loop : tie.MeasureT-loop
 μ-loop xs₀ first second value k₀ xs k = length xs₀ - k
 
-mul-xs : tie.Need-mul-xs Inv-loop μ-loop
-mul-xs c = search needs
-
-slice-write-xs : tie.Need-slice-write-xs Inv-loop μ-loop
-slice-write-xs c = search needs
-
 loop-holds : tie.Need-loop-holds Inv-loop μ-loop
 loop-holds c =
     let a = c .args in
@@ -38,20 +32,8 @@ add-xs c = omega (arith, length-set (now (c .before .before .args .xs)) (c .befo
 mul-xs-2 : tie.Need-mul-xs-2 Inv-loop μ-loop
 mul-xs-2 c = omega (arith, length-set (now (c .before .before .args .xs)) (c .before .before .args .first) (c .before .before .args .value))
 
-slice-read-xs : tie.Need-slice-read-xs Inv-loop μ-loop
-slice-read-xs c = search needs
-
-mul-xs-3 : tie.Need-mul-xs-3 Inv-loop μ-loop
-mul-xs-3 c = search needs
-
-slice-write-xs-2 : tie.Need-slice-write-xs-2 Inv-loop μ-loop
-slice-write-xs-2 c = search needs
-
 add-k : tie.Need-add-k Inv-loop μ-loop
 add-k c = omega (arith, length-set (now (c .before .before .before .args .xs)) (c .before .before .before .args .first) (c .before .before .before .args .value))
-
-loop-less : tie.Need-loop-less Inv-loop μ-loop
-loop-less c = search needs
 
 loop-again : tie.Need-loop-again Inv-loop μ-loop
 loop-again c =
@@ -80,21 +62,5 @@ returns c =
 
 pub join-entry-spec : {M : Type 1} → statement M
 join-entry-spec =
-    tie.close
-    (tie.spec
-    Inv-loop
-    μ-loop
-    mul-xs
-    slice-write-xs
-    loop-holds
-    add-loop
-    add-xs
-    mul-xs-2
-    slice-read-xs
-    mul-xs-3
-    slice-write-xs-2
-    add-k
-    loop-less
-    loop-again
-    same-length
-    returns)
+    tie.close (tie.spec Inv-loop μ-loop (λ c. search needs) (λ c. search needs) loop-holds add-loop add-xs mul-xs-2 (λ c. search needs)
+    (λ c. search needs) (λ c. search needs) add-k (λ c. search needs) loop-again same-length returns)

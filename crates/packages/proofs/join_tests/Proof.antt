@@ -11,56 +11,8 @@ use Rattle.packages.proofs.Runs as runs
 use Rattle.packages.proofs.join_tests.Statement.{statement}
 use Rattle.packages.proofs.join_tests.Tie as tie
 
-sub-from : tie.Need-sub-from
-sub-from c = search needs
-
-ways-requires : tie.Need-ways-requires
-ways-requires c κs = search needs
-
-slice-relend-prefix-reverse-if : tie.Need-slice-relend-prefix-reverse-if
-slice-relend-prefix-reverse-if c = search needs
-
 slice-aggregate-reverse-if : tie.Need-slice-aggregate-reverse-if
 slice-aggregate-reverse-if c = sym (length-take-le (c .before .before .before .before .before .args .a) (now (c .before .before .before .before .before .args .part)) (omega arith))
-
-reverse-if-requires : tie.Need-reverse-if-requires
-reverse-if-requires c κs = search needs
-
-mul-reverse-if : tie.Need-mul-reverse-if
-mul-reverse-if c = search needs
-
-sub-reverse-if : tie.Need-sub-reverse-if
-sub-reverse-if c = search needs
-
-part-reverse-if-start : tie.Need-part-reverse-if-start
-part-reverse-if-start c = search needs
-
-part-reverse-if-end : tie.Need-part-reverse-if-end
-part-reverse-if-end c = search needs
-
-reverse-if-requires-2 : tie.Need-reverse-if-requires-2
-reverse-if-requires-2 c κs = search needs
-
-mul-exchange : tie.Need-mul-exchange
-mul-exchange c = search needs
-
-sub-exchange : tie.Need-sub-exchange
-sub-exchange c = search needs
-
-part-exchange-start : tie.Need-part-exchange-start
-part-exchange-start c = search needs
-
-part-exchange-end : tie.Need-part-exchange-end
-part-exchange-end c = search needs
-
-sub-exchange-2 : tie.Need-sub-exchange-2
-sub-exchange-2 c = search needs
-
-exchange-requires : tie.Need-exchange-requires
-exchange-requires c κs = search needs
-
-same-length : tie.Need-same-length
-same-length c = search needs
 
 returns : tie.Need-returns
 returns c =
@@ -83,23 +35,6 @@ returns c =
 
 pub join-tests-spec : {M : Type 1} → statement M
 join-tests-spec =
-    tie.close
-    (tie.spec
-    sub-from
-    ways-requires
-    slice-relend-prefix-reverse-if
-    slice-aggregate-reverse-if
-    reverse-if-requires
-    mul-reverse-if
-    sub-reverse-if
-    part-reverse-if-start
-    part-reverse-if-end
-    reverse-if-requires-2
-    mul-exchange
-    sub-exchange
-    part-exchange-start
-    part-exchange-end
-    sub-exchange-2
-    exchange-requires
-    same-length
-    returns)
+    tie.close (tie.spec (λ c. search needs) (λ c κs. search needs) (λ c. search needs) slice-aggregate-reverse-if (λ c κs. search needs)
+    (λ c. search needs) (λ c. search needs) (λ c. search needs) (λ c. search needs) (λ c κs. search needs) (λ c. search needs) (λ c. search needs)
+    (λ c. search needs) (λ c. search needs) (λ c. search needs) (λ c κs. search needs) (λ c. search needs) returns)

@@ -13,17 +13,10 @@ returns c = let a = c .before .before .args in sym (listed-many (a .tests) (now 
 returns-2 : tie.Need-returns-2
 returns-2 c = let a = c .before .before .before .args in sym (listed-short (a .tests) (now (a .order)) (omega arith) (omega arith))
 
-as-listed-requires : tie.Need-as-listed-requires
-as-listed-requires c κs = search needs
-
-same-length : tie.Need-same-length
-same-length c = search needs
-
 returns-3 : tie.Need-returns-3
 returns-3 c =
     let a = c .before .before .before .before .before .before .before .args in
     c .before .before .as-listed .ensures ∙ sym (listed-all (a .tests) (now (a .order)) (omega arith) (omega arith))
 
 pub listed-order-spec : {M : Type 1} → statement M
-listed-order-spec =
-    tie.close (tie.spec returns returns-2 as-listed-requires same-length returns-3)
+listed-order-spec = tie.close (tie.spec returns returns-2 (λ c κs. search needs) (λ c. search needs) returns-3)

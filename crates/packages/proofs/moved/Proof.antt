@@ -7,16 +7,10 @@ use borrow.Author.Tests.{eq-eqb, ne-eqb, lt-ltb, le-ltb}
 use Rattle.packages.proofs.moved.Statement.{statement}
 use Rattle.packages.proofs.moved.Tie as tie
 
-sub-result : tie.Need-sub-result
-sub-result c = search needs
-
 returns : tie.Need-returns
 returns c =
     let a = c .before .args in
     rw (eq-eqb (a .rating % 256) (a .second) (omega arith)) refl
-
-sub-result-2 : tie.Need-sub-result-2
-sub-result-2 c = search needs
 
 returns-2 : tie.Need-returns-2
 returns-2 c =
@@ -29,4 +23,4 @@ returns-3 c =
     rw (ne-eqb (a .rating % 256) (a .second) (λ e. omega arith), le-ltb (a .second) (a .rating % 256) (omega arith)) refl
 
 pub moved-spec : {M : Type 1} → statement M
-moved-spec = tie.close (tie.spec sub-result returns sub-result-2 returns-2 returns-3)
+moved-spec = tie.close (tie.spec (λ c. search needs) returns (λ c. search needs) returns-2 returns-3)

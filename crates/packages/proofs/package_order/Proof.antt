@@ -13,17 +13,10 @@ returns c = let a = c .before .before .before .args in sym (packages-many (a .pl
 returns-2 : tie.Need-returns-2
 returns-2 c = let a = c .before .before .before .before .args in sym (packages-short (a .places) (now (a .wants)) (now (a .order)) (omega arith) (omega arith))
 
-order-by-packages-requires : tie.Need-order-by-packages-requires
-order-by-packages-requires c κs = search needs
-
-same-length : tie.Need-same-length
-same-length c = search needs
-
 returns-3 : tie.Need-returns-3
 returns-3 c =
     let a = c .before .before .before .before .before .before .before .before .args in
     c .before .before .order-by-packages .ensures ∙ sym (packages-all (a .places) (now (a .wants)) (now (a .order)) (omega arith) (omega arith))
 
 pub package-order-spec : {M : Type 1} → statement M
-package-order-spec =
-    tie.close (tie.spec returns returns-2 order-by-packages-requires same-length returns-3)
+package-order-spec = tie.close (tie.spec returns returns-2 (λ c κs. search needs) (λ c. search needs) returns-3)

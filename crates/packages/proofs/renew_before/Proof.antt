@@ -10,7 +10,7 @@ use borrow.Author.Count.{below-more}
 use borrow.Author.Needs.{needs}
 use denote.Ref.{now}
 use Rattle.bitset.specs.Set.{_∪_, size}
-use Rattle.packages.specs.Ratings.{Rated}
+use Rattle.packages.specs.Contracts.{Rated}
 use Rattle.packages.proofs.renew_before.Statement.{statement}
 use Rattle.packages.proofs.renew_before.Tie as tie
 
@@ -30,27 +30,6 @@ abbrev μ-loop : tie.MeasureT-loop
 loop-holds : tie.Need-loop-holds Inv-loop μ-loop
 loop-holds c = record { turns = omega arith; long = refl; rest = λ k l. refl; done = λ cs n e k l. absurd (omega arith) }
 
-mul-renewed : tie.Need-mul-renewed Inv-loop μ-loop
-mul-renewed c = search needs
-
-slice-read-renewed : tie.Need-slice-read-renewed Inv-loop μ-loop
-slice-read-renewed c = search needs
-
-renewed-requires : tie.Need-renewed-requires Inv-loop μ-loop
-renewed-requires c κs = search needs
-
-mul-ratings : tie.Need-mul-ratings Inv-loop μ-loop
-mul-ratings c = search needs
-
-slice-write-ratings : tie.Need-slice-write-ratings Inv-loop μ-loop
-slice-write-ratings c = search needs
-
-add-row : tie.Need-add-row Inv-loop μ-loop
-add-row c = search needs
-
-loop-less : tie.Need-loop-less Inv-loop μ-loop
-loop-less c = search needs
-
 loop-again : tie.Need-loop-again Inv-loop μ-loop
 loop-again c =
     let q = c .before .before .before in
@@ -66,7 +45,8 @@ loop-again c =
       done = λ cs n e.
           below-more _ i
           (λ k h w. subst (Rated (λ u. leb (size u) (a .bound)) (now (a .curves)) k) (sym (getD-set-other rs i k _ 0 (λ d. omega arith))) (v .done cs n e k h w))
-          (λ w. subst (Rated (λ u. leb (size u) (a .bound)) (now (a .curves)) i) (sym (getD-set-same rs i _ 0 long)) (c .renewed .ensures cs n e (subst (Rated (λ u. leb (size u) (a .bound)) cs i) (sym (v .rest i (omega arith))) w)));
+          (λ w. subst (Rated (λ u. leb (size u) (a .bound)) (now (a .curves)) i) (sym (getD-set-same rs i _ 0 long))
+          (c .renewed .ensures cs n e (subst (Rated (λ u. leb (size u) (a .bound)) cs i) (sym (v .rest i (omega arith))) w)));
     }
 
 same-length : tie.Need-same-length Inv-loop μ-loop
@@ -77,18 +57,5 @@ returns c = (λ cs n e k l w. c .before .loop .inv .done cs n e k (omega arith) 
 
 pub renew-before-spec : {M : Type 1} → statement M
 renew-before-spec =
-    tie.close
-    (tie.spec
-    Inv-loop
-    μ-loop
-    loop-holds
-    mul-renewed
-    slice-read-renewed
-    renewed-requires
-    mul-ratings
-    slice-write-ratings
-    add-row
-    loop-less
-    loop-again
-    same-length
-    returns)
+    tie.close (tie.spec Inv-loop μ-loop loop-holds (λ c. search needs) (λ c. search needs) (λ c κs. search needs) (λ c. search needs)
+    (λ c. search needs) (λ c. search needs) (λ c. search needs) loop-again same-length returns)

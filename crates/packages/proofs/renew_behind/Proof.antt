@@ -8,7 +8,7 @@ use lib.Seq.{getD-set-same, getD-set-other}
 use lib.ListN.{length, getD, set, length-set}
 use borrow.Author.Needs.{needs}
 use denote.Ref.{now}
-use Rattle.packages.proofs.Renew.{movedUp}
+use Rattle.packages.specs.Contracts.{movedUp}
 use Rattle.packages.proofs.renew_behind.Statement.{statement}
 use Rattle.packages.proofs.renew_behind.Tie as tie
 
@@ -24,9 +24,6 @@ Inv-loop ratings₀ first second row₀ ratings row = record {
 abbrev μ-loop : tie.MeasureT-loop
 μ-loop ratings₀ first second row₀ ratings row = length ratings₀ - row
 
-add-row : tie.Need-add-row Inv-loop μ-loop
-add-row c = search needs
-
 -- one rating more
 turned : (rs old : List ℕ) (i k second r : ℕ) → i < length rs → r ≡ movedUp second (getD old i 0) → Dec (k ≡ i) → ((k ≡ i → ⊥) → getD rs k 0 ≡ movedUp second (getD old k 0))
     → getD (set rs i r) k 0 ≡ movedUp second (getD old k 0)
@@ -35,27 +32,6 @@ turned rs old i k second r l e (no d) h = getD-set-other rs i k r 0 d ∙ h d
 
 loop-holds : tie.Need-loop-holds Inv-loop μ-loop
 loop-holds c = record { turns = omega arith; long = refl; done = λ k a b. absurd (omega arith); rest = λ k l. refl; before = λ k l. refl }
-
-mul-moved : tie.Need-mul-moved Inv-loop μ-loop
-mul-moved c = search needs
-
-slice-read-moved : tie.Need-slice-read-moved Inv-loop μ-loop
-slice-read-moved c = search needs
-
-moved-requires : tie.Need-moved-requires Inv-loop μ-loop
-moved-requires c κs = search needs
-
-mul-ratings : tie.Need-mul-ratings Inv-loop μ-loop
-mul-ratings c = search needs
-
-slice-write-ratings : tie.Need-slice-write-ratings Inv-loop μ-loop
-slice-write-ratings c = search needs
-
-add-row-2 : tie.Need-add-row-2 Inv-loop μ-loop
-add-row-2 c = search needs
-
-loop-less : tie.Need-loop-less Inv-loop μ-loop
-loop-less c = search needs
 
 loop-again : tie.Need-loop-again Inv-loop μ-loop
 loop-again c =
@@ -81,19 +57,5 @@ returns c = (λ k l m. c .before .loop .inv .done k l (omega (arith, c .before .
 
 pub renew-behind-spec : {M : Type 1} → statement M
 renew-behind-spec =
-    tie.close
-    (tie.spec
-    Inv-loop
-    μ-loop
-    add-row
-    loop-holds
-    mul-moved
-    slice-read-moved
-    moved-requires
-    mul-ratings
-    slice-write-ratings
-    add-row-2
-    loop-less
-    loop-again
-    same-length
-    returns)
+    tie.close (tie.spec Inv-loop μ-loop (λ c. search needs) loop-holds (λ c. search needs) (λ c. search needs) (λ c κs. search needs)
+    (λ c. search needs) (λ c. search needs) (λ c. search needs) (λ c. search needs) loop-again same-length returns)

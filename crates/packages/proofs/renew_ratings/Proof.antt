@@ -12,21 +12,6 @@ use borrow.Author.Needs.{needs}
 use Rattle.packages.proofs.renew_ratings.Statement.{statement}
 use Rattle.packages.proofs.renew_ratings.Tie as tie
 
-best-partner-requires : tie.Need-best-partner-requires
-best-partner-requires c κs = search needs
-
-join-entry-requires : tie.Need-join-entry-requires
-join-entry-requires c κs = search needs
-
-renew-before-requires : tie.Need-renew-before-requires
-renew-before-requires c κs = search needs
-
-renew-behind-requires : tie.Need-renew-behind-requires
-renew-behind-requires c κs = search needs
-
-same-length : tie.Need-same-length
-same-length c = search needs
-
 returns : tie.Need-returns
 returns c =
     let s = c .before .before .before .before .before .before .before .before .before .before .before .before .before .before .before in
@@ -38,17 +23,11 @@ returns c =
     let front = c .before .before .before .before .before .before .renew-before in
     let back = c .before .before .renew-behind in
     λ cs n e w.
-    renew.all-rated fits cs ds (now (a .ratings)) (moved .last .0) (front .last .1 .1 .0) (back .last .0) (a .first) (a .second) (own .result) (s .pre .0) n (s .pre .1) e (s .pre .2) (front .kept .1 .1 .0 ∙ moved .kept .0)
+    renew.all-rated fits cs ds (now (a .ratings)) (moved .last .0) (front .last .1 .1 .0) (back .last .0) (a .first) (a .second) (own .result)
+    (s .pre .0) n (s .pre .1) e (s .pre .2) (front .kept .1 .1 .0 ∙ moved .kept .0)
     (moved .ensures) (renew.row-rated fits ds (a .first) (own .result) (omega (arith, s .pre)) (own .ensures .0) (own .ensures .1 ∙ rows.score-as ds (a .first) _))
     (front .ensures .0 cs n e) (front .ensures .1) (back .ensures .0) (back .ensures .1) w
 
 pub renew-ratings-spec : {M : Type 1} → statement M
 renew-ratings-spec =
-    tie.close
-    (tie.spec
-    best-partner-requires
-    join-entry-requires
-    renew-before-requires
-    renew-behind-requires
-    same-length
-    returns)
+    tie.close (tie.spec (λ c κs. search needs) (λ c κs. search needs) (λ c κs. search needs) (λ c κs. search needs) (λ c. search needs) returns)

@@ -21,41 +21,11 @@ loop-holds c =
     let e : length (now (c .args .xs)) ≡ length (now (c .args .xs)) - 0 = omega arith in
     record { turns = omega arith; within = omega arith; long = refl; rest = rw (← e) (lists.middle-start (now (c .args .xs))) }
 
-add-loop : tie.Need-add-loop Inv-loop μ-loop
-add-loop c = search needs
-
-sub-j : tie.Need-sub-j Inv-loop μ-loop
-sub-j c = search needs
-
-mul-x : tie.Need-mul-x Inv-loop μ-loop
-mul-x c = search needs
-
 slice-read-x : tie.Need-slice-read-x Inv-loop μ-loop
 slice-read-x c = omega (arith, c .before .before .loop .inv .long)
 
-mul-xs : tie.Need-mul-xs Inv-loop μ-loop
-mul-xs c = search needs
-
-slice-read-xs : tie.Need-slice-read-xs Inv-loop μ-loop
-slice-read-xs c = search needs
-
-mul-xs-2 : tie.Need-mul-xs-2 Inv-loop μ-loop
-mul-xs-2 c = search needs
-
-slice-write-xs : tie.Need-slice-write-xs Inv-loop μ-loop
-slice-write-xs c = search needs
-
-mul-xs-3 : tie.Need-mul-xs-3 Inv-loop μ-loop
-mul-xs-3 c = search needs
-
 slice-write-xs-2 : tie.Need-slice-write-xs-2 Inv-loop μ-loop
 slice-write-xs-2 c = simp length-set (omega (arith, c .before .before .before .loop .inv .long))
-
-add-i : tie.Need-add-i Inv-loop μ-loop
-add-i c = search needs
-
-loop-less : tie.Need-loop-less Inv-loop μ-loop
-loop-less c = search needs
 
 loop-again : tie.Need-loop-again Inv-loop μ-loop
 loop-again c =
@@ -78,23 +48,6 @@ returns c = lists.middle-end (c .before .loop .xs) _ (c .before .loop .i) (c .be
 
 pub reverse-spec : {M : Type 1} → statement M
 reverse-spec =
-    tie.close
-    (tie.spec
-    Inv-loop
-    μ-loop
-    loop-holds
-    add-loop
-    sub-j
-    mul-x
-    slice-read-x
-    mul-xs
-    slice-read-xs
-    mul-xs-2
-    slice-write-xs
-    mul-xs-3
-    slice-write-xs-2
-    add-i
-    loop-less
-    loop-again
-    same-length
-    returns)
+    tie.close (tie.spec Inv-loop μ-loop loop-holds (λ c. search needs) (λ c. search needs) (λ c. search needs) slice-read-x (λ c. search needs)
+    (λ c. search needs) (λ c. search needs) (λ c. search needs) (λ c. search needs) slice-write-xs-2 (λ c. search needs) (λ c. search needs)
+    loop-again same-length returns)

@@ -22,26 +22,8 @@ abbrev μ-loop : tie.MeasureT-loop
 loop-holds : tie.Need-loop-holds Inv-loop μ-loop
 loop-holds c = (omega arith, rw (take-length (now (c .before .before .args .tests))) refl)
 
-sub-entry : tie.Need-sub-entry Inv-loop μ-loop
-sub-entry c = search needs
-
-mul-entry : tie.Need-mul-entry Inv-loop μ-loop
-mul-entry c = search needs
-
-shared-slice-read-entry : tie.Need-shared-slice-read-entry Inv-loop μ-loop
-shared-slice-read-entry c = search needs
-
 cast-entry : tie.Need-cast-entry Inv-loop μ-loop
 cast-entry c = omega (arith, c .shared-slice-known3 .given (c .before .before .loop .k - 1))
-
-entry-requires : tie.Need-entry-requires Inv-loop μ-loop
-entry-requires c κs = search needs
-
-union-requires : tie.Need-union-requires Inv-loop μ-loop
-union-requires c κs = search needs
-
-size-requires : tie.Need-size-requires Inv-loop μ-loop
-size-requires c κs = search needs
 
 returns : tie.Need-returns Inv-loop μ-loop
 returns c =
@@ -54,12 +36,6 @@ returns c =
     let next : reverse (take (k .loop .k) ts) ≡ getD ts i 0 ∷ reverse (take i ts) = ap (λ (n : ℕ). reverse (take n ts)) e ∙ runs.reverse-take ts i h in
     sym (k .loop .inv .1 ∙ runs.run-stop (now (a .wants)) (a .places) (k .loop .run) _ _ (getD ts i 0) _ (reverse (take i ts)) next
     (c .before .before .before .entry .ensures) (c .before .before .union .ensures) (omega (arith, c .before .size .ensures, c .if1 .taken)))
-
-sub-k : tie.Need-sub-k Inv-loop μ-loop
-sub-k c = search needs
-
-loop-less : tie.Need-loop-less Inv-loop μ-loop
-loop-less c = search needs
 
 loop-again : tie.Need-loop-again Inv-loop μ-loop
 loop-again c =
@@ -84,20 +60,5 @@ returns-2 c =
 
 pub tail-spec : {M : Type 1} → statement M
 tail-spec =
-    tie.close
-    (tie.spec
-    Inv-loop
-    μ-loop
-    loop-holds
-    sub-entry
-    mul-entry
-    shared-slice-read-entry
-    cast-entry
-    entry-requires
-    union-requires
-    size-requires
-    returns
-    sub-k
-    loop-less
-    loop-again
-    returns-2)
+    tie.close (tie.spec Inv-loop μ-loop loop-holds (λ c. search needs) (λ c. search needs) (λ c. search needs) cast-entry (λ c κs. search needs)
+    (λ c κs. search needs) (λ c κs. search needs) returns (λ c. search needs) (λ c. search needs) loop-again returns-2)

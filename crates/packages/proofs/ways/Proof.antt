@@ -12,21 +12,6 @@ use Rattle.packages.proofs.ways.Tie as tie
 slice-aggregate-flips : tie.Need-slice-aggregate-flips
 slice-aggregate-flips c = sym (length-take-le (c .before .before .before .before .args .a) (now (c .before .before .before .before .args .part)) (c .before .before .before .before .pre .0))
 
-mul-flips : tie.Need-mul-flips
-mul-flips c = search needs
-
-sub-flips : tie.Need-sub-flips
-sub-flips c = search needs
-
-part-flips-start : tie.Need-part-flips-start
-part-flips-start c = search needs
-
-part-flips-end : tie.Need-part-flips-end
-part-flips-end c = search needs
-
-flips-requires : tie.Need-flips-requires
-flips-requires c κs = search needs
-
 returns : tie.Need-returns
 returns c =
     let k = c .before .before .before .before .before .before in
@@ -40,13 +25,5 @@ returns-2 c = rw (c .if1 .left) refl
 
 pub ways-spec : {M : Type 1} → statement M
 ways-spec =
-    tie.close
-    (tie.spec
-    slice-aggregate-flips
-    mul-flips
-    sub-flips
-    part-flips-start
-    part-flips-end
-    flips-requires
-    returns
-    returns-2)
+    tie.close (tie.spec slice-aggregate-flips (λ c. search needs) (λ c. search needs) (λ c. search needs) (λ c. search needs) (λ c κs. search needs)
+    returns returns-2)

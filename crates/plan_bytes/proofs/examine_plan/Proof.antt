@@ -7,15 +7,6 @@ use Rattle.plan_bytes.proofs.Steps.{counts-refused, counts-passed, coun
 use Rattle.plan_bytes.proofs.examine_plan.Statement.{statement}
 use Rattle.plan_bytes.proofs.examine_plan.Tie as tie
 
-examine-counts-requires : tie.Need-examine-counts-requires
-examine-counts-requires c κs = search needs
-
-enum-known-r : tie.Need-enum-known-r
-enum-known-r c = search needs
-
-enum-told : tie.Need-enum-told
-enum-told c = search needs
-
 examine-steps-requires : tie.Need-examine-steps-requires
 examine-steps-requires c κs = counts-bounds _ _ (examined-passed _ _ (c .enum-told .given .1) (c .before .before .examine-counts .ensures)) .0
 
@@ -28,12 +19,4 @@ returns-2 c =
     c .examine-steps .ensures ∙ ap (mapped (λ _. tt)) (sym (counts-passed _ _ _ (examined-passed _ _ (c .before .enum-told .given .1) (c .before .before .before .examine-counts .ensures))))
 
 pub examine-plan-spec : {M : Type 1} → statement M
-examine-plan-spec =
-    tie.close
-    (tie.spec
-    examine-counts-requires
-    enum-known-r
-    enum-told
-    examine-steps-requires
-    returns
-    returns-2)
+examine-plan-spec = tie.close (tie.spec (λ c κs. search needs) (λ c. search needs) (λ c. search needs) examine-steps-requires returns returns-2)

@@ -35,12 +35,6 @@ loop-holds c =
       },
     )
 
-read-step-requires : tie.Need-read-step-requires Inv-loop μ-loop
-read-step-requires c κs = search needs
-
-enum-told : tie.Need-enum-told Inv-loop μ-loop
-enum-told c = search needs
-
 same-length : tie.Need-same-length Inv-loop μ-loop
 same-length c = c .before .before .before .before .loop .inv .1 .tests .long
 
@@ -57,32 +51,14 @@ returns c =
     let a = s .args in
     absurd (no-fault _ _ (s .pre .1) (step-faulty (a .curves) (a .tests) (now (a .plan)) (l .k) (l .at) (l .inv .0) (l .inv .1 .behind) (c .before .before .before .loop-test .taken) _ (c .before .before .read-step .ensures) _ (c .enum-told .given .1)))
 
-enum-known-test : tie.Need-enum-known-test Inv-loop μ-loop
-enum-known-test c = search needs
-
-mul-order : tie.Need-mul-order Inv-loop μ-loop
-mul-order c = search needs
-
 slice-write-order : tie.Need-slice-write-order Inv-loop μ-loop
 slice-write-order c = let l = c .before .before .before .before .before .loop .inv .1 .tests .long in let p = c .before .before .before .before .before .before .before .before .before .before .pre in omega arith
-
-mul-drops : tie.Need-mul-drops Inv-loop μ-loop
-mul-drops c = search needs
 
 slice-write-drops : tie.Need-slice-write-drops Inv-loop μ-loop
 slice-write-drops c = let l = c .before .before .before .before .before .loop .inv .1 .drops .long in let p = c .before .before .before .before .before .before .before .before .before .before .pre in omega arith
 
-mul-loads : tie.Need-mul-loads Inv-loop μ-loop
-mul-loads c = search needs
-
 slice-write-loads : tie.Need-slice-write-loads Inv-loop μ-loop
 slice-write-loads c = let l = c .before .before .before .before .before .loop .inv .1 .loads .long in let p = c .before .before .before .before .before .before .before .before .before .before .pre in omega arith
-
-add-k : tie.Need-add-k Inv-loop μ-loop
-add-k c = search needs
-
-loop-less : tie.Need-loop-less Inv-loop μ-loop
-loop-less c = search needs
 
 loop-again : tie.Need-loop-again Inv-loop μ-loop
 loop-again c =
@@ -121,28 +97,6 @@ returns-2 c =
 
 pub fill-lists-spec : {M : Type 1} → statement M
 fill-lists-spec =
-    tie.close
-    (tie.spec
-    Inv-loop
-    μ-loop
-    loop-holds
-    read-step-requires
-    enum-told
-    same-length
-    same-length-2
-    same-length-3
-    returns
-    enum-known-test
-    mul-order
-    slice-write-order
-    mul-drops
-    slice-write-drops
-    mul-loads
-    slice-write-loads
-    add-k
-    loop-less
-    loop-again
-    same-length-4
-    same-length-5
-    same-length-6
-    returns-2)
+    tie.close (tie.spec Inv-loop μ-loop loop-holds (λ c κs. search needs) (λ c. search needs) same-length same-length-2 same-length-3 returns
+    (λ c. search needs) (λ c. search needs) slice-write-order (λ c. search needs) slice-write-drops (λ c. search needs) slice-write-loads
+    (λ c. search needs) (λ c. search needs) loop-again same-length-4 same-length-5 same-length-6 returns-2)

@@ -23,21 +23,12 @@ abbrev μ-loop : tie.MeasureT-loop
 loop-holds : tie.Need-loop-holds Inv-loop μ-loop
 loop-holds c = let a = c .before .args in ([], record { behind = begin (a .curves) (a .tests) (now (a .plan)); inside = omega arith; part = part-none (a .curves) (a .tests) (now (a .plan)) (a .position) })
 
-read-step-requires : tie.Need-read-step-requires Inv-loop μ-loop
-read-step-requires c κs = search needs
-
-enum-told : tie.Need-enum-told Inv-loop μ-loop
-enum-told c = search needs
-
 returns : tie.Need-returns Inv-loop μ-loop
 returns c =
     let l = c .before .before .before .before .loop in
     let a = c .before .before .before .before .before .before .args in
     let e = step-faulty (a .curves) (a .tests) (now (a .plan)) (l .i) (l .at) (l .inv .0) (l .inv .1 .behind) (c .before .before .before .loop-test .taken) _ (c .before .before .read-step .ensures) _ (c .enum-told .given .1) in
     (part-refused (a .curves) (a .tests) (now (a .plan)) (a .position) _ _ _ e, omega arith)
-
-enum-known-next : tie.Need-enum-known-next Inv-loop μ-loop
-enum-known-next c = search needs
 
 -- the step that was read goes on in the bytes, and ends within them
 onward : (c : tie.After-known-told Inv-loop μ-loop) →
@@ -49,12 +40,6 @@ onward c =
 
 sub-count : tie.Need-sub-count Inv-loop μ-loop
 sub-count c = omega (arith, onward (c .before) .0)
-
-add-i : tie.Need-add-i Inv-loop μ-loop
-add-i c = search needs
-
-loop-less : tie.Need-loop-less Inv-loop μ-loop
-loop-less c = search needs
 
 loop-again : tie.Need-loop-again Inv-loop μ-loop
 loop-again c =
@@ -88,18 +73,5 @@ returns-3 c =
 
 pub find-step-spec : {M : Type 1} → statement M
 find-step-spec =
-    tie.close
-    (tie.spec
-    Inv-loop
-    μ-loop
-    loop-holds
-    read-step-requires
-    enum-told
-    returns
-    enum-known-next
-    sub-count
-    add-i
-    loop-less
-    loop-again
-    returns-2
-    returns-3)
+    tie.close (tie.spec Inv-loop μ-loop loop-holds (λ c κs. search needs) (λ c. search needs) returns (λ c. search needs) sub-count
+    (λ c. search needs) (λ c. search needs) loop-again returns-2 returns-3)

@@ -9,7 +9,7 @@ use Rattle.job.specs.Refusal.{done}
 use Rattle.job_bytes.specs.SetBytes.{got}
 use Rattle.plan_bytes.specs.PlanBytes.{readSet}
 use denote.Ref.{now}
-use Rattle.plan_bytes.specs.Answers.{stepOutcome}
+use Rattle.plan_bytes.specs.Contracts.{stepOutcome}
 use Rattle.plan_bytes.proofs.Reading.{set-answered, set-refused, step-cut, step-low, step-high, drops-faulty, loads-faulty, test-cut, test-unknown, step-whole}
 use Rattle.plan_bytes.proofs.read_step.Statement.{statement}
 use Rattle.plan_bytes.proofs.read_step.Tie as tie
@@ -36,9 +36,6 @@ returns : tie.Need-returns
 unfolding stepOutcome
 returns c = let a = c .before .before .args in sym (step-cut (a .curves) (a .tests) (a .at) (now (a .plan)) (c .if1 .taken))
 
-shared-slice-read-fields : tie.Need-shared-slice-read-fields
-shared-slice-read-fields c = search needs
-
 returns-2 : tie.Need-returns-2
 unfolding stepOutcome
 returns-2 c = let a = c .before .before .before .before .args in sym (step-low (a .curves) (a .tests) (a .at) (now (a .plan)) (omega arith) (c .if2 .taken))
@@ -46,27 +43,6 @@ returns-2 c = let a = c .before .before .before .before .args in sym (step-low (
 returns-3 : tie.Need-returns-3
 unfolding stepOutcome
 returns-3 c = let a = c .before .before .before .before .before .args in sym (step-high (a .curves) (a .tests) (a .at) (now (a .plan)) (omega arith) (omega arith) (c .if3 .taken))
-
-add-read-set : tie.Need-add-read-set
-add-read-set c = search needs
-
-read-set-requires : tie.Need-read-set-requires
-read-set-requires c κs = search needs
-
-enum-known-i : tie.Need-enum-known-i
-enum-known-i c = search needs
-
-enum-known-drops : tie.Need-enum-known-drops
-enum-known-drops c = search needs
-
-read-set-requires-2 : tie.Need-read-set-requires-2
-read-set-requires-2 c κs = search needs
-
-enum-known-i-2 : tie.Need-enum-known-i-2
-enum-known-i-2 c = search needs
-
-enum-known-loads : tie.Need-enum-known-loads
-enum-known-loads c = search needs
 
 returns-4 : tie.Need-returns-4
 unfolding stepOutcome
@@ -76,9 +52,6 @@ returns-4 c =
     let a = d .before .before .before .before .before .before .before .before .args in
     sym (test-cut (a .curves) (a .tests) (a .at) (now (a .plan)) (omega arith) (omega arith) (omega arith) (d .drops .given .0 .0) (d .drops .given .0 .1 .0) (drops-read d)
     (l .loads .given .0 .0) (l .loads .given .0 .1 .0) (loads-read l) (c .if4 .taken))
-
-shared-slice-read-test : tie.Need-shared-slice-read-test
-shared-slice-read-test c = search needs
 
 cast-if5 : tie.Need-cast-if5
 cast-if5 c = omega (arith, c .shared-slice-known3 .given (c .before .before .before .loads .given .0 .1 .0))
@@ -94,9 +67,6 @@ returns-5 c =
 
 cast-t27 : tie.Need-cast-t27
 cast-t27 c = omega (arith, c .before .shared-slice-known3 .given (c .before .before .before .before .loads .given .0 .1 .0))
-
-add-t23 : tie.Need-add-t23
-add-t23 c = search needs
 
 returns-6 : tie.Need-returns-6
 unfolding stepOutcome
@@ -123,25 +93,6 @@ returns-8 c =
 
 pub read-step-spec : {M : Type 1} → statement M
 read-step-spec =
-    tie.close
-    (tie.spec
-    returns
-    shared-slice-read-fields
-    returns-2
-    returns-3
-    add-read-set
-    read-set-requires
-    enum-known-i
-    enum-known-drops
-    read-set-requires-2
-    enum-known-i-2
-    enum-known-loads
-    returns-4
-    shared-slice-read-test
-    cast-if5
-    returns-5
-    cast-t27
-    add-t23
-    returns-6
-    returns-7
-    returns-8)
+    tie.close (tie.spec returns (λ c. search needs) returns-2 returns-3 (λ c. search needs) (λ c κs. search needs) (λ c. search needs)
+    (λ c. search needs) (λ c κs. search needs) (λ c. search needs) (λ c. search needs) returns-4 (λ c. search needs) cast-if5 returns-5 cast-t27
+    (λ c. search needs) returns-6 returns-7 returns-8)

@@ -16,9 +16,6 @@ with-drops c =
     let d = c .before .args .drops in
     ⊎-elim (λ w. omega (arith, w .1, stands-some d (w .0 .taken))) (λ w. omega (arith, w .1, stands-none d (w .0 .left))) (c .if1 .came)
 
-add-fields : tie.Need-add-fields
-add-fields c = search needs
-
 add-fields-2 : tie.Need-add-fields-2
 add-fields-2 c = omega (arith, with-drops (c .before .before), stands-le (c .before .before .before .args .drops))
 
@@ -29,4 +26,4 @@ returns-2 : tie.Need-returns-2
 returns-2 c = omega (arith, with-drops (c .before), stands-none (c .before .before .args .loads) (c .if2 .left))
 
 pub step-map-spec : {M : Type 1} → statement M
-step-map-spec = tie.close (tie.spec add-fields add-fields-2 returns returns-2)
+step-map-spec = tie.close (tie.spec (λ c. search needs) add-fields-2 returns returns-2)

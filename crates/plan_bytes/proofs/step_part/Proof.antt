@@ -9,15 +9,6 @@ use borrow.Author.Needs.{needs}
 use Rattle.plan_bytes.proofs.step_part.Statement.{statement}
 use Rattle.plan_bytes.proofs.step_part.Tie as tie
 
-examine-counts-requires : tie.Need-examine-counts-requires
-examine-counts-requires c κs = search needs
-
-enum-told : tie.Need-enum-told
-enum-told c = search needs
-
-enum-told-2 : tie.Need-enum-told-2
-enum-told-2 c = search needs
-
 find-step-requires : tie.Need-find-step-requires
 find-step-requires c κs = counts-bounds _ _ (examined-passed _ _ (c .enum-told2 .given .1) (c .before .before .examine-counts .ensures)) .0
 
@@ -33,6 +24,4 @@ returns-2 c =
     (f .0 ∙ part-counted (a .curves) (a .tests) (now (a .plan)) (a .position) (examined-passed _ _ (c .before .enum-told2 .given .1) (c .before .before .before .examine-counts .ensures)), f .1)
 
 pub step-part-spec : {M : Type 1} → statement M
-step-part-spec =
-    tie.close
-    (tie.spec examine-counts-requires enum-told enum-told-2 find-step-requires returns returns-2)
+step-part-spec = tie.close (tie.spec (λ c κs. search needs) (λ c. search needs) (λ c. search needs) find-step-requires returns returns-2)

@@ -7,33 +7,6 @@ use borrow.Author.Needs.{needs}
 use Rattle.plan_examples.proofs.missing_test.Statement.{statement}
 use Rattle.plan_examples.proofs.missing_test.Tie as tie
 
-slice-aggregate-plan : tie.Need-slice-aggregate-plan
-slice-aggregate-plan c = search needs
-
-slice-aggregate-plan-2 : tie.Need-slice-aggregate-plan-2
-slice-aggregate-plan-2 c = search needs
-
-slice-aggregate-plan-3 : tie.Need-slice-aggregate-plan-3
-slice-aggregate-plan-3 c = search needs
-
-slice-aggregate-plan-4 : tie.Need-slice-aggregate-plan-4
-slice-aggregate-plan-4 c = search needs
-
-plan-requires : tie.Need-plan-requires
-plan-requires c κs = search needs
-
-enum-told : tie.Need-enum-told
-enum-told c = search needs
-
-enum-known-r : tie.Need-enum-known-r
-enum-known-r c = search needs
-
-number-of-requires : tie.Need-number-of-requires
-number-of-requires c κs = search needs
-
-figure-of-requires : tie.Need-figure-of-requires
-figure-of-requires c κs = search needs
-
 returns : tie.Need-returns
 unfolding rules
 returns c = not-counted _ _ (c .before .before .before .before .plan .ensures .0) _ 8 2 (c .enum-told .given .1) refl
@@ -48,17 +21,5 @@ returns-3 c = eq-eqb _ 8 (c .before .number-of .ensures ∙ number-is _ _ (c .be
 
 pub missing-test-spec : {M : Type 1} → statement M
 missing-test-spec =
-    tie.close
-    (tie.spec
-    slice-aggregate-plan
-    slice-aggregate-plan-2
-    slice-aggregate-plan-3
-    slice-aggregate-plan-4
-    plan-requires
-    enum-told
-    enum-known-r
-    number-of-requires
-    figure-of-requires
-    returns
-    returns-2
-    returns-3)
+    tie.close (tie.spec (λ c. search needs) (λ c. search needs) (λ c. search needs) (λ c. search needs) (λ c κs. search needs) (λ c. search needs)
+    (λ c. search needs) (λ c κs. search needs) (λ c κs. search needs) returns returns-2 returns-3)

@@ -23,23 +23,8 @@ few-curves c = rw (c .size .ensures) (size-le 64 _ (c .before .shared-slice-know
 loop-holds : tie.Need-loop-holds Inv-loop μ-loop
 loop-holds c = record { turns = search needs; few = search needs; counts = omega arith }
 
-mul-size : tie.Need-mul-size Inv-loop μ-loop
-mul-size c = search needs
-
-shared-slice-read-size : tie.Need-shared-slice-read-size Inv-loop μ-loop
-shared-slice-read-size c = search needs
-
-size-requires : tie.Need-size-requires Inv-loop μ-loop
-size-requires c κs = tt
-
 add-count : tie.Need-add-count Inv-loop μ-loop
 add-count c = omega (arith, few-curves c)
-
-add-i : tie.Need-add-i Inv-loop μ-loop
-add-i c = search needs
-
-loop-less : tie.Need-loop-less Inv-loop μ-loop
-loop-less c = search needs
 
 loop-again : tie.Need-loop-again Inv-loop μ-loop
 loop-again c =
@@ -57,16 +42,5 @@ returns c =
 
 pub count-curves-spec : {M : Type 1} → statement M
 count-curves-spec =
-    tie.close
-    (tie.spec
-    Inv-loop
-    μ-loop
-    loop-holds
-    mul-size
-    shared-slice-read-size
-    size-requires
-    add-count
-    add-i
-    loop-less
-    loop-again
-    returns)
+    tie.close (tie.spec Inv-loop μ-loop loop-holds (λ c. search needs) (λ c. search needs) (λ c κs. tt) add-count (λ c. search needs)
+    (λ c. search needs) loop-again returns)

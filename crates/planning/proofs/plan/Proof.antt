@@ -5,200 +5,90 @@ use native.Mathlib.Omega.{arith}
 use lib.ListN.{length, take}
 use lib.Seq.{length-take-le}
 use denote.Ref.{now}
-use Rattle.job.specs.Refusal.{done, countOutcome, number, figure}
-use Rattle.job.specs.Handed.{jobKnown, wantsFit}
+use Rattle.job.specs.Refusal.{done, countOutcome}
+use Rattle.job.specs.Words.{jobOf}
+use Rattle.job.specs.Calls.{planningKnown}
 use Rattle.job.proofs.Examination.{examined-refused, examined-passed}
-use Rattle.planning.specs.Order.{orderKnown}
-use Rattle.planning.specs.Plan.{inOrder}
-use Rattle.planning.proofs.Sequence.{job-of, first-steps}
-use Rattle.planning.proofs.Planned.{refused-contract, steps-contract, plan-job, plan-order, plan-sizes, plan-drops, plan-loads}
+use Rattle.planning.specs.Plan.{planOf, inOrder}
+use Rattle.planning.proofs.Sequence.{known-exact, planning-parts, first-steps, plan-refused, plan-short}
+use Rattle.planning.proofs.Planned.{refused-contract, steps-contract}
 use borrow.Author.Needs.{needs}
 use Rattle.planning.proofs.plan.Statement.{statement}
 use Rattle.planning.proofs.plan.Tie as tie
 
--- behind each examination
-job-passed : (c : tie.After-enum-told)
-    → let a = c .before .before .before .before .before .before .before .args in
-    jobKnown (a .places) (a .curves) (now (a .wants)) ≡ done tt
-job-passed c = examined-passed _ _ (c .enum-told .given .1) (c .before .before .examine .ensures)
+-- behind the examination
+passed : (c : tie.After-enum-told) → let a = c .before .before .before .before .before .before .before .args in planningKnown (jobOf (a .rig) (now (a .wants))) (now (a .order)) ≡ done tt
+passed c = examined-passed _ _ (c .enum-told .given .1) (c .before .before .examine-planning .ensures)
 
-order-passed : (c : tie.After-enum-told2)
-    → let a = c .before .before .before .before .before .before .before .before .before .before .args in
-    orderKnown (length (now (a .wants))) (now (a .order)) ≡ done tt
-order-passed c = examined-passed _ _ (c .enum-told2 .given .1) (c .before .before .examine-order .ensures)
-
-sizes-passed : (c : tie.After-enum-told3)
-    → let a = c .before .before .before .before .before .before .before .before .before .before .before .before .before .args in
-    wantsFit (a .places) (now (a .wants)) ≡ done tt
-sizes-passed c = examined-passed _ _ (c .enum-told3 .given .1) (c .before .before .examine-sizes .ensures)
+few : (c : tie.After-enum-told) → length (now (c .before .before .before .before .before .before .before .args .wants)) ≤ 256
+few c = known-exact _ _ (planning-parts _ _ (passed c) .0) .0 .tests-bounds .1
 
 -- the local list has an entry for each test
-enough : (c : tie.After-steps2)
-    → let a = c .before .before .before .before .before .before .before .before .before .before .before .before .before .before .before .before .before .before .args in
-    length (now (a .wants)) ≤ length (c .before .in-order .last .1 .1 .0)
-enough c =
-    let j = c .before .before .before .before .before .before .before .before .before .before .before in
-    omega (arith, c .before .in-order .kept .1 .1 .0, job-of _ _ _ (job-passed j) .tests-bounds)
+enough : (c : tie.After-steps2) → length (now (c .before .before .before .before .before .before .before .before .before .before .before .before .args .wants)) ≤ length (c .before .in-order .last .1 .1 .0)
+enough c = omega (arith, c .before .in-order .kept .1 .1 .0, few (c .before .before .before .before .before))
 
 -- and its first entries are the steps' wants
 steps-are : (c : tie.After-in-order)
-    → let a = c .before .before .before .before .before .before .before .before .before .before .before .before .before .before .before .before .before .args in
+    → let a = c .before .before .before .before .before .before .before .before .before .before .before .args in
     take (length (now (a .wants))) (c .in-order .last .1 .1 .0) ≡ inOrder (now (a .wants)) (now (a .order))
 steps-are c =
-    let a = c .before .before .before .before .before .before .before .before .before .before .before .before .before .before .before .before .before .args in
-    let k = c .before .before .before .before .before .before .before in
-    ap (take (length (now (a .wants)))) (c .in-order .ensures) ∙ first-steps (now (a .wants)) (now (a .order)) _ (order-passed k) (omega (arith, job-of _ _ _ (job-passed (k .before .before .before)) .tests-bounds))
-
-examine-requires : tie.Need-examine-requires
-examine-requires c κs = search needs
-
-enum-known-r : tie.Need-enum-known-r
-enum-known-r c = search needs
+    let a = c .before .before .before .before .before .before .before .before .before .before .before .args in
+    let k = c .before .before .before .before in
+    ap (take (length (now (a .wants)))) (c .in-order .ensures)
+    ∙ first-steps (jobOf (a .rig) (now (a .wants))) (now (a .order)) (planning-parts _ _ (passed k) .0) _ (omega (arith, few k))
 
 returns : tie.Need-returns
 unfolding countOutcome
 returns c =
-    let a = c .before .before .before .before .before .before .before .before .args in
-    refused-contract (a .places) (a .curves) (now (a .wants)) (now (a .order)) (now (a .drops)) (now (a .loads)) _ _ (plan-job (a .places) (a .curves) (now (a .wants)) (now (a .order)) (now (a .drops)) (now (a .loads)) _ _ (examined-refused _ _ _ (c .before .r .given .1) (c .before .before .before .examine .ensures)))
-
-enum-told : tie.Need-enum-told
-enum-told c = search needs
-
-examine-order-requires : tie.Need-examine-order-requires
-examine-order-requires c κs = omega (arith, job-of _ _ _ (job-passed c) .tests-bounds)
-
-enum-known-r-2 : tie.Need-enum-known-r-2
-enum-known-r-2 c = search needs
+    let k = c .before .before .before in
+    let a = k .before .before .before .before .before .args in
+    refused-contract _ _ (planOf (now (a .drops)) (now (a .loads))) _ _ (plan-refused _ _ _ _ _ (examined-refused _ _ _ (c .before .r .given .1) (k .examine-planning .ensures)))
 
 returns-2 : tie.Need-returns-2
 unfolding countOutcome
 returns-2 c =
-    let a = c .before .before .before .before .before .before .before .before .before .before .before .args in
-    refused-contract (a .places) (a .curves) (now (a .wants)) (now (a .order)) (now (a .drops)) (now (a .loads)) _ _
-    (plan-order (a .places) (a .curves) (now (a .wants)) (now (a .order)) (now (a .drops)) (now (a .loads)) (job-passed (c .before .before .before .before)) _ _
-    (examined-refused _ _ _ (c .before .r2 .given .1) (c .before .before .before .examine-order .ensures)))
-
-enum-told-2 : tie.Need-enum-told-2
-enum-told-2 c = search needs
-
-examine-sizes-requires : tie.Need-examine-sizes-requires
-examine-sizes-requires c κs = search needs
-
-enum-known-r-3 : tie.Need-enum-known-r-3
-enum-known-r-3 c = search needs
+    let a = c .before .before .before .before .before .before .before .before .args in
+    refused-contract _ _ (planOf (now (a .drops)) (now (a .loads))) _ _ (plan-short _ _ _ (passed (c .before)) (omega arith))
 
 returns-3 : tie.Need-returns-3
 unfolding countOutcome
 returns-3 c =
-    let a = c .before .before .before .before .before .before .before .before .before .before .before .before .before .before .args in
-    let k = c .before .before .before .before in
-    refused-contract (a .places) (a .curves) (now (a .wants)) (now (a .order)) (now (a .drops)) (now (a .loads)) _ _
-    (plan-sizes (a .places) (a .curves) (now (a .wants)) (now (a .order)) (now (a .drops)) (now (a .loads)) (job-passed (k .before .before .before)) (order-passed k) _ _
-    (examined-refused _ _ _ (c .before .r3 .given .1) (c .before .before .before .examine-sizes .ensures)))
-
-enum-told-3 : tie.Need-enum-told-3
-enum-told-3 c = search needs
-
-returns-4 : tie.Need-returns-4
-unfolding countOutcome number figure
-returns-4 c =
-    let a = c .before .before .before .before .before .before .before .before .before .before .before .before .before .before .args in
-    let t = c .before in
-    let k = t .before .before .before in
-    refused-contract (a .places) (a .curves) (now (a .wants)) (now (a .order)) (now (a .drops)) (now (a .loads)) _ _ (plan-drops (a .places) (a .curves) (now (a .wants)) (now (a .order)) (now (a .drops)) (now (a .loads)) (job-passed (k .before .before .before)) (order-passed k) (sizes-passed t) (c .if1 .taken))
-
-returns-5 : tie.Need-returns-5
-unfolding countOutcome number figure
-returns-5 c =
-    let a = c .before .before .before .before .before .before .before .before .before .before .before .before .before .before .before .args in
-    let t = c .before .before in
-    let k = t .before .before .before in
-    refused-contract (a .places) (a .curves) (now (a .wants)) (now (a .order)) (now (a .drops)) (now (a .loads)) _ _
-    (plan-loads (a .places) (a .curves) (now (a .wants)) (now (a .order)) (now (a .drops)) (now (a .loads)) (job-passed (k .before .before .before)) (order-passed k) (sizes-passed t) (c .before .if1 .left) (c .if2 .taken))
-
-slice-aggregate-in-order : tie.Need-slice-aggregate-in-order
-slice-aggregate-in-order c = search needs
-
-in-order-requires : tie.Need-in-order-requires
-in-order-requires c κs = search needs
+    let a = c .before .before .before .before .before .before .before .before .before .args in
+    refused-contract _ _ (planOf (now (a .drops)) (now (a .loads))) _ _ (plan-short _ _ _ (passed (c .before .before)) (omega arith))
 
 array-share-prefix-steps : tie.Need-array-share-prefix-steps
 array-share-prefix-steps c = omega (arith, enough c)
 
 slice-aggregate-plan-steps : tie.Need-slice-aggregate-plan-steps
 slice-aggregate-plan-steps c =
-    let a = c .before .before .before .before .before .before .before .before .before .before .before .before .before .before .before .before .before .before .before .args in
+    let a = c .before .before .before .before .before .before .before .before .before .before .before .before .before .args in
     omega (arith, length-take-le (length (now (a .wants))) (c .before .before .in-order .last .1 .1 .0) (enough (c .before)))
 
-plan-steps-requires : tie.Need-plan-steps-requires
-plan-steps-requires c κs = search needs
-
 -- the loads still have an entry for each test
-loads-long : (c : tie.After-plan-steps)
-    → let a = c .before .before .before .before .before .before .before .before .before .before .before .before .before .before .before .before .before .before .before .before .before .before .args in
-    length (now (a .wants)) ≤ length (c .plan-steps .last .1 .1 .1 .1 .0)
+loads-long : (c : tie.After-plan-steps) → length (now (c .before .before .before .before .before .before .before .before .before .before .before .before .before .before .before .before .args .wants)) ≤ length (c .plan-steps .last .1 .1 .1 .1 .0)
 loads-long c = omega (arith, c .plan-steps .kept .1 .1 .1 .1 .0, c .before .before .before .before .before .before .before .if2 .left)
-
-slice-reshare-prefix-count-curves : tie.Need-slice-reshare-prefix-count-curves
-slice-reshare-prefix-count-curves c = search needs
 
 slice-aggregate-count-curves : tie.Need-slice-aggregate-count-curves
 slice-aggregate-count-curves c =
     let p = c .before .before .before .before .before in
-    let a = p .before .before .before .before .before .before .before .before .before .before .before .before .before .before .before .before .before .before .before .before .before .before .args in
-    sym (length-take-le (length (now (a .wants))) (p .plan-steps .last .1 .1 .1 .1 .0) (loads-long p))
+    sym (length-take-le (length (now (p .before .before .before .before .before .before .before .before .before .before .before .before .before .before .before .before .args .wants))) (p .plan-steps .last .1 .1 .1 .1 .0) (loads-long p))
 
 count-curves-requires : tie.Need-count-curves-requires
 count-curves-requires c κs =
     let p = c .before .before .before .before .before in
-    let j = p .before .before .before .before .before .before .before .before .before .before .before .before .before .before .before in
-    let a = j .before .before .before .before .before .before .before .args in
-    omega (arith, length-take-le (length (now (a .wants))) (p .plan-steps .last .1 .1 .1 .1 .0) (loads-long p), job-of _ _ _ (job-passed j) .tests-bounds)
+    omega (arith, length-take-le (length (now (p .before .before .before .before .before .before .before .before .before .before .before .before .before .before .before .before .args .wants))) (p .plan-steps .last .1 .1 .1 .1 .0) (loads-long p), few (p .before .before .before .before .before .before .before .before .before))
 
-same-length : tie.Need-same-length
-same-length c = search needs
-
-same-length-2 : tie.Need-same-length-2
-same-length-2 c = search needs
-
-returns-6 : tie.Need-returns-6
+returns-4 : tie.Need-returns-4
 unfolding countOutcome
-returns-6 c =
+returns-4 c =
     let p = c .before .before .before .before .before .before in
     let fits = p .before .before .before .before .before .before .before in
-    let t = fits .before .before in
-    let k = t .before .before .before in
-    let j = k .before .before .before in
-    let a = j .before .before .before .before .before .before .before .args in
-    steps-contract (a .places) (a .curves) (now (a .wants)) (now (a .order)) (now (a .drops)) (now (a .loads)) (job-passed j) (order-passed k) (sizes-passed t) (fits .before .if1 .left) (fits .if2 .left) _ _ _ _
+    let a = fits .before .before .before .before .before .before .before .before .before .args in
+    steps-contract _ _ (planOf (now (a .drops)) (now (a .loads))) (passed (fits .before .before)) (omega (arith, fits .before .if1 .left, fits .if2 .left)) _ _ _ _
     (steps-are (p .before .before .before .before .before)) (p .plan-steps .ensures .1 .0) (p .plan-steps .ensures .1 .1) (c .count-curves .ensures)
 
 pub plan-spec : {M : Type 1} → statement M
 plan-spec =
-    tie.close
-    (tie.spec
-    examine-requires
-    enum-known-r
-    returns
-    enum-told
-    examine-order-requires
-    enum-known-r-2
-    returns-2
-    enum-told-2
-    examine-sizes-requires
-    enum-known-r-3
-    returns-3
-    enum-told-3
-    returns-4
-    returns-5
-    slice-aggregate-in-order
-    in-order-requires
-    array-share-prefix-steps
-    slice-aggregate-plan-steps
-    plan-steps-requires
-    slice-reshare-prefix-count-curves
-    slice-aggregate-count-curves
-    count-curves-requires
-    same-length
-    same-length-2
-    returns-6)
+    tie.close (tie.spec (λ c κs. search needs) (λ c. search needs) returns (λ c. search needs) returns-2 returns-3 (λ c. search needs)
+    (λ c κs. search needs) array-share-prefix-steps slice-aggregate-plan-steps (λ c κs. search needs) (λ c. search needs) slice-aggregate-count-curves
+    count-curves-requires (λ c. search needs) (λ c. search needs) returns-4)

@@ -2,15 +2,14 @@
 use mathlib.Core.Path.{_≡_, ap}
 use mathlib.Core.List.{List, [], _∷_, _++_}
 use mathlib.Core.Logic.{⊎-elim}
-use Prim.Native.Nat.{_+_, _/_, _%_}
+use Prim.Native.Nat.{_+_, _/_, _%_, ℕ, _<_}
 use native.Mathlib.Omega.{arith}
 use lib.ListN.{length, length-append}
 use denote.Ref.{now}
 use Rattle.report.specs.Report.{decimal}
-use Rattle.report.specs.Text.{Wrote}
+use Rattle.report.specs.Contracts.{Wrote}
 use Rattle.report.proofs.Digits.{decimal-more, decimal-one}
 use Rattle.report.proofs.Writing.{wrote-nil, wrote-append, wrote-length}
-use Prim.Native.Nat.{ℕ, _<_}
 use borrow.Fn.Kinds.{In}
 use borrow.Fn.PlainCycle.{Measures, is, falls, and}
 use Rattle.report.proofs.put_decimal.Reads as put-decimal

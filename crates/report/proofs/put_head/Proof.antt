@@ -8,29 +8,17 @@ use borrow.Author.Needs.{needs}
 use Rattle.report.proofs.put_head.Statement.{statement}
 use Rattle.report.proofs.put_head.Tie as tie
 
-slice-aggregate-put-number : tie.Need-slice-aggregate-put-number
-slice-aggregate-put-number c = search needs
-
 put-number-requires : tie.Need-put-number-requires
 unfolding text
 put-number-requires c κs = omega (arith, head-length (c .before .before .before .args .head) [] [] [])
-
-slice-aggregate-put-number-2 : tie.Need-slice-aggregate-put-number-2
-slice-aggregate-put-number-2 c = search needs
 
 put-number-requires-2 : tie.Need-put-number-requires-2
 unfolding text
 put-number-requires-2 c κs = omega (arith, head-length (c .before .before .before .before .before .before .before .before .args .head) [] [] [])
 
-slice-aggregate-put-number-3 : tie.Need-slice-aggregate-put-number-3
-slice-aggregate-put-number-3 c = search needs
-
 put-number-requires-3 : tie.Need-put-number-requires-3
 unfolding text
 put-number-requires-3 c κs = omega (arith, head-length (c .before .before .before .before .before .before .before .before .before .before .before .before .before .args .head) [] [] [])
-
-same-length : tie.Need-same-length
-same-length c = search needs
 
 returns : tie.Need-returns
 unfolding text
@@ -40,13 +28,5 @@ returns c =
 
 pub put-head-spec : {M : Type 1} → statement M
 put-head-spec =
-    tie.close
-    (tie.spec
-    slice-aggregate-put-number
-    put-number-requires
-    slice-aggregate-put-number-2
-    put-number-requires-2
-    slice-aggregate-put-number-3
-    put-number-requires-3
-    same-length
-    returns)
+    tie.close (tie.spec (λ c. search needs) put-number-requires (λ c. search needs) put-number-requires-2 (λ c. search needs) put-number-requires-3
+    (λ c. search needs) returns)

@@ -14,11 +14,8 @@ put-decimal-requires c κs = let a = c .before .before .before .args in omega (a
 put-text-requires : tie.Need-put-text-requires
 put-text-requires c κs = let a = c .before .before .before .before .before .before .before .args in omega (arith, length-append (decimal (a .n)) (now (a .text)))
 
-same-length : tie.Need-same-length
-same-length c = search needs
-
 returns : tie.Need-returns
 returns c = wrote-append (c .before .before .before .before .before .before .put-decimal .ensures) (c .before .before .put-text .ensures)
 
 pub put-number-spec : {M : Type 1} → statement M
-put-number-spec = tie.close (tie.spec put-decimal-requires put-text-requires same-length returns)
+put-number-spec = tie.close (tie.spec put-decimal-requires put-text-requires (λ c. search needs) returns)

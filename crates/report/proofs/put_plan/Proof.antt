@@ -16,9 +16,6 @@ put-steps-requires c κs = let a = c .before .before .before .before .before .be
 put-loads-requires : tie.Need-put-loads-requires
 put-loads-requires c κs = let a = c .before .before .before .before .before .before .before .before .before .before .before .before .before .args in rw (c .before .before .before .before .before .before .before .before .before .before .before .before .before .pre .1 .0) (omega (arith, c .before .before .before .before .before .before .before .before .before .before .before .before .before .pre, plan-length (a .head) (now (a .order)) (now (a .drops)) (now (a .loads))))
 
-same-length : tie.Need-same-length
-same-length c = search needs
-
 returns : tie.Need-returns
 returns c =
     let a = c .before .before .before .before .before .before .before .before .before .before .before .before .before .before .before .before .args in
@@ -26,6 +23,4 @@ returns c =
     (wrote-append (wrote-append (c .before .before .before .before .before .before .before .before .before .before .put-head .ensures) (c .before .before .before .before .before .before .put-steps .ensures)) (rw (c .before .before .before .before .before .before .before .before .before .before .before .before .before .before .before .before .pre .1 .0) at (c .before .before .put-loads .ensures)))
 
 pub put-plan-spec : {M : Type 1} → statement M
-put-plan-spec =
-    tie.close
-    (tie.spec put-head-requires put-steps-requires put-loads-requires same-length returns)
+put-plan-spec = tie.close (tie.spec put-head-requires put-steps-requires put-loads-requires (λ c. search needs) returns)

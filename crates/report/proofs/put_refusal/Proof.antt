@@ -9,26 +9,11 @@ use borrow.Author.Needs.{needs}
 use Rattle.report.proofs.put_refusal.Statement.{statement}
 use Rattle.report.proofs.put_refusal.Tie as tie
 
-put-text-requires : tie.Need-put-text-requires
-put-text-requires c κs = search needs
-
-slice-aggregate-put-text : tie.Need-slice-aggregate-put-text
-slice-aggregate-put-text c = search needs
-
-put-text-requires-2 : tie.Need-put-text-requires-2
-put-text-requires-2 c κs = search needs
-
-slice-aggregate-put-number : tie.Need-slice-aggregate-put-number
-slice-aggregate-put-number c = search needs
-
 put-number-requires : tie.Need-put-number-requires
 unfolding text
 put-number-requires c κs =
     let s = c .before .before .before .before .before .before .before .before .before .before .before .before .before in
     omega (arith, length-append (decimal (s .args .number)) (text " at "), decimal-word (s .args .number) (omega (arith, s .fits .number)))
-
-slice-aggregate-put-number-2 : tie.Need-slice-aggregate-put-number-2
-slice-aggregate-put-number-2 c = search needs
 
 put-number-requires-2 : tie.Need-put-number-requires-2
 unfolding text
@@ -42,9 +27,6 @@ put-number-requires-2 c κs =
       decimal-word (s .args .figure) (omega (arith, s .fits .figure)),
     )
 
-same-length : tie.Need-same-length
-same-length c = search needs
-
 returns : tie.Need-returns
 unfolding text
 returns c =
@@ -55,14 +37,5 @@ returns c =
 
 pub put-refusal-spec : {M : Type 1} → statement M
 put-refusal-spec =
-    tie.close
-    (tie.spec
-    put-text-requires
-    slice-aggregate-put-text
-    put-text-requires-2
-    slice-aggregate-put-number
-    put-number-requires
-    slice-aggregate-put-number-2
-    put-number-requires-2
-    same-length
-    returns)
+    tie.close (tie.spec (λ c κs. search needs) (λ c. search needs) (λ c κs. search needs) (λ c. search needs) put-number-requires (λ c. search needs)
+    put-number-requires-2 (λ c. search needs) returns)

@@ -9,7 +9,7 @@ use denote.Ref.{now}
 use borrow.Author.Needs.{needs}
 use Rattle.bitset.specs.Set.{_∖_}
 use Rattle.report.specs.Report.{text, decimal, curvesText, setText}
-use Rattle.report.specs.Text.{Wrote}
+use Rattle.report.specs.Contracts.{Wrote}
 use Rattle.report.proofs.Curves.{curves-lowest, curves-none, fewer, set-none, set-some}
 use Rattle.report.proofs.Writing.{Rest, rest-all, rest-put, rest-none, rest-room, wrote-append, wrote-length}
 use Rattle.report.proofs.put_set.Statement.{statement}
@@ -24,9 +24,6 @@ abbrev μ-loop : tie.MeasureT-loop
 none-text : (s : ℕ) → s ≡ 0 → setText s ≡ 32 ∷ 110 ∷ 111 ∷ 110 ∷ 101 ∷ []
 unfolding text
 none-text s e = set-none s e
-
-slice-aggregate-put-text : tie.Need-slice-aggregate-put-text Inv-loop μ-loop
-slice-aggregate-put-text c = refl
 
 put-text-requires : tie.Need-put-text-requires Inv-loop μ-loop
 put-text-requires c κs =
@@ -64,16 +61,10 @@ room c =
 put-byte-requires : tie.Need-put-byte-requires Inv-loop μ-loop
 put-byte-requires c κs = omega (arith, room (c .before))
 
-lowest-requires : tie.Need-lowest-requires Inv-loop μ-loop
-lowest-requires c κs = search needs
-
 put-decimal-requires : tie.Need-put-decimal-requires Inv-loop μ-loop
 put-decimal-requires c κs =
     let r = room (c .before .before .before .before .before .before) in
     rw (c .lowest .ensures) (omega (arith, r, c .before .before .before .before .put-byte .ensures .behind))
-
-without-lowest-requires : tie.Need-without-lowest-requires Inv-loop μ-loop
-without-lowest-requires c κs = search needs
 
 loop-less : tie.Need-loop-less Inv-loop μ-loop
 loop-less c =
@@ -107,20 +98,5 @@ returns-2 c = whole c
 
 pub put-set-spec : {M : Type 1} → statement M
 put-set-spec =
-    tie.close
-    (tie.spec
-    Inv-loop
-    μ-loop
-    slice-aggregate-put-text
-    put-text-requires
-    same-length
-    returns
-    loop-holds
-    put-byte-requires
-    lowest-requires
-    put-decimal-requires
-    without-lowest-requires
-    loop-less
-    loop-again
-    same-length-2
-    returns-2)
+    tie.close (tie.spec Inv-loop μ-loop (λ c. refl) put-text-requires same-length returns loop-holds put-byte-requires (λ c κs. search needs)
+    put-decimal-requires (λ c κs. search needs) loop-less loop-again same-length-2 returns-2)

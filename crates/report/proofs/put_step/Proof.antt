@@ -7,15 +7,9 @@ use borrow.Author.Needs.{needs}
 use Rattle.report.proofs.put_step.Statement.{statement}
 use Rattle.report.proofs.put_step.Tie as tie
 
-slice-aggregate-put-number : tie.Need-slice-aggregate-put-number
-slice-aggregate-put-number c = search needs
-
 put-number-requires : tie.Need-put-number-requires
 unfolding text
 put-number-requires c κs = let a = c .before .before .before .args in omega (arith, step-length (a .position) (a .test) (a .drops) (a .loads))
-
-slice-aggregate-put-number-2 : tie.Need-slice-aggregate-put-number-2
-slice-aggregate-put-number-2 c = search needs
 
 put-number-requires-2 : tie.Need-put-number-requires-2
 unfolding text
@@ -24,9 +18,6 @@ put-number-requires-2 c κs = let a = c .before .before .before .before .before 
 put-set-requires : tie.Need-put-set-requires
 unfolding text
 put-set-requires c κs = let a = c .before .before .before .before .before .before .before .before .before .before .before .before .args in omega (arith, step-length (a .position) (a .test) (a .drops) (a .loads))
-
-slice-aggregate-put-text : tie.Need-slice-aggregate-put-text
-slice-aggregate-put-text c = search needs
 
 put-text-requires : tie.Need-put-text-requires
 unfolding text
@@ -40,9 +31,6 @@ put-byte-requires : tie.Need-put-byte-requires
 unfolding text
 put-byte-requires c κs = let a = c .before .before .before .before .before .before .before .before .before .before .before .before .before .before .before .before .before .before .before .before .before .before .before .before .before .args in omega (arith, step-length (a .position) (a .test) (a .drops) (a .loads))
 
-same-length : tie.Need-same-length
-same-length c = search needs
-
 returns : tie.Need-returns
 unfolding text
 returns c =
@@ -52,16 +40,5 @@ returns c =
 
 pub put-step-spec : {M : Type 1} → statement M
 put-step-spec =
-    tie.close
-    (tie.spec
-    slice-aggregate-put-number
-    put-number-requires
-    slice-aggregate-put-number-2
-    put-number-requires-2
-    put-set-requires
-    slice-aggregate-put-text
-    put-text-requires
-    put-set-requires-2
-    put-byte-requires
-    same-length
-    returns)
+    tie.close (tie.spec (λ c. search needs) put-number-requires (λ c. search needs) put-number-requires-2 put-set-requires (λ c. search needs)
+    put-text-requires put-set-requires-2 put-byte-requires (λ c. search needs) returns)

@@ -6,7 +6,7 @@ use lib.ListN.{length, getD, drop, drop-of-length-le}
 use denote.Ref.{now}
 use Rattle.planning.specs.Plan.{steps}
 use Rattle.report.specs.Report.{stepText, stepsText}
-use Rattle.report.specs.Text.{Wrote}
+use Rattle.report.specs.Contracts.{Wrote}
 use Rattle.report.proofs.Lines.{steps-next, steps-end}
 use Rattle.report.proofs.Writing.{Rest, rest-all, rest-put, rest-none, rest-room, wrote-length}
 use Rattle.report.proofs.put_steps.Statement.{statement}
@@ -37,26 +37,8 @@ turn c =
     let a = c .before .before .before .before .before .before .args in
     rw (steps-next (l .i) (now (a .order)) (now (a .drops)) (now (a .loads)) (omega arith) (omega arith) (omega arith)) at (l .inv .rest)
 
-mul-put-step : tie.Need-mul-put-step Inv-loop μ-loop
-mul-put-step c = omega arith
-
-shared-slice-read-put-step : tie.Need-shared-slice-read-put-step Inv-loop μ-loop
-shared-slice-read-put-step c = omega arith
-
 cast-put-step : tie.Need-cast-put-step Inv-loop μ-loop
 cast-put-step c = omega (arith, c .shared-slice-known4 .given (c .before .before .before .loop .i))
-
-mul-put-step-2 : tie.Need-mul-put-step-2 Inv-loop μ-loop
-mul-put-step-2 c = omega arith
-
-shared-slice-read-put-step-2 : tie.Need-shared-slice-read-put-step-2 Inv-loop μ-loop
-shared-slice-read-put-step-2 c = omega arith
-
-mul-put-step-3 : tie.Need-mul-put-step-3 Inv-loop μ-loop
-mul-put-step-3 c = omega arith
-
-shared-slice-read-put-step-3 : tie.Need-shared-slice-read-put-step-3 Inv-loop μ-loop
-shared-slice-read-put-step-3 c = omega arith
 
 put-step-requires : tie.Need-put-step-requires Inv-loop μ-loop
 put-step-requires c κs =
@@ -68,12 +50,6 @@ put-step-requires c κs =
     (2 ^ 64)
     (turn (c .before .before .before .before))
     (omega (arith, c .before .before .before .before .before .before .before .before .before .before .pre))
-
-add-i : tie.Need-add-i Inv-loop μ-loop
-add-i c = omega arith
-
-loop-less : tie.Need-loop-less Inv-loop μ-loop
-loop-less c = omega arith
 
 loop-again : tie.Need-loop-again Inv-loop μ-loop
 loop-again c = record { turns = omega arith; rest = rest-put (turn (c .before .before .before .before .before .before .before)) (c .before .before .put-step .ensures) }
@@ -94,21 +70,5 @@ returns c = whole c
 
 pub put-steps-spec : {M : Type 1} → statement M
 put-steps-spec =
-    tie.close
-    (tie.spec
-    Inv-loop
-    μ-loop
-    loop-holds
-    mul-put-step
-    shared-slice-read-put-step
-    cast-put-step
-    mul-put-step-2
-    shared-slice-read-put-step-2
-    mul-put-step-3
-    shared-slice-read-put-step-3
-    put-step-requires
-    add-i
-    loop-less
-    loop-again
-    same-length
-    returns)
+    tie.close (tie.spec Inv-loop μ-loop loop-holds (λ c. omega arith) (λ c. omega arith) cast-put-step (λ c. omega arith) (λ c. omega arith)
+    (λ c. omega arith) (λ c. omega arith) put-step-requires (λ c. omega arith) (λ c. omega arith) loop-again same-length returns)

@@ -4,22 +4,13 @@ use native.Mathlib.Omega.{arith}
 use lib.ListN.{length}
 use denote.Ref.{now}
 use Rattle.job.specs.Refusal.{done}
-use Rattle.curveplan.proofs.Reading.{bytes-of}
+use Rattle.planned.proofs.Reading.{bytes-of}
 use Rattle.report.specs.Report.{sheet, writeSheet, sheetAnswer, sheetBuffer}
 use Rattle.report.proofs.Fitted.{whole-text, never-refused}
 use Rattle.report.proofs.Longest.{sheet-fits}
 use borrow.Author.Needs.{needs}
 use Rattle.report.proofs.sheet_text.Statement.{statement}
 use Rattle.report.proofs.sheet_text.Tie as tie
-
-write-report-requires : tie.Need-write-report-requires
-write-report-requires c κs = search needs
-
-enum-known-n : tie.Need-enum-known-n
-enum-known-n c = search needs
-
-enum-told : tie.Need-enum-told
-enum-told c = search needs
 
 -- the buffer has as many bytes as its type says, and that is enough
 fits : (c : tie.After-write-report-arg) → let a = c .before .before .args in writeSheet (now (a .job)) (length (now (a .text))) ≡ done (sheet (now (a .job)))
@@ -40,5 +31,4 @@ returns-2 c =
     absurd (never-refused _ (fits (c .before .before .before)) (r .ensures .0) (r .ensures .1) _ (c .enum-told .given .1))
 
 pub sheet-text-spec : {M : Type 1} → statement M
-sheet-text-spec =
-    tie.close (tie.spec write-report-requires enum-known-n enum-told returns returns-2)
+sheet-text-spec = tie.close (tie.spec (λ c κs. search needs) (λ c. search needs) (λ c. search needs) returns returns-2)

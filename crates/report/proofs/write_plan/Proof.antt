@@ -5,7 +5,7 @@ use lib.ListN.{length}
 use denote.Ref.{now}
 use Rattle.report.proofs.Lines.{plan-word}
 use Rattle.report.specs.Report.{planText}
-use Rattle.report.specs.Text.{shown}
+use Rattle.report.specs.Contracts.{shown}
 use Rattle.report.proofs.Fitted.{fill-short, fill-whole}
 use borrow.Author.Needs.{needs}
 use Rattle.report.proofs.write_plan.Statement.{statement}
@@ -17,9 +17,6 @@ short c =
     let a = c .before .args in
     let p = c .before .pre in
     plan-word (a .head) (now (a .order)) (now (a .drops)) (now (a .loads)) (omega arith) (omega arith) (omega arith) (omega arith) (λ j l. omega (arith, c .shared-slice-known .given j)) (omega (arith, p .1 .0, c .before .fits .count))
-
-slice-aggregate-put-plan : tie.Need-slice-aggregate-put-plan
-slice-aggregate-put-plan c = search needs
 
 put-plan-requires : tie.Need-put-plan-requires
 put-plan-requires c κs = (c .before .before .before .before .before .pre .0, (c .before .before .before .before .before .pre .1 .0, short (c .before .before .before .before)))
@@ -34,9 +31,6 @@ returns c =
 put-plan-requires-2 : tie.Need-put-plan-requires-2
 put-plan-requires-2 c κs = (c .before .before .before .before .before .before .before .before .before .pre .0, (c .before .before .before .before .before .before .before .before .before .pre .1 .0, short (c .before .before .before .before .before .before .before .before)))
 
-same-length : tie.Need-same-length
-same-length c = search needs
-
 returns-2 : tie.Need-returns-2
 returns-2 c =
     let a = c .before .before .before .before .before .before .before .before .before .before .before .before .args in
@@ -46,12 +40,4 @@ returns-2 c =
     (fill-whole t (now (a .out)) w (c .before .before .before .before .if1 .left) v)
 
 pub write-plan-spec : {M : Type 1} → statement M
-write-plan-spec =
-    tie.close
-    (tie.spec
-    slice-aggregate-put-plan
-    put-plan-requires
-    returns
-    put-plan-requires-2
-    same-length
-    returns-2)
+write-plan-spec = tie.close (tie.spec (λ c. search needs) put-plan-requires returns put-plan-requires-2 (λ c. search needs) returns-2)

@@ -7,18 +7,6 @@ use borrow.Author.Needs.{needs}
 use Rattle.sheet.proofs.main.Statement.{statement}
 use Rattle.sheet.proofs.main.Tie as tie
 
-read-input-requires : tie.Need-read-input-requires
-read-input-requires c κs = search needs
-
-array-share-prefix-job : tie.Need-array-share-prefix-job
-array-share-prefix-job c = search needs
-
-slice-aggregate-sheet-text : tie.Need-slice-aggregate-sheet-text
-slice-aggregate-sheet-text c = search needs
-
-sheet-text-requires : tie.Need-sheet-text-requires
-sheet-text-requires c κs = search needs
-
 lent : (c : tie.After-sheet-text) → let r = c .sheet-text in (r .result ≤ length (r .last .1 .0)) × (r .result ≡ length (take (r .result) (r .last .1 .0)))
 lent c = whole-lent _ _ _ _ (c .sheet-text .ensures .0) (c .sheet-text .ensures .1)
 
@@ -28,21 +16,7 @@ array-share-prefix-text c = lent c .0
 slice-aggregate-write-all : tie.Need-slice-aggregate-write-all
 slice-aggregate-write-all c = lent (c .before) .1
 
-write-all-requires : tie.Need-write-all-requires
-write-all-requires c κs = search needs
-
-returns : tie.Need-returns
-returns c = search needs
-
 pub main-spec : {M : Type 1} → statement M
 main-spec =
-    tie.close
-    (tie.spec
-    read-input-requires
-    array-share-prefix-job
-    slice-aggregate-sheet-text
-    sheet-text-requires
-    array-share-prefix-text
-    slice-aggregate-write-all
-    write-all-requires
-    returns)
+    tie.close (tie.spec (λ c κs. search needs) (λ c. search needs) (λ c. search needs) (λ c κs. search needs) array-share-prefix-text
+    slice-aggregate-write-all (λ c κs. search needs) (λ c. search needs))

@@ -7,9 +7,6 @@ use borrow.Author.Needs.{needs}
 use Rattle.sheet.proofs.read_input.Statement.{statement}
 use Rattle.sheet.proofs.read_input.Tie as tie
 
-read-full-requires : tie.Need-read-full-requires
-read-full-requires c κs = search needs
-
 returns : tie.Need-returns
 returns c =
     let r = c .read-full in
@@ -17,4 +14,4 @@ returns c =
     (r .ensures, enough sheet (r .result) b (λ whole. sheet-prefix (length b) whole (omega (arith, r .kept .1 .0, c .before .read-full-arg .given))))
 
 pub read-input-spec : {M : Type 1} → statement M
-read-input-spec = tie.close (tie.spec read-full-requires returns)
+read-input-spec = tie.close (tie.spec (λ c κs. search needs) returns)

@@ -4,24 +4,6 @@ use borrow.Author.Needs.{needs}
 use Rattle.drive.proofs.choice.further.Statement.{statement}
 use Rattle.drive.proofs.choice.further.Tie as tie
 
-enum-told : tie.Need-enum-told
-enum-told c = search needs
-
-enum-told-2 : tie.Need-enum-told-2
-enum-told-2 c = search needs
-
-enum-told-3 : tie.Need-enum-told-3
-enum-told-3 c = search needs
-
-enum-known-x : tie.Need-enum-known-x
-enum-known-x c = search needs
-
-enum-told-4 : tie.Need-enum-told-4
-enum-told-4 c = search needs
-
-enum-known-y : tie.Need-enum-known-y
-enum-known-y c = search needs
-
 returns : tie.Need-returns
 unfolding further
 returns c = rw (c .before .before .enum-told .given .1, c .enum-told2 .given .1)
@@ -40,15 +22,5 @@ returns-4 c = rw (c .before .before .before .before .x .given .1, c .before .y .
 
 pub further-spec : {M : Type 1} → statement M
 further-spec =
-    tie.close
-    (tie.spec
-    enum-told
-    enum-told-2
-    enum-told-3
-    enum-known-x
-    enum-told-4
-    enum-known-y
-    returns
-    returns-2
-    returns-3
-    returns-4)
+    tie.close (tie.spec (λ c. search needs) (λ c. search needs) (λ c. search needs) (λ c. search needs) (λ c. search needs) (λ c. search needs)
+    returns returns-2 returns-3 returns-4)

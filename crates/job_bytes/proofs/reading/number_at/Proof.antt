@@ -24,15 +24,6 @@ loop-holds : tie.Need-loop-holds Inv-loop μ-loop
 unfolding readNumber
 loop-holds c = let z : c .args .width - c .args .width ≡ 0 = omega arith in rw z (omega arith, omega arith, refl)
 
-sub-k : tie.Need-sub-k Inv-loop μ-loop
-sub-k c = search needs
-
-add-value : tie.Need-add-value Inv-loop μ-loop
-add-value c = search needs
-
-shared-slice-read-value : tie.Need-shared-slice-read-value Inv-loop μ-loop
-shared-slice-read-value c = search needs
-
 cast-value : tie.Need-cast-value Inv-loop μ-loop
 cast-value c = omega (arith, c .shared-slice-known .given (c .before .before .before .args .at + (c .before .before .loop .k - 1)))
 
@@ -43,9 +34,6 @@ add-value-2 : tie.Need-add-value-2 Inv-loop μ-loop
 add-value-2 c =
     let l : 8 * (c .before .before .before .args .width - c .before .before .loop .k) ≤ 56 = omega arith in
     omega (arith, pow-mono l, c .shared-slice-known .given (c .before .before .before .args .at + (c .before .before .loop .k - 1)))
-
-loop-less : tie.Need-loop-less Inv-loop μ-loop
-loop-less c = search needs
 
 loop-again : tie.Need-loop-again Inv-loop μ-loop
 loop-again c =
@@ -68,4 +56,5 @@ returns c =
 
 pub number-at-spec : {M : Type 1} → statement M
 number-at-spec =
-    tie.close (tie.spec Inv-loop μ-loop loop-holds sub-k add-value shared-slice-read-value cast-value mul-value add-value-2 loop-less loop-again returns)
+    tie.close (tie.spec Inv-loop μ-loop loop-holds (λ c. search needs) (λ c. search needs) (λ c. search needs) cast-value mul-value add-value-2
+    (λ c. search needs) loop-again returns)

@@ -4,7 +4,7 @@ use Prim.Native.Nat.{_+_, _*_}
 use native.Mathlib.Omega.{arith}
 use denote.Ref.{now}
 use borrow.Author.Needs.{needs}
-use Rattle.job.specs.Refusal.{number, figure, countOutcome, _>>_, mapped, demand}
+use Rattle.job.specs.Refusal.{countOutcome, _>>_, mapped, demand}
 use Rattle.job_bytes.specs.JobBytes.{readField}
 use Rattle.job_bytes.proofs.HeadRoundTrip.{holds}
 use Rattle.job_bytes.proofs.Heads.{field-cut, field-judged}
@@ -19,21 +19,12 @@ returns c =
     let n : a .at + 0 * a .field .width ≡ a .at = omega arith in
     rw (d, n) refl
 
-sub-if2 : tie.Need-sub-if2
-sub-if2 c = search needs
-
 returns-2 : tie.Need-returns-2
-unfolding mapped countOutcome number figure
+unfolding mapped countOutcome
 returns-2 c =
     let a = c .before .before .before .args in
     let d : a .stands ≡ 1 = omega arith in
     rw d (field-cut (now (a .job)) (a .field) (a .at) (omega arith) (omega arith))
-
-number-at-requires : tie.Need-number-at-requires
-number-at-requires c κs = search needs
-
-holds-requires : tie.Need-holds-requires
-holds-requires c κs = search needs
 
 returns-3 : tie.Need-returns-3
 unfolding holds mapped countOutcome demand _>>_
@@ -44,11 +35,11 @@ returns-3 c =
     rw (d, n) (field-judged (now (a .job)) (a .field) (a .at) _ (c .before .before .number-at .ensures) ∙ rw (sym (c .before .holds .ensures) ∙ c .if3 .taken) refl)
 
 returns-4 : tie.Need-returns-4
-unfolding holds mapped countOutcome number figure demand _>>_
+unfolding holds mapped countOutcome demand _>>_
 returns-4 c =
     let a = c .before .before .before .before .before .before .args in
     let d : a .stands ≡ 1 = omega arith in
     rw d (field-judged (now (a .job)) (a .field) (a .at) _ (c .before .before .number-at .ensures) ∙ rw (sym (c .before .holds .ensures) ∙ c .if3 .left) refl)
 
 pub read-field-spec : {M : Type 1} → statement M
-read-field-spec = tie.close (tie.spec returns sub-if2 returns-2 number-at-requires holds-requires returns-3 returns-4)
+read-field-spec = tie.close (tie.spec returns (λ c. search needs) returns-2 (λ c κs. search needs) (λ c κs. search needs) returns-3 returns-4)

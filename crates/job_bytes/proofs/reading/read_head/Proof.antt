@@ -7,7 +7,7 @@ use lib.ListN.{length, take, drop, length-set}
 use lib.Seq.{take-all}
 use denote.Ref.{now}
 use borrow.Author.Needs.{needs}
-use Rattle.job.specs.Refusal.{done, number, figure, countOutcome, _>>=_, mapped}
+use Rattle.job.specs.Refusal.{done, countOutcome, _>>=_, mapped}
 use Rattle.job_bytes.specs.SetBytes.{got}
 use Rattle.job_bytes.specs.JobBytes.{fields, readField, readFields}
 use Rattle.job_bytes.proofs.Heads.{rows, by-count, by-refusal, field-within, fields-end, fields-fault, fields-next, head-none, head-map, head-fields}
@@ -42,17 +42,14 @@ field c =
     (e, field-within (now (k .before .before .before .before .before .before .args .job)) (c .before .before .before .before .row .result) (k .loop .at) _ _ _ (k .loop .inv .within) e)
 
 returns : tie.Need-returns Inv-loop μ-loop
-unfolding mapped countOutcome number figure
+unfolding mapped countOutcome
 returns c = head-none (now (c .before .before .before .args .job)) (c .if1 .taken)
-
-shared-slice-read-map : tie.Need-shared-slice-read-map Inv-loop μ-loop
-shared-slice-read-map c = search needs
 
 cast-map : tie.Need-cast-map Inv-loop μ-loop
 cast-map c = omega (arith, c .shared-slice-known2 .given 0)
 
 returns-2 : tie.Need-returns-2 Inv-loop μ-loop
-unfolding mapped countOutcome number figure
+unfolding mapped countOutcome
 returns-2 c = head-map (now (c .before .before .before .before .before .args .job)) (omega arith) (rw rows (c .if2 .taken))
 
 loop-holds : tie.Need-loop-holds Inv-loop μ-loop
@@ -63,9 +60,6 @@ row-requires c κs = omega (arith, rows)
 
 read-field-requires : tie.Need-read-field-requires Inv-loop μ-loop
 read-field-requires c κs = (omega arith, c .row .ensures .1, c .before .before .loop .inv .within)
-
-enum-known-r : tie.Need-enum-known-r Inv-loop μ-loop
-enum-known-r c = search needs
 
 same-length : tie.Need-same-length Inv-loop μ-loop
 same-length c = c .before .before .before .before .before .before .loop .inv .long
@@ -81,9 +75,6 @@ returns-3 c =
     let e = by-refusal _ _ (f .result) (f .ensures) _ (c .before .r .given .1) in
     head-fields bs (omega arith) (rw rows (omega arith))
     ∙ rw (l .inv .goes ∙ fields-fault bs fields (l .j) (l .map) (take (l .j) (l .values)) (l .at) (r .result) (r .ensures .0) _ _ e) refl
-
-enum-known-value : tie.Need-enum-known-value Inv-loop μ-loop
-enum-known-value c = search needs
 
 mul-values : tie.Need-mul-values Inv-loop μ-loop
 mul-values c = omega (arith, rows)
@@ -132,27 +123,5 @@ returns-4 c =
 
 pub read-head-spec : {M : Type 1} → statement M
 read-head-spec =
-    tie.close
-    (tie.spec
-    Inv-loop
-    μ-loop
-    returns
-    shared-slice-read-map
-    cast-map
-    returns-2
-    loop-holds
-    row-requires
-    read-field-requires
-    enum-known-r
-    same-length
-    returns-3
-    enum-known-value
-    mul-values
-    slice-write-values
-    mul-at
-    add-at
-    add-j
-    loop-less
-    loop-again
-    same-length-2
-    returns-4)
+    tie.close (tie.spec Inv-loop μ-loop returns (λ c. search needs) cast-map returns-2 loop-holds row-requires read-field-requires (λ c. search needs)
+    same-length returns-3 (λ c. search needs) mul-values slice-write-values mul-at add-at add-j loop-less loop-again same-length-2 returns-4)

@@ -11,10 +11,10 @@ use denote.Ref.{now}
 use borrow.Author.Needs.{needs}
 use Rattle.bitset.specs.Set.{bit}
 use Rattle.job.specs.declared.Refusal.the-variants.{Truncated, EmptyGroup, UnknownCurve}
-use Rattle.job.specs.Refusal.{Outcome, refused, number, figure}
+use Rattle.job.specs.Refusal.{Outcome, refused}
 use Rattle.job_bytes.specs.SetBytes.{Got, got, readGroups}
 use Rattle.job_bytes.specs.JobBytes.{readRecords}
-use Rattle.job_bytes.proofs.Turns.{group-absent, groups-end, records-end}
+use Rattle.job_bytes.proofs.Turns.{groups-end, records-end}
 use Rattle.job_bytes.proofs.Encoding.{rest-is, rest-long}
 use Rattle.job_bytes.proofs.GroupByte.{Answers, owed-end, answer-owed, answer-empty, answer-unknown, answer-curves}
 use Rattle.job_bytes.proofs.Records.{record-none, record-fault, record-read, list-more, LeftWith, left-refused, left-passed, promise-refused, promise-done}
@@ -49,100 +49,29 @@ abbrev μ-tests : tie.MeasureT-tests
 tests-holds : tie.Need-tests-holds Inv-loop μ-loop Inv-tests μ-tests
 tests-holds c = record { turns = search needs; within = search needs; long = refl; fine = refl; goes = rw sub-zero }
 
-sub-rest : tie.Need-sub-rest Inv-loop μ-loop Inv-tests μ-tests
-sub-rest c = search needs
-
-part-rest-start : tie.Need-part-rest-start Inv-loop μ-loop Inv-tests μ-tests
-part-rest-start c = search needs
-
-part-rest-end : tie.Need-part-rest-end Inv-loop μ-loop Inv-tests μ-tests
-part-rest-end c = search needs
-
-shared-slice-read-map : tie.Need-shared-slice-read-map Inv-loop μ-loop Inv-tests μ-tests
-shared-slice-read-map c = search needs
-
 loop-holds : tie.Need-loop-holds Inv-loop μ-loop Inv-tests μ-tests
 loop-holds c =
     let job = now (c .before .before .before .before .before .before .before .args .job) in
     let at = c .before .before .before .before .tests .at in
     record { turns = search needs; fits = omega (arith, rest-long job at, c .before .if1 .left); same = refl; goes = refl }
 
-cast-if2 : tie.Need-cast-if2 Inv-loop μ-loop Inv-tests μ-tests
-cast-if2 c = search needs
-
-shr-if2 : tie.Need-shr-if2 Inv-loop μ-loop Inv-tests μ-tests
-shr-if2 c = search needs
-
-read-group-requires : tie.Need-read-group-requires Inv-loop μ-loop Inv-tests μ-tests
-read-group-requires c κs = search needs
-
-enum-known-group : tie.Need-enum-known-group Inv-loop μ-loop Inv-tests μ-tests
-enum-known-group c = search needs
-
 add-used : tie.Need-add-used Inv-loop μ-loop Inv-tests μ-tests
-add-used c = search needs
-
-enum-told : tie.Need-enum-told Inv-loop μ-loop Inv-tests μ-tests
-enum-told c = search needs
-
-enum-told-2 : tie.Need-enum-told-2 Inv-loop μ-loop Inv-tests μ-tests
-enum-told-2 c = search needs
-
-add-offset : tie.Need-add-offset Inv-loop μ-loop Inv-tests μ-tests
-add-offset c = search needs
-
-enum-told-3 : tie.Need-enum-told-3 Inv-loop μ-loop Inv-tests μ-tests
-enum-told-3 c = search needs
-
-add-offset-2 : tie.Need-add-offset-2 Inv-loop μ-loop Inv-tests μ-tests
-add-offset-2 c = search needs
-
-add-j : tie.Need-add-j Inv-loop μ-loop Inv-tests μ-tests
-add-j c = search needs
-
-loop-less : tie.Need-loop-less Inv-loop μ-loop Inv-tests μ-tests
-loop-less c = search needs
+add-used c = let u = c .before .before .before .before .before .loop .inv .fits in omega arith
 
 loop-again : tie.Need-loop-again Inv-loop μ-loop Inv-tests μ-tests
 loop-again c =
-    let k = c .before .before in
-    let a = k .before .before .before .before .before .before .before .before .args in
-    let pre = k .before .before .before .before .before .before .before .before .pre in
+    let k = c .before .before .before .before .before in
+    let s = k .before .before .before .before .before .before .before .before in
+    let a = s .args in
     let job = now (a .job) in
     let at = k .before .before .before .before .before .tests .at in
     let rest = take (length job - at) (drop at job) in
     let g = k .loop in
-    let h : g .j < 8 = c .before .loop-test .taken in
-    ⊎-elim
-    (λ w.
-    let x = w .3 .given .0 .0 in
-    let f = subst (Answers rest (g .used) (g .j) (a .curves)) (w .3 .given .1) (w .1 .ensures) in
-    let r = answer-curves 1 3 4 (a .curves) (getD rest 0 0) (g .set) at (g .used) (g .j) rest h (pre .2) (w .0 .taken) x f in
-    record { turns = omega arith; fits = omega (arith, w .6, r .0); same = g .inv .same; goes = rw (w .5, w .6) (g .inv .goes ∙ r .1) })
-    (λ w.
-    let z : bit (g .j) (getD rest 0 0) ≡ 0 = omega (arith, w .0 .left) in
-    record {
-      turns = omega arith;
-      fits = omega (arith, w .2, g .inv .fits);
-      same = g .inv .same;
-      goes = rw (w .1, w .2) (g .inv .goes ∙ group-absent 1 3 4 (a .curves) (getD rest 0 0) (g .set) at (g .used) (g .j) rest h z);
-    })
-    (c .if2 .came)
-
-mul-list : tie.Need-mul-list Inv-loop μ-loop Inv-tests μ-tests
-mul-list c = search needs
-
-slice-write-list : tie.Need-slice-write-list Inv-loop μ-loop Inv-tests μ-tests
-slice-write-list c = search needs
-
-add-at : tie.Need-add-at Inv-loop μ-loop Inv-tests μ-tests
-add-at c = search needs
-
-add-t : tie.Need-add-t Inv-loop μ-loop Inv-tests μ-tests
-add-t c = search needs
-
-tests-less : tie.Need-tests-less Inv-loop μ-loop Inv-tests μ-tests
-tests-less c = search needs
+    let d = bit (g .j) (getD rest 0 0) in
+    let h : g .j < 8 = c .before .before .before .before .loop-test .taken in
+    let f = subst (Answers rest (g .used) d (g .j) (a .curves)) (c .before .group .given .1) (c .before .before .before .read-due .ensures) in
+    let r = answer-curves 1 3 4 (a .curves) (getD rest 0 0) (g .set) at (g .used) (g .j) rest h (s .pre .2) (c .before .group .given .0 .0) (g .inv .fits) f in
+    record { turns = omega arith; fits = r .0; same = g .inv .same; goes = g .inv .goes ∙ r .1 }
 
 tests-again : tie.Need-tests-again Inv-loop μ-loop Inv-tests μ-tests
 tests-again c =
@@ -170,10 +99,10 @@ tests-again c =
 -- the way out in the middle of a test's groups: the record's fault is the reading's
 module _ (k : tie.At-tests Inv-loop μ-loop Inv-tests μ-tests) (more : k .tests .t < k .before .before .before .args .tests) where
   abbrev whole : Outcome (Got (List ℕ))
-  whole = readRecords (k .before .before .before .args .curves) (k .before .before .before .args .tests) [] (k .before .before .before .args .start) (drop (k .before .before .before .args .start) (now (k .before .before .before .args .job)))
+  whole = let a = k .before .before .before .args in readRecords (a .curves) (a .tests) [] (a .start) (drop (a .start) (now (a .job)))
 
   abbrev rest : List ℕ
-  rest = take (length (now (k .before .before .before .args .job)) - k .tests .at) (drop (k .tests .at) (now (k .before .before .before .args .job)))
+  rest = let job = now (k .before .before .before .args .job) in take (length job - k .tests .at) (drop (k .tests .at) job)
 
   fault : (n f : ℕ) → 0 < length rest → readGroups 1 3 4 (k .before .before .before .args .curves) 8 0 (getD rest 0 0) 0 (k .tests .at + 1) (drop 1 rest) ≡ refused n f → whole ≡ refused n f
   fault n f some e =
@@ -183,10 +112,9 @@ module _ (k : tie.At-tests Inv-loop μ-loop Inv-tests μ-tests) (more : k .tests
 
 -- what the ways out of the loops say of the reading
 left : (k : tie.Left-tests Inv-loop μ-loop Inv-tests μ-tests)
-    → LeftWith (k .tests-test .answer)
-    (readRecords (k .before .before .before .before .args .curves) (k .before .before .before .before .args .tests) [] (k .before .before .before .before .args .start) (drop (k .before .before .before .before .args .start) (now (k .before .before .before .before .args .job))))
-    (got (take (k .before .before .before .before .args .tests) (k .before .tests .list)) (k .before .tests .at) (drop (k .before .tests .at) (now (k .before .before .before .before .args .job))))
-unfolding number figure
+    → let a = k .before .before .before .before .args in
+    let q = k .before .tests in
+    LeftWith (k .tests-test .answer) (readRecords (a .curves) (a .tests) [] (a .start) (drop (a .start) (now (a .job)))) (got (take (a .tests) (q .list)) (q .at) (drop (q .at) (now (a .job))))
 left k =
     let a = k .before .before .before .before .args in
     let pre = k .before .before .before .before .pre in
@@ -205,28 +133,22 @@ left k =
     (⊎-elim
     (λ w.
     let p = w .4 in
-    let f = subst (Answers part (p .used) (p .j) (a .curves)) (w .9 .given .1) (w .7 .ensures) in
-    let e = p .inv .goes ∙ answer-owed 1 3 4 (a .curves) (getD part 0 0) (p .set) (q .at) (p .used) (p .j) part (w .5 .taken) (pre .2) (w .6 .taken) f in
-    let n : q .at + p .used ≡ length job = omega (arith, owed-end part (p .used) (p .j) (a .curves) f, p .inv .fits) in
-    inr (Truncated (length job), w .10, fault (k .before) (w .0 .taken) 1 (q .at + p .used) (omega (arith, w .2 .left)) e ∙ ap (refused 1) n))
+    let f = subst (Answers part (p .used) (bit (p .j) (getD part 0 0)) (p .j) (a .curves)) (w .8 .given .1) (w .6 .ensures) in
+    let e = p .inv .goes ∙ answer-owed 1 3 4 (a .curves) (getD part 0 0) (p .set) (q .at) (p .used) (p .j) part (w .5 .taken) (pre .2) f in
+    let n : q .at + p .used ≡ length job = omega (arith, owed-end part (p .used) (bit (p .j) (getD part 0 0)) (p .j) (a .curves) f, p .inv .fits) in
+    inr (Truncated (length job), w .9, fault (k .before) (w .0 .taken) 1 (q .at + p .used) (omega (arith, w .2 .left)) e ∙ ap (refused 1) n))
     (⊎-elim
     (λ w.
     let p = w .4 in
-    let f = subst (Answers part (p .used) (p .j) (a .curves)) (w .9 .given .1) (w .7 .ensures) in
-    let e = p .inv .goes ∙ answer-empty 1 3 4 (a .curves) (getD part 0 0) (p .set) (q .at) (p .used) (p .j) part (w .5 .taken) (pre .2) (w .6 .taken) f in
-    inr (EmptyGroup (q .at + p .used), w .10, fault (k .before) (w .0 .taken) 3 (q .at + p .used) (omega (arith, w .2 .left)) e))
+    let f = subst (Answers part (p .used) (bit (p .j) (getD part 0 0)) (p .j) (a .curves)) (w .8 .given .1) (w .6 .ensures) in
+    let e = p .inv .goes ∙ answer-empty 1 3 4 (a .curves) (getD part 0 0) (p .set) (q .at) (p .used) (p .j) part (w .5 .taken) (pre .2) f in
+    inr (EmptyGroup (q .at + p .used), w .9, fault (k .before) (w .0 .taken) 3 (q .at + p .used) (omega (arith, w .2 .left)) e))
     (λ w.
     let p = w .4 in
-    let f = subst (Answers part (p .used) (p .j) (a .curves)) (w .9 .given .1) (w .7 .ensures) in
-    let e = p .inv .goes ∙ answer-unknown 1 3 4 (a .curves) (getD part 0 0) (p .set) (q .at) (p .used) (p .j) part (w .5 .taken) (pre .2) (w .6 .taken) f in
-    inr (UnknownCurve (q .at + p .used), w .10, fault (k .before) (w .0 .taken) 4 (q .at + p .used) (omega (arith, w .2 .left)) e)))))
+    let f = subst (Answers part (p .used) (bit (p .j) (getD part 0 0)) (p .j) (a .curves)) (w .8 .given .1) (w .6 .ensures) in
+    let e = p .inv .goes ∙ answer-unknown 1 3 4 (a .curves) (getD part 0 0) (p .set) (q .at) (p .used) (p .j) part (w .5 .taken) (pre .2) f in
+    inr (UnknownCurve (q .at + p .used), w .9, fault (k .before) (w .0 .taken) 4 (q .at + p .used) (omega (arith, w .2 .left)) e)))))
     (k .tests-test .came)
-
-enum-known-answer : tie.Need-enum-known-answer Inv-loop μ-loop Inv-tests μ-tests
-enum-known-answer c = search needs
-
-enum-told-4 : tie.Need-enum-told-4 Inv-loop μ-loop Inv-tests μ-tests
-enum-told-4 c = search needs
 
 same-length : tie.Need-same-length Inv-loop μ-loop Inv-tests μ-tests
 same-length c = c .before .before .before .before .tests .inv .long
@@ -246,40 +168,8 @@ returns-2 c =
 
 pub read-records-spec : {M : Type 1} → statement M
 read-records-spec =
-    tie.close
-    (tie.spec
-    Inv-loop
-    μ-loop
-    Inv-tests
-    μ-tests
-    tests-holds
-    sub-rest
-    part-rest-start
-    part-rest-end
-    shared-slice-read-map
-    loop-holds
-    cast-if2
-    shr-if2
-    read-group-requires
-    enum-known-group
-    add-used
-    enum-told
-    enum-told-2
-    add-offset
-    enum-told-3
-    add-offset-2
-    add-j
-    loop-less
-    loop-again
-    mul-list
-    slice-write-list
-    add-at
-    add-t
-    tests-less
-    tests-again
-    enum-known-answer
-    enum-told-4
-    same-length
-    returns
-    same-length-2
-    returns-2)
+    tie.close (tie.spec Inv-loop μ-loop Inv-tests μ-tests tests-holds (λ c. search needs) (λ c. search needs) (λ c. search needs) (λ c. search needs)
+    loop-holds (λ c κs. search needs) (λ c. search needs) (λ c. search needs) (λ c. search needs) (λ c. search needs) add-used (λ c. search needs)
+    (λ c. search needs) (λ c. search needs) (λ c. search needs) (λ c. search needs) (λ c. search needs) (λ c. search needs) loop-again
+    (λ c. search needs) (λ c. search needs) (λ c. search needs) (λ c. search needs) (λ c. search needs) tests-again (λ c. search needs)
+    (λ c. search needs) same-length returns same-length-2 returns-2)

@@ -7,7 +7,7 @@ use lib.ListN.{length, take, drop}
 use lib.Seq.{length-take-le}
 use denote.Ref.{now}
 use borrow.Author.Needs.{needs}
-use Rattle.job.specs.Refusal.{done, number, figure, readOutcome}
+use Rattle.job.specs.Refusal.{done, readOutcome}
 use Rattle.job_bytes.specs.SetBytes.{got}
 use Rattle.job_bytes.specs.JobBytes.{readRecords}
 use Rattle.job.proofs.Laws.{count-done, count-refused, mapped-refused}
@@ -29,26 +29,23 @@ sets c = take (c .before .before .before .before .before .before .before .before
 
 records : (c : tie.After-end)
     → let a = c .before .before .before .before .before .before .before .before .args in
-    readRecords (a .head .curves) (a .head .tests) [] (a .start) (drop (a .start) (now (a .job))) ≡ done (got (sets c) (end c) (drop (end c) (now (a .job))))
+    readRecords (a .head .rig .curves) (a .head .tests) [] (a .start) (drop (a .start) (now (a .job))) ≡ done (got (sets c) (end c) (drop (end c) (now (a .job))))
 records c =
     let k = c .before .before .before .before .before .before .before .before in
     let a = k .args in
     let r = c .before .before .before .read-records in
-    records-got (now (a .job)) (a .head .curves) (a .head .tests) (a .start) (end c) (sets c) (head-within (now (a .job)) (a .head) (a .start) (k .pre))
+    records-got (now (a .job)) (a .head .rig .curves) (a .head .tests) (a .start) (end c) (sets c) (head-within (now (a .job)) (a .head) (a .start) (k .pre))
     (count-done (r .result) _ (end c) (r .ensures .0) (c .end .given .1)) (r .ensures .1)
 
 some : (c : tie.After-end) → 0 < c .before .before .before .before .before .before .before .before .args .head .tests
 some c = omega (arith, c .before .before .before .before .before .if1 .left)
 
 returns : tie.Need-returns
-unfolding readOutcome number figure
+unfolding readOutcome
 returns c =
     let k = c .before .before .before in
     let a = k .args in
     job-refused (now (a .job)) (now (a .wants)) 5 0 (whole-none (now (a .job)) (a .head) (a .start) (k .pre) (c .if1 .taken))
-
-slice-aggregate-read-records : tie.Need-slice-aggregate-read-records
-slice-aggregate-read-records c = search needs
 
 read-records-requires : tie.Need-read-records-requires
 read-records-requires c κs =
@@ -58,14 +55,8 @@ read-records-requires c κs =
     let h = head-range bs _ (k .pre) in
     (head-within bs (a .head) (a .start) (k .pre), h .tests, h .curves .1)
 
-enum-known-r : tie.Need-enum-known-r
-enum-known-r c = search needs
-
-enum-known-end : tie.Need-enum-known-end
-enum-known-end c = search needs
-
 returns-2 : tie.Need-returns-2
-unfolding readOutcome number figure
+unfolding readOutcome
 returns-2 c =
     let k = c .before .before .before .before .before .before .before .before .before .before in
     let a = k .args in
@@ -74,16 +65,13 @@ returns-2 c =
     (whole-more (now (a .job)) (a .head) (a .start) (k .pre) (some d) (sets d) (end d) (records d) (c .if2 .taken))
 
 returns-3 : tie.Need-returns-3
-unfolding readOutcome number figure
+unfolding readOutcome
 returns-3 c =
     let k = c .before .before .before .before .before .before .before .before .before .before .before in
     let a = k .args in
     let d = c .before .before .before in
     job-short (now (a .job)) (now (a .wants)) _
     (whole-read (now (a .job)) (a .head) (a .start) (k .pre) (some d) (sets d) (end d) (records d) (c .before .if2 .left)) (c .if3 .taken)
-
-slice-aggregate-copy-front : tie.Need-slice-aggregate-copy-front
-slice-aggregate-copy-front c = search needs
 
 copy-front-requires : tie.Need-copy-front-requires
 copy-front-requires c κs =
@@ -102,9 +90,6 @@ returns-4 c =
     let r = c .before .before .before .before .read-records in
     job-refused bs old _ _ (whole-fault bs (a .head) (a .start) (k .pre) some _ _ (mapped-refused _ _ _ _ (count-refused (r .result) _ _ (r .ensures .0) (c .before .r .given .1))))
 
-same-length : tie.Need-same-length
-same-length c = search needs
-
 returns-5 : tie.Need-returns-5
 unfolding readOutcome
 returns-5 c =
@@ -119,17 +104,5 @@ returns-5 c =
 
 pub read-tests-spec : {M : Type 1} → statement M
 read-tests-spec =
-    tie.close
-    (tie.spec
-    returns
-    slice-aggregate-read-records
-    read-records-requires
-    enum-known-r
-    enum-known-end
-    returns-2
-    returns-3
-    slice-aggregate-copy-front
-    copy-front-requires
-    returns-4
-    same-length
-    returns-5)
+    tie.close (tie.spec returns (λ c. search needs) read-records-requires (λ c. search needs) (λ c. search needs) returns-2 returns-3
+    (λ c. search needs) copy-front-requires returns-4 (λ c. search needs) returns-5)

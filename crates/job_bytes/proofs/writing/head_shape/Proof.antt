@@ -23,17 +23,11 @@ loop-holds c =
     let n = none (now (c .before .args .values)) 4 (omega (arith, rows)) in
     (omega (arith, rows), sym (n .0), omega (arith, ap length (n .1)), omega arith)
 
-sub-j : tie.Need-sub-j Inv-loop μ-loop
-sub-j c = search needs
-
 row-requires : tie.Need-row-requires Inv-loop μ-loop
 row-requires c κs = omega (arith, rows)
 
 mul-map : tie.Need-mul-map Inv-loop μ-loop
 mul-map c = omega (arith, map-small (now (c .before .before .before .before .args .values)) (c .before .before .loop .j))
-
-mul-if1 : tie.Need-mul-if1 Inv-loop μ-loop
-mul-if1 c = search needs
 
 shared-slice-read-if1 : tie.Need-shared-slice-read-if1 Inv-loop μ-loop
 shared-slice-read-if1 c = omega (arith, rows)
@@ -43,9 +37,6 @@ add-map c = omega (arith, map-small (now (c .before .before .before .before .bef
 
 add-len : tie.Need-add-len Inv-loop μ-loop
 add-len c = omega (arith, c .before .before .before .before .row .ensures)
-
-loop-less : tie.Need-loop-less Inv-loop μ-loop
-loop-less c = search needs
 
 loop-again : tie.Need-loop-again Inv-loop μ-loop
 loop-again c =
@@ -57,9 +48,6 @@ loop-again c =
     let m = rw n at (stands-map vs j (r .result) (r .ensures .0) (omega (arith, rows)) (c .before .if1 .taken)) in
     let l = rw n at (stands-long vs j (r .result) (r .ensures .0) (omega (arith, rows)) (c .before .if1 .taken)) in
     (omega arith, omega arith, omega arith, omega (arith, r .ensures .1))
-
-loop-less-2 : tie.Need-loop-less-2 Inv-loop μ-loop
-loop-less-2 c = search needs
 
 loop-again-2 : tie.Need-loop-again-2 Inv-loop μ-loop
 loop-again-2 c =
@@ -80,20 +68,5 @@ returns c =
 
 pub head-shape-spec : {M : Type 1} → statement M
 head-shape-spec =
-    tie.close
-    (tie.spec
-    Inv-loop
-    μ-loop
-    loop-holds
-    sub-j
-    row-requires
-    mul-map
-    mul-if1
-    shared-slice-read-if1
-    add-map
-    add-len
-    loop-less
-    loop-again
-    loop-less-2
-    loop-again-2
-    returns)
+    tie.close (tie.spec Inv-loop μ-loop loop-holds (λ c. search needs) row-requires mul-map (λ c. search needs) shared-slice-read-if1 add-map add-len
+    (λ c. search needs) loop-again (λ c. search needs) loop-again-2 returns)

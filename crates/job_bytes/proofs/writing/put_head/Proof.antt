@@ -108,21 +108,5 @@ returns c =
 
 pub put-head-spec : {M : Type 1} → statement M
 put-head-spec =
-    tie.close
-    (tie.spec
-    Inv-loop
-    μ-loop
-    slice-write-out
-    loop-holds
-    row-requires
-    mul-value
-    shared-slice-read-value
-    add-j
-    put-number-requires
-    add-at
-    loop-less
-    loop-again
-    loop-less-2
-    loop-again-2
-    same-length
-    returns)
+    tie.close (tie.spec Inv-loop μ-loop slice-write-out loop-holds row-requires mul-value shared-slice-read-value add-j put-number-requires add-at
+    loop-less loop-again loop-less-2 loop-again-2 same-length returns)

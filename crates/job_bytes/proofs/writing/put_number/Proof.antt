@@ -5,7 +5,7 @@ use native.Mathlib.Omega.{arith}
 use lib.ListN.{length, length-set}
 use borrow.Author.Needs.{needs}
 use Rattle.job_bytes.specs.JobBytes.{numberBytes}
-use Rattle.job_bytes.proofs.Encoding.{sets-cons}
+use Rattle.lists.proofs.Overwritten.{sets-cons}
 use Rattle.job_bytes.proofs.writing.put_number.Statement.{statement}
 use Rattle.job_bytes.proofs.writing.put_number.Tie as tie
 
@@ -22,21 +22,6 @@ loop-holds c =
     let w : c .args .width - 0 ≡ c .args .width = omega arith in
     (omega arith, refl, rw (z, w) refl)
 
-cast-out : tie.Need-cast-out Inv-loop μ-loop
-cast-out c = search needs
-
-add-out : tie.Need-add-out Inv-loop μ-loop
-add-out c = search needs
-
-slice-write-out : tie.Need-slice-write-out Inv-loop μ-loop
-slice-write-out c = search needs
-
-add-k : tie.Need-add-k Inv-loop μ-loop
-add-k c = search needs
-
-loop-less : tie.Need-loop-less Inv-loop μ-loop
-loop-less c = search needs
-
 loop-again : tie.Need-loop-again Inv-loop μ-loop
 unfolding numberBytes
 loop-again c =
@@ -46,9 +31,6 @@ loop-again c =
     let n : a .at + l .k + 1 ≡ a .at + (l .k + 1) = omega arith in
     (omega arith, simp length-set (l .inv .1), l .inv .2 ∙ rw (w, ← n) (sets-cons (l .out) (a .at + l .k) (l .rest % 256) (numberBytes (a .width - (l .k + 1)) (l .rest / 256))))
 
-same-length : tie.Need-same-length Inv-loop μ-loop
-same-length c = search needs
-
 returns : tie.Need-returns Inv-loop μ-loop
 unfolding numberBytes
 returns c =
@@ -56,4 +38,6 @@ returns c =
     sym (rw z at (c .before .loop .inv .2))
 
 pub put-number-spec : {M : Type 1} → statement M
-put-number-spec = tie.close (tie.spec Inv-loop μ-loop loop-holds cast-out add-out slice-write-out add-k loop-less loop-again same-length returns)
+put-number-spec =
+    tie.close (tie.spec Inv-loop μ-loop loop-holds (λ c. search needs) (λ c. search needs) (λ c. search needs) (λ c. search needs) (λ c. search needs)
+    loop-again (λ c. search needs) returns)

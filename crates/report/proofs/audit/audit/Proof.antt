@@ -1,5 +1,5 @@
 -- `report::audit::audit` meets its contract: reading into a list of 256 entries gives the wants.
-use mathlib.Core.Path.{_≡_, refl, sym, _∙_}
+use mathlib.Core.Path.{_≡_, sym, _∙_}
 use Prim.Native.Nat.{_≤_}
 use native.Mathlib.Omega.{arith}
 use lib.ListN.{length, take}
@@ -8,23 +8,11 @@ use Rattle.job.specs.Refusal.{done}
 use Rattle.job_bytes.specs.JobBytes.{readBytes}
 use Rattle.job_bytes.proofs.SetRoundTrip.{Bytes}
 use Rattle.job.proofs.Laws.{read-refused, read-done}
-use Rattle.curveplan.proofs.Reading.{bytes-of, answer-refused, answer-done}
+use Rattle.planned.proofs.Reading.{bytes-of, answer-refused, answer-done}
 use Rattle.report.proofs.Auditing.{job-refused, job-done}
 use borrow.Author.Needs.{needs}
 use Rattle.report.proofs.audit.audit.Statement.{statement}
 use Rattle.report.proofs.audit.audit.Tie as tie
-
-slice-aggregate-read-job : tie.Need-slice-aggregate-read-job
-slice-aggregate-read-job c = search needs
-
-read-job-requires : tie.Need-read-job-requires
-read-job-requires c κs = search needs
-
-enum-known-r : tie.Need-enum-known-r
-enum-known-r c = search needs
-
-enum-known-head : tie.Need-enum-known-head
-enum-known-head c = search needs
 
 -- the job's entries are bytes
 bytes : (c : tie.After-shared-slice-known) → Bytes (now (c .before .args .job))
@@ -37,7 +25,7 @@ read : (c : tie.After-known-told2) →
     (readBytes (now (c .before .before .before .before .before .before .before .before .args .job)) ≡ done (record { head = h; wants = take (h .tests) w })) × (length (take (h .tests) w) ≡ h .tests) × (h .tests ≤ 256)
 read c =
     let r = c .before .before .before .before .read-job in
-    let x = answer-done (now (c .before .before .before .before .before .before .before .before .args .job)) _ (bytes (c .before .before .before .before .before .before .before)) refl _ _ (read-done _ _ _ (r .ensures .0) (c .before .head .given .1)) (r .ensures .1) in
+    let x = answer-done (now (c .before .before .before .before .before .before .before .before .args .job)) _ (bytes (c .before .before .before .before .before .before .before)) (omega arith) _ _ (read-done _ _ _ (r .ensures .0) (c .before .head .given .1)) (r .ensures .1) in
     (x .read, x .tests, x .few)
 
 array-share-prefix-wants : tie.Need-array-share-prefix-wants
@@ -53,21 +41,12 @@ returns : tie.Need-returns
 returns c =
     let a = c .before .before .before .before .before .before .before .before .args in
     let r = c .before .before .before .before .read-job in
-    job-refused (now (a .job)) (now (a .plan)) _ (answer-refused (now (a .job)) _ (bytes (c .before .before .before .before .before .before .before)) refl _ _ (read-refused _ _ _ (r .ensures .0) (c .before .r .given .1)))
+    job-refused (now (a .job)) (now (a .plan)) _ (answer-refused (now (a .job)) _ (bytes (c .before .before .before .before .before .before .before)) (omega arith) _ _ (read-refused _ _ _ (r .ensures .0) (c .before .r .given .1)))
 
 returns-2 : tie.Need-returns-2
 returns-2 c = let a = c .before .before .before .before .before .before .before .before .before .before .args in c .audit-plan .ensures ∙ job-done (now (a .job)) (now (a .plan)) _ (read (c .before .before) .0)
 
 pub audit-spec : {M : Type 1} → statement M
 audit-spec =
-    tie.close
-    (tie.spec
-    slice-aggregate-read-job
-    read-job-requires
-    enum-known-r
-    enum-known-head
-    array-share-prefix-wants
-    slice-aggregate-audit-plan
-    audit-plan-requires
-    returns
-    returns-2)
+    tie.close (tie.spec (λ c. search needs) (λ c κs. search needs) (λ c. search needs) (λ c. search needs) array-share-prefix-wants
+    slice-aggregate-audit-plan audit-plan-requires returns returns-2)

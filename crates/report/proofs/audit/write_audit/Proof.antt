@@ -1,7 +1,7 @@
 -- `report::audit::write_audit` meets its contract. That the fewest loads are at most the plan's is `audit-fewer`.
 use native.Mathlib.Omega.{arith}
 use denote.Ref.{now}
-use Rattle.curveplan.proofs.Reading.{bytes-of}
+use Rattle.planned.proofs.Reading.{bytes-of}
 use Rattle.report.specs.declared.audit.Audited.{Audited}
 use Rattle.report.specs.Report.{text}
 use Rattle.report.specs.Audit.{auditedOutcome, auditText}
@@ -11,39 +11,12 @@ use borrow.Author.Needs.{needs}
 use Rattle.report.proofs.audit.write_audit.Statement.{statement}
 use Rattle.report.proofs.audit.write_audit.Tie as tie
 
-audit-requires : tie.Need-audit-requires
-audit-requires c κs = search needs
-
-enum-known-r : tie.Need-enum-known-r
-enum-known-r c = search needs
-
-slice-aggregate-write-refusal : tie.Need-slice-aggregate-write-refusal
-slice-aggregate-write-refusal c = search needs
-
-write-refusal-requires : tie.Need-write-refusal-requires
-write-refusal-requires c κs = search needs
-
-enum-known-r-2 : tie.Need-enum-known-r-2
-enum-known-r-2 c = search needs
-
-slice-aggregate-write-refusal-2 : tie.Need-slice-aggregate-write-refusal-2
-slice-aggregate-write-refusal-2 c = search needs
-
-write-refusal-requires-2 : tie.Need-write-refusal-requires-2
-write-refusal-requires-2 c κs = search needs
-
-enum-known-loads : tie.Need-enum-known-loads
-enum-known-loads c = search needs
-
 write-counts-requires : tie.Need-write-counts-requires
 unfolding auditedOutcome
 write-counts-requires c κs =
     let a = c .before .before .before .before .before .before .before .before .args in
     let bytes = bytes-of (now (a .job)) (λ k l. omega (arith, c .before .before .before .before .before .before .before .shared-slice-known .given k)) in
     audit-fewer (now (a .job)) (now (a .plan)) _ bytes (audited (Audited.Counts _ _) (c .before .before .loads .given .1) (c .before .before .before .before .audit .ensures))
-
-same-length : tie.Need-same-length
-same-length c = search needs
 
 returns : tie.Need-returns
 unfolding auditedOutcome auditText
@@ -52,18 +25,12 @@ returns c =
     let e = audited (Audited.JobRefused _) (c .before .before .before .before .before .before .r .given .1) (c .before .before .before .before .before .before .before .before .audit .ensures) in
     audit-written (now (a .job)) (now (a .plan)) (now (a .out)) e (c .before .before .write-refusal .ensures)
 
-same-length-2 : tie.Need-same-length-2
-same-length-2 c = search needs
-
 returns-2 : tie.Need-returns-2
 unfolding auditedOutcome auditText text
 returns-2 c =
     let a = c .before .before .before .before .before .before .before .before .before .before .before .before .args in
     let e = audited (Audited.PlanRefused _) (c .before .before .before .before .before .before .r2 .given .1) (c .before .before .before .before .before .before .before .before .audit .ensures) in
     audit-written (now (a .job)) (now (a .plan)) (now (a .out)) e (c .before .before .write-refusal2 .ensures)
-
-same-length-3 : tie.Need-same-length-3
-same-length-3 c = search needs
 
 returns-3 : tie.Need-returns-3
 unfolding auditedOutcome
@@ -74,20 +41,6 @@ returns-3 c =
 
 pub write-audit-spec : {M : Type 1} → statement M
 write-audit-spec =
-    tie.close
-    (tie.spec
-    audit-requires
-    enum-known-r
-    slice-aggregate-write-refusal
-    write-refusal-requires
-    enum-known-r-2
-    slice-aggregate-write-refusal-2
-    write-refusal-requires-2
-    enum-known-loads
-    write-counts-requires
-    same-length
-    returns
-    same-length-2
-    returns-2
-    same-length-3
+    tie.close (tie.spec (λ c κs. search needs) (λ c. search needs) (λ c. search needs) (λ c κs. search needs) (λ c. search needs) (λ c. search needs)
+    (λ c κs. search needs) (λ c. search needs) write-counts-requires (λ c. search needs) returns (λ c. search needs) returns-2 (λ c. search needs)
     returns-3)

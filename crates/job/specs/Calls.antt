@@ -1,0 +1,24 @@
+-- What a call is handed is examined before anything is made: "Handed lists and counts: 5, 10 in its own order, then for ordering 7, 9; planning 8, 7, 9;
+-- writing a job 9; checking 8, 12". As far as nothing is lent: 9, and 12, which is of the plan, come behind.
+use mathlib.Core.List.{List}
+use Prim.Native.Nat.{ℕ}
+use lib.ListN.{length}
+use Rattle.job.specs.Refusal.{Outcome, _>>_}
+use Rattle.job.specs.Words.{Job, capacity}
+use Rattle.job.specs.Handed.{wantsFit, jobKnownBy, jobKnown}
+use Rattle.job.specs.Order.{orderKnown}
+
+unfoldable pub orderingKnown : ℕ → Job → Outcome (Unit {0})
+orderingKnown method j = do
+  jobKnownBy method j
+  wantsFit (capacity (j .rig)) (j .wants)
+
+unfoldable pub checkingKnown : Job → List ℕ → Outcome (Unit {0})
+checkingKnown j order = do
+  jobKnown j
+  orderKnown (length (j .wants)) order
+
+unfoldable pub planningKnown : Job → List ℕ → Outcome (Unit {0})
+planningKnown j order = do
+  checkingKnown j order
+  wantsFit (capacity (j .rig)) (j .wants)

@@ -1,0 +1,63 @@
+-- `planned::order_and_plan` meets its contract: the order stands in the first entries of the list.
+use mathlib.Core.Path.{_≡_, refl, sym, _∙_}
+use Prim.Native.Nat.{_≤_}
+use native.Mathlib.Omega.{arith}
+use lib.ListN.{length, take}
+use denote.Ref.{now}
+use borrow.Author.Needs.{needs}
+use Rattle.job.specs.Refusal.{done, countOutcome, mapped, leaves}
+use Rattle.job.proofs.Laws.{count-refused, count-done}
+use Rattle.job_bytes.specs.JobBytes.{Request}
+use Rattle.planning.specs.Plan.{planOf, entries}
+use Rattle.planned.specs.Planned.{orderRequest}
+use Rattle.planned.proofs.Stages.{order-left, order-refused, order-given, plan-answer, plan-left, not-ordered, ordered}
+use Rattle.planned.proofs.order_and_plan.Statement.{statement}
+use Rattle.planned.proofs.order_and_plan.Tie as tie
+
+returns : tie.Need-returns
+unfolding countOutcome mapped leaves
+returns c =
+    let s = c .before .before .before .before .before .before .before .before .before .before .before in
+    let a = s .args in
+    let q : Request = record { head = a .head; wants = now (a .wants) } in
+    let t = c .before .before .before .before .before .order-tests in
+    let e = order-refused q (s .pre .0 .1) (now (a .order)) (omega (arith, s .pre .0 .0, s .pre .1 .0)) _ _ (count-refused _ _ _ (t .ensures .0) (c .before .r .given .1)) in
+    let w = t .ensures .1 ∙ order-left q (s .pre .0 .1) (now (a .order)) (omega (arith, s .pre .0 .0, s .pre .1 .0)) in
+    let n = not-ordered q (s .pre .0 .1) _ _ e in
+    (rw n refl, (w, rw n refl))
+
+-- the order that ordering gave
+given : (c : tie.After-enum-told)
+    → let a = c .before .before .before .before .before .before .before .before .before .before .args in
+    let n = a .head .tests in
+    let O′ = c .before .before .before .before .order-tests .last .1 .1 .1 .0 in
+    (orderRequest (record { head = a .head; wants = now (a .wants) }) ≡ done (take n O′)) × (length (take n O′) ≡ n)
+given c =
+    let s = c .before .before .before .before .before .before .before .before .before .before in
+    let a = s .args in
+    let t = c .before .before .before .before .order-tests in
+    order-given (record { head = a .head; wants = now (a .wants) }) (s .pre .0 .1) (now (a .order)) (omega (arith, s .pre .0 .0, s .pre .1 .0)) _ _
+    (count-done _ _ _ (t .ensures .0) (c .enum-told .given .1)) (t .ensures .1)
+
+slice-aggregate-plan : tie.Need-slice-aggregate-plan
+slice-aggregate-plan c = sym (given (c .before) .1)
+
+returns-2 : tie.Need-returns-2
+returns-2 c =
+    let s = c .before .before .before .before .before .before .before .before .before .before .before .before .before .before .before .before .before .before in
+    let a = s .args in
+    let q : Request = record { head = a .head; wants = now (a .wants) } in
+    let lent = planOf (now (a .drops)) (now (a .loads)) in
+    let t = c .before .before .before .before .before .before .before .before .before .before .before .before .order-tests in
+    let g = given (c .before .before .before .before .before .before .before .before) in
+    let o = ordered q (s .pre .0 .1) _ (g .0) in
+    let long : a .head .tests ≤ entries lent = omega (arith, s .pre .0 .0, s .pre .1 .1, s .pre .1 .2) in
+    let p = c .before .before .before .before .plan .ensures in (
+      rw o (p .0 ∙ plan-answer q (s .pre .0 .1) _ lent long),
+      (t .ensures .1 ∙ order-left q (s .pre .0 .1) (now (a .order)) (omega (arith, s .pre .0 .0, s .pre .1 .0)), rw o (p .1 .0 ∙ plan-left q (s .pre .0 .1) _ lent long)),
+    )
+
+pub order-and-plan-spec : {M : Type 1} → statement M
+order-and-plan-spec =
+    tie.close (tie.spec (λ c κs. search needs) (λ c. search needs) (λ c. search needs) returns (λ c. search needs) (λ c. search needs)
+    slice-aggregate-plan (λ c κs. search needs) (λ c. search needs) (λ c. search needs) (λ c. search needs) returns-2)

@@ -1,0 +1,56 @@
+-- What the stages answer together, and what the lists hold afterwards that are lent to them: each stage fills its own, and nothing changes where it is not
+-- reached. Words that only contracts of functions cite which a caller of the library does not see.
+use mathlib.Core.List.{List}
+use Prim.Native.Nat.{ℕ, min}
+use lib.ListN.{length}
+use Rattle.job.specs.declared.Head.{Head}
+use Rattle.job.specs.Refusal.{Outcome, done, refused, number, figure, _>>=_, _>>_, mapped, room, leaves}
+use Rattle.job_bytes.specs.JobBytes.{readBytes}
+use Rattle.drive.specs.Steps.{curveCount}
+use Rattle.planning.specs.Plan.{Plan, planOf, entries}
+use Rattle.planned.specs.declared.JobPlanned.{JobPlanned}
+use Rattle.planned.specs.Planned.{Planned, orderRequest, planJob}
+
+-- the head that was read, and the load count
+pub record Told : Type 0 where
+  pub head : Head
+  pub loads : ℕ
+
+abbrev pub told : Planned → Told
+told p = record { head = p .request .head; loads = curveCount (p .plan .loads) }
+
+unfoldable pub plannedOutcome : JobPlanned → Outcome Told
+plannedOutcome (JobPlanned.Planned h n) = done (record { head = h; loads = n })
+plannedOutcome (JobPlanned.Refused r) = refused (number r) (figure r)
+
+-- what the stages leave in a list of wants, an order and a plan
+pub record Lists : Type 0 where
+  pub wants : List ℕ
+  pub order : List ℕ
+  pub plan : Plan
+
+abbrev pub listsOf : List ℕ → List ℕ → Plan → Lists
+listsOf wants order plan = record { wants = wants; order = order; plan = plan }
+
+abbrev pub leavesPlan : Outcome Planned → Plan → Plan
+leavesPlan o old = planOf (leaves (mapped (λ p. p .plan .drops) o) (old .drops)) (leaves (mapped (λ p. p .plan .loads) o) (old .loads))
+
+unfoldable pub leavesLists : List ℕ → Lists → Lists
+leavesLists bs old =
+    listsOf (leaves (mapped (λ q. q .wants) (readBytes bs)) (old .wants)) (leaves (_>>=_ (readBytes bs) orderRequest) (old .order)) (leavesPlan (planJob bs) (old .plan))
+
+-- the lists take the 256 entries that a job can need, else 9 whatever the job, and nothing changes
+abbrev pub shortest : Lists → ℕ
+shortest l = min (min (length (l .wants)) (length (l .order))) (entries (l .plan))
+
+unfoldable pub planJobAnswer : List ℕ → Lists → Outcome Told
+planJobAnswer bs old = do
+  room (shortest old) 256
+  mapped told (planJob bs)
+
+unfoldable pub keptUnless : Outcome (Unit {0}) → Lists → Lists → Lists
+keptUnless (done tt) old new = new
+keptUnless (refused k i) old new = old
+
+unfoldable pub planJobLists : List ℕ → Lists → Lists
+planJobLists bs old = keptUnless (room (shortest old) 256) old (leavesLists bs old)
