@@ -1,5 +1,7 @@
-//! The reference against itself on random small jobs, and against the tuned implementation.
+//! The reference against itself on random small jobs, and against the two fast
+//! implementations.
 
+use crate::fast;
 use crate::generate::{self, permutation, Size};
 use crate::random::Random;
 use crate::reference::*;
@@ -271,10 +273,13 @@ fn bytes_past_the_longest_job_change_nothing() {
 }
 
 #[test]
-fn tuned_agrees() {
+fn tuned_and_the_c_program_agree() {
     let mut random = Random::new(10);
-    for _ in 0..20_000 {
-        let size = random.pick(&[Size::Tiny, Size::Tiny, Size::Small]);
+    for round in 0..20_000 {
+        let size = match round {
+            0..=99 => random.pick(&[Size::Full, Size::Edge]),
+            _ => random.pick(&[Size::Tiny, Size::Tiny, Size::Small]),
+        };
         let job = generate::any_job_bytes(&mut random, size);
         let length = if random.chance(1, 8) {
             random.below(80)
@@ -284,8 +289,10 @@ fn tuned_agrees() {
         let (number, bytes) = call(&job, length);
         let mut expected = vec![0x5a; length];
         expected[..bytes.len()].copy_from_slice(&bytes);
-        let mut out = vec![0x5a; length];
-        assert_eq!(tuned::call(&job, &mut out), number);
-        assert_eq!(out, expected);
+        for fast in [tuned::call, fast::call] {
+            let mut out = vec![0x5a; length];
+            assert_eq!(fast(&job, &mut out), number);
+            assert_eq!(out, expected);
+        }
     }
 }

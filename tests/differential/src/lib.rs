@@ -1,7 +1,8 @@
 //! An independent implementation of the curve planner's paper (`reference`) and of the small public
-//! functions below it (`parts`), a fast one as the benchmark's baseline (`tuned`), random inputs
-//! (`generate`) and the library under test (`product`, only with the feature of that name).
+//! functions below it (`parts`), two fast ones for the benchmark (`tuned`, and in C `fast`), random
+//! inputs (`generate`) and the library under test (`product`, only with the feature of that name).
 
+pub mod fast;
 pub mod generate;
 pub mod parts;
 pub mod random;

@@ -1,12 +1,14 @@
-//! Times the C call at full size: 256 tests, 64 curves, for the methods 0 to 3.
+//! Times the C call: the library's, the tuned implementation's in Rust, and the C program's, turn and
+//! turn about in one run, and prints a table in Markdown.
 //!
-//!     bench [repetitions]
+//!     bench [rounds]
 //!
-//! Each figure is the median time of one call in microseconds, over all repetitions of 16
-//! different jobs, and in brackets the fastest: on a busy machine the medians wander. With the
-//! feature `product` the library's call is timed in the same run, turn and turn about with the
-//! baseline, and the last column is its median divided by the baseline's.
+//! A row is a method and a kind of list, with 16, 64 and 256 tests on 64 curves: the mean time of the
+//! C program for a job, and those of the others as ratios to it. Of each job the fastest of all rounds
+//! counts, so that other work on the machine does not. Lists of fewer tests come in more different
+//! jobs, so that no list is learnt by heart by the processor.
 
+use differential::fast;
 use differential::generate;
 use differential::random::Random;
 use differential::tuned;
@@ -16,106 +18,224 @@ use std::time::Instant;
 #[cfg(feature = "product")]
 use differential::product;
 
-const JOBS: usize = 16;
+const TESTS: [usize; 3] = [16, 64, 256];
+/// Tests of all jobs of a row together.
+const ALL_TESTS: usize = 16 * 256;
+const CURVES: usize = 64;
 const PLAN: usize = 5_120;
 
 type Call = fn(&[u8], &mut [u8]) -> u64;
 
-/// Jobs of 256 tests and 64 curves, each test wanting `low` to `high` curves.
-fn jobs(places: usize, method: usize, low: usize, high: usize) -> Vec<Vec<u8>> {
-    let mut random = Random::new((places * 1_000 + high) as u64);
-    (0..JOBS)
-        .map(|_| {
-            let wants = (0..256)
-                .map(|_| {
-                    let number = random.between(low, high);
-                    generate::random_set(&mut random, 64, number)
-                })
-                .collect();
-            generate::job_bytes(&generate::Job {
+/// Places, and the least and most curves that a test wants.
+#[derive(Clone, Copy)]
+struct Kind {
+    name: &'static str,
+    places: usize,
+    low: usize,
+    high: usize,
+}
+
+fn kinds() -> Vec<Kind> {
+    let mut kinds = Vec::new();
+    for (name, places, low, high) in [
+        ("few", 8, 1, 3),
+        ("many", 8, 6, 8),
+        ("few", 32, 2, 8),
+        ("many", 32, 24, 32),
+    ] {
+        kinds.push(Kind {
+            name,
+            places,
+            low,
+            high,
+        });
+    }
+    for places in [8, 16, 32] {
+        for (name, low, high) in [
+            ("full", places, places),
+            ("half", places / 2, places / 2),
+            ("mixed", 1, places),
+        ] {
+            kinds.push(Kind {
+                name,
                 places,
-                curves: 64,
-                method,
-                wants,
+                low,
+                high,
+            });
+        }
+    }
+    kinds
+}
+
+impl Kind {
+    fn wants(&self) -> String {
+        if self.low == self.high {
+            format!("{} ({})", self.name, self.low)
+        } else {
+            format!("{} ({}-{})", self.name, self.low, self.high)
+        }
+    }
+
+    /// The same lists for every method.
+    fn jobs(&self, method: usize, tests: usize) -> Vec<Vec<u8>> {
+        let seed = ((self.places * 100 + self.low) * 100 + self.high) * 1_000 + tests;
+        let mut random = Random::new(seed as u64);
+        (0..ALL_TESTS / tests)
+            .map(|_| {
+                let wants = (0..tests)
+                    .map(|_| {
+                        let number = random.between(self.low, self.high);
+                        generate::random_set(&mut random, CURVES, number)
+                    })
+                    .collect();
+                generate::job_bytes(&generate::Job {
+                    places: self.places,
+                    curves: CURVES,
+                    method,
+                    wants,
+                })
             })
-        })
-        .collect()
+            .collect()
+    }
+}
+
+/// All calls answer the same.
+fn agree(calls: &[(&str, Call)], job: &[u8]) {
+    let mut plan = vec![0x5a; PLAN];
+    let answer = calls[0].1(job, &mut plan);
+    assert!(answer < 65_536, "refused");
+    for (name, call) in &calls[1..] {
+        let mut other = vec![0x5a; PLAN];
+        assert_eq!(call(job, &mut other), answer, "{name}");
+        assert_eq!(other, plan, "{name}");
+    }
 }
 
 /// The time of one call, in nanoseconds.
-fn time(call: Call, job: &[u8], plan: &mut [u8], expected: u64) -> u64 {
+fn time(call: Call, job: &[u8], plan: &mut [u8]) -> u64 {
     let start = Instant::now();
     let answer = call(black_box(job), black_box(plan));
     let spent = start.elapsed().as_nanos() as u64;
-    assert_eq!(black_box(answer), expected);
+    black_box(answer);
     spent
 }
 
-fn median(times: &mut [u64]) -> f64 {
-    times.sort_unstable();
-    let middle = times.len() / 2;
-    if times.len() % 2 == 1 {
-        times[middle] as f64
-    } else {
-        (times[middle - 1] + times[middle]) as f64 / 2.0
+fn no_call(_: &[u8], _: &mut [u8]) -> u64 {
+    0
+}
+
+/// The mean time of a job for each call, in nanoseconds.
+fn measure(calls: &[(&str, Call)], jobs: &[Vec<u8>], rounds: usize) -> Vec<f64> {
+    let mut plan = vec![0; PLAN];
+    let clock = (0..1_000)
+        .map(|_| time(no_call, &[], &mut plan))
+        .min()
+        .unwrap();
+    let mut least = vec![vec![u64::MAX; jobs.len()]; calls.len()];
+    for round in 0..rounds {
+        for (j, job) in jobs.iter().enumerate() {
+            for turn in 0..calls.len() {
+                let c = (round + turn) % calls.len();
+                let spent = time(calls[c].1, job, &mut plan);
+                least[c][j] = least[c][j].min(spent.saturating_sub(clock));
+            }
+        }
+    }
+    least
+        .iter()
+        .map(|times| times.iter().sum::<u64>() as f64 / jobs.len() as f64)
+        .collect()
+}
+
+/// The processor's name, where the system tells it.
+fn processor() -> String {
+    let text = std::fs::read_to_string("/proc/cpuinfo").unwrap_or_default();
+    let line = text.lines().find(|line| line.starts_with("model name"));
+    match line.and_then(|line| line.split_once(": ")) {
+        Some((_, name)) => name.to_string(),
+        None => "some processor".to_string(),
     }
 }
 
+/// The largest ratio of a call in the rows of a method, and where it stands.
+#[derive(Clone, Default)]
+struct Worst {
+    ratio: f64,
+    place: String,
+}
+
 fn main() {
-    let repetitions: usize = match std::env::args().nth(1) {
-        Some(text) => text.parse().expect("repetitions: a number"),
-        None => 200,
+    let rounds: usize = match std::env::args().nth(1) {
+        Some(text) => text.parse().expect("rounds: a number"),
+        None => 100,
     };
+    // The first is the one that the others are divided by.
     #[allow(unused_mut)]
-    let mut calls: Vec<(&str, Call)> = vec![("tuned", tuned::call)];
+    let mut calls: Vec<(&str, Call)> = vec![("C program", fast::call), ("tuned", tuned::call)];
     #[cfg(feature = "product")]
-    calls.push(("library", product::call));
+    calls.insert(1, ("library", product::call));
 
     println!(
-        "256 tests, 64 curves; median (fastest) of {} calls, µs",
-        repetitions * JOBS
+        "{}; {CURVES} curves; of each job the fastest of {rounds} calls, mean of {} jobs with {} tests\n",
+        processor(),
+        TESTS.map(|tests| (ALL_TESTS / tests).to_string()).join(", "),
+        TESTS.map(|tests| tests.to_string()).join(", "),
     );
-    print!("{:<8}{:<8}{:<16}", "method", "places", "wants");
-    for (name, _) in &calls {
-        print!("{name:>20}");
+    print!("| method | places | wants |");
+    for (c, (name, _)) in calls.iter().enumerate() {
+        let what = if c == 0 {
+            format!("{name}, µs")
+        } else {
+            format!("{name} / {}", calls[0].0)
+        };
+        print!(
+            " {what}, {} tests | {} | {} |",
+            TESTS[0], TESTS[1], TESTS[2]
+        );
     }
-    println!("{}", if calls.len() > 1 { "     ratio" } else { "" });
+    print!("\n|---|---|---|");
+    println!("{}", "---|".repeat(calls.len() * TESTS.len()));
 
-    for method in 0..4 {
-        for (places, kind, low, high) in [
-            (8, "sparse", 1, 3),
-            (8, "dense", 6, 8),
-            (32, "sparse", 2, 8),
-            (32, "dense", 24, 32),
-        ] {
-            let jobs = jobs(places, method, low, high);
-            let mut plan = vec![0; PLAN];
-            let expected: Vec<u64> = jobs.iter().map(|job| tuned::call(job, &mut plan)).collect();
-            assert!(expected.iter().all(|&answer| answer < 65_536));
-            let mut times = vec![Vec::new(); calls.len()];
-            for round in 0..repetitions + 3 {
-                for (job, &answer) in jobs.iter().zip(&expected) {
-                    for (c, (_, call)) in calls.iter().enumerate() {
-                        let spent = time(*call, job, &mut plan, answer);
-                        // The first rounds only warm up.
-                        if round >= 3 {
-                            times[c].push(spent);
-                        }
+    let mut worst = vec![vec![Worst::default(); calls.len()]; 4];
+    for (method, worst) in worst.iter_mut().enumerate() {
+        for kind in kinds() {
+            let mut cells = vec![Vec::new(); calls.len()];
+            for tests in TESTS {
+                let jobs = kind.jobs(method, tests);
+                for job in &jobs {
+                    agree(&calls, job);
+                }
+                let times = measure(&calls, &jobs, rounds);
+                cells[0].push(format!("{:.1}", times[0] / 1_000.0));
+                for c in 1..calls.len() {
+                    let ratio = times[c] / times[0];
+                    cells[c].push(format!("{ratio:.2}"));
+                    if ratio > worst[c].ratio {
+                        let place =
+                            format!("{} places, {}, {tests} tests", kind.places, kind.wants());
+                        worst[c] = Worst { ratio, place };
                     }
                 }
             }
-            let medians: Vec<f64> = times.iter_mut().map(|list| median(list)).collect();
-            let wants = format!("{kind} {low}-{high}");
-            print!("{method:<8}{places:<8}{wants:<16}");
-            for (median, list) in medians.iter().zip(&times) {
-                // The list is sorted by now.
-                let fastest = format!("({:.2})", list[0] as f64 / 1_000.0);
-                print!("{:>10.2} {fastest:>9}", median / 1_000.0);
-            }
-            if medians.len() > 1 {
-                print!("{:>10.2}", medians[1] / medians[0]);
-            }
-            println!();
+            println!(
+                "| {method} | {} | {} | {} |",
+                kind.places,
+                kind.wants(),
+                cells.concat().join(" | ")
+            );
         }
+    }
+
+    print!("\n| method |");
+    for (name, _) in &calls[1..] {
+        print!(" {name}, worst ratio | in |");
+    }
+    println!("\n|---|{}", "---|---|".repeat(calls.len() - 1));
+    for (method, worst) in worst.iter().enumerate() {
+        print!("| {method} |");
+        for worst in &worst[1..] {
+            print!(" {:.2} | {} |", worst.ratio, worst.place);
+        }
+        println!();
     }
 }

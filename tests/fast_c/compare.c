@@ -1,0 +1,309 @@
+/*
+ * Compares the C program with the library's call on random, damaged, boundary and two-fault jobs: the answer, and every byte of the plan's buffer. Fails on the
+ * first difference, and if some refusal or some method's success never came up. The same jobs in every run.
+ */
+#include <stdio.h>
+#include <string.h>
+
+#include "../../c/curveplan.h"
+#include "fast.h"
+
+#define SMALL_JOBS 60000
+#define LARGE_JOBS 3000
+#define JOB_ROOM (CURVEPLAN_JOB_BYTES + 64)
+#define PLAN_ROOM (CURVEPLAN_PLAN_BYTES + 64)
+#define FILL 0xa5
+
+static uint64_t state = 20261116;
+
+static uint64_t word(void)
+{
+    uint64_t z = state += 0x9e3779b97f4a7c15;
+    z = (z ^ z >> 30) * 0xbf58476d1ce4e5b9;
+    z = (z ^ z >> 27) * 0x94d049bb133111eb;
+    return z ^ z >> 31;
+}
+
+static unsigned below(unsigned bound)
+{
+    return (unsigned)((word() >> 32) * bound >> 32);
+}
+
+static unsigned between(unsigned low, unsigned high)
+{
+    return low + below(high - low + 1);
+}
+
+static unsigned pick(const unsigned *list, unsigned length)
+{
+    return list[below(length)];
+}
+
+#define PICK(...) pick((const unsigned[]){__VA_ARGS__}, sizeof((const unsigned[]){__VA_ARGS__}) / sizeof(unsigned))
+
+/* So many different curves below `curves`. */
+static uint64_t some_curves(unsigned curves, unsigned number)
+{
+    uint64_t set = 0;
+    while (number > 0) {
+        uint64_t curve = (uint64_t)1 << below(curves);
+        if ((set & curve) == 0) {
+            set |= curve;
+            number--;
+        }
+    }
+    return set;
+}
+
+struct bytes {
+    size_t length;
+    uint8_t at[JOB_ROOM];
+};
+
+static void put(struct bytes *job, unsigned byte)
+{
+    if (job->length < JOB_ROOM) {
+        job->at[job->length++] = (uint8_t)byte;
+    }
+}
+
+static void put_record(struct bytes *job, uint64_t set)
+{
+    unsigned map = 0;
+    for (unsigned group = 0; group < 8; group++) {
+        map |= (unsigned)((set >> 8 * group & 255) != 0) << group;
+    }
+    put(job, map);
+    for (unsigned group = 0; group < 8; group++) {
+        if (set >> 8 * group & 255) {
+            put(job, set >> 8 * group & 255);
+        }
+    }
+}
+
+static void put_head(struct bytes *job, unsigned places, unsigned curves, unsigned tests, unsigned method)
+{
+    put(job, (places != 8) | (curves != 64) << 1 | (tests != 0) << 2 | (method != 0) << 3);
+    if (places != 8) {
+        put(job, places);
+    }
+    if (curves != 64) {
+        put(job, curves);
+    }
+    if (tests != 0) {
+        put(job, tests & 255);
+        put(job, tests >> 8);
+    }
+    if (method != 0) {
+        put(job, method);
+    }
+}
+
+/* A job as it should be, but for a test that may want too much. */
+static void random_job(struct bytes *job, int large)
+{
+    unsigned tests = large ? PICK(200, 254, 255, 256, 256, 256, 256, 65, 64, 129) : PICK(1, 2, 3, 4, 5, 8, 15, 16, 17, 30, 63, 64);
+    unsigned curves = large ? PICK(64, 64, 64, 63, 40, 9, 1) : between(1, 64);
+    unsigned places = large ? PICK(1, 2, 7, 8, 8, 16, 32, 33, 48, 63, 64) : PICK(1, 2, 3, 4, 5, 8, 8, 12, 20, 40, 64);
+    unsigned most = places < curves ? places : curves;
+    unsigned kind = below(7);
+    uint64_t families[4];
+    for (unsigned i = 0; i < 4; i++) {
+        families[i] = some_curves(curves, most);
+    }
+    job->length = 0;
+    put_head(job, places, curves, tests, below(4));
+    for (unsigned t = 0; t < tests; t++) {
+        uint64_t set;
+        switch (kind) {
+        case 0:
+            set = some_curves(curves, between(0, most));
+            break;
+        case 1:
+            set = some_curves(curves, between(0, most < 3 ? most : 3));
+            break;
+        case 2:
+            set = some_curves(curves, most);
+            break;
+        case 3:
+            set = some_curves(curves, most / 2);
+            break;
+        case 4: /* parts of a few sets */
+            set = families[below(4)] & (word() | word());
+            break;
+        case 5: /* the same few sets again and again */
+            set = families[below(4)] & (families[0] | families[1]);
+            break;
+        default:
+            set = some_curves(curves, between(most < 3 ? 0 : most - 2, most));
+        }
+        if (below(40 * tests) == 0) {
+            set = some_curves(curves, between(most, curves));
+        }
+        put_record(job, set);
+    }
+}
+
+/* Any map and fields on and around their bounds, and a few records. */
+static void crafted_job(struct bytes *job)
+{
+    unsigned map = below(16) | (below(8) ? 4 : 0) | (below(12) ? 0 : 16u << below(4)), tests = 0;
+    job->length = 0;
+    put(job, map);
+    if (map & 1) {
+        put(job, PICK(1, 2, 3, 7, 9, 63, 64, 0, 8, 65, 255));
+    }
+    if (map & 2) {
+        put(job, PICK(1, 2, 8, 9, 20, 62, 63, 0, 64, 65, 255));
+    }
+    if (map & 4) {
+        tests = PICK(1, 1, 2, 2, 3, 3, 4, 5, 0, 256, 257, 512, 65535);
+        put(job, tests & 255);
+        put(job, tests >> 8);
+    }
+    if (map & 8) {
+        put(job, PICK(1, 1, 2, 2, 3, 3, 0, 4, 255));
+    }
+    for (unsigned t = 0; t < tests && t < 300; t++) {
+        unsigned groups = below(6) ? PICK(0, 1, 1, 1, 3) : below(256);
+        put(job, groups);
+        for (; groups != 0; groups &= groups - 1) {
+            put(job, below(10) ? PICK(1, 1, 1, 2, 3) : below(256));
+        }
+    }
+}
+
+/* One fault, or by luck none. */
+static void damage(struct bytes *job)
+{
+    size_t at = job->length == 0 ? 0 : below((unsigned)(below(3) || job->length < 8 ? job->length : 8));
+    unsigned byte = PICK(0, 0, 1, 2, 3, 7, 8, 9, 15, 16, 63, 64, 65, 128, 255);
+    switch (job->length == 0 ? 5 : below(7)) {
+    case 0:
+        job->at[at] ^= (uint8_t)(1u << below(8));
+        break;
+    case 1:
+        job->at[at] = (uint8_t)byte;
+        break;
+    case 2:
+        job->at[at] = 0;
+        break;
+    case 3:
+        job->length = at;
+        break;
+    case 4:
+        memmove(job->at + at, job->at + at + 1, job->length - at - 1);
+        job->length--;
+        break;
+    case 5:
+        for (unsigned i = between(1, 3); i > 0; i--) {
+            put(job, below(2) ? 0 : below(256));
+        }
+        break;
+    default:
+        if (job->length < JOB_ROOM) {
+            memmove(job->at + at + 1, job->at + at, job->length - at);
+            job->at[at] = (uint8_t)byte;
+            job->length++;
+        }
+    }
+}
+
+static unsigned long refused[16], planned[4], compared;
+
+static int differs(const struct bytes *job, size_t room)
+{
+    static uint8_t ours[PLAN_ROOM], theirs[PLAN_ROOM];
+    memset(ours, FILL, sizeof ours);
+    memset(theirs, FILL, sizeof theirs);
+    uint64_t library = curveplan_plan(job->at, job->length, theirs, room);
+    uint64_t fast = fast_plan(job->at, job->length, ours, room);
+    compared++;
+    if (library == fast && memcmp(ours, theirs, sizeof ours) == 0) {
+        if (!curveplan_refused_16(fast)) {
+            unsigned fields = (job->at[0] & 1u) + (job->at[0] >> 1 & 1u) + 2 * (job->at[0] >> 2 & 1u);
+            planned[job->at[0] & 8 ? job->at[1 + fields] : 0]++;
+        } else {
+            refused[curveplan_number_16(fast) & 15]++;
+        }
+        return 0;
+    }
+    printf("job");
+    for (size_t i = 0; i < job->length; i++) {
+        printf(" %02x", job->at[i]);
+    }
+    printf("\n%zu bytes of room: the library answers %llu, the C program %llu", room, (unsigned long long)library, (unsigned long long)fast);
+    for (size_t i = 0; i < sizeof ours; i++) {
+        if (ours[i] != theirs[i]) {
+            printf("; byte %zu: %02x, %02x", i, theirs[i], ours[i]);
+            break;
+        }
+    }
+    printf("\n");
+    return 1;
+}
+
+/* The job with room enough, and with room on and around the bound. */
+static int any_differs(const struct bytes *job)
+{
+    uint8_t plan[CURVEPLAN_PLAN_BYTES];
+    uint64_t answer = fast_plan(job->at, job->length, plan, sizeof plan);
+    if (differs(job, CURVEPLAN_PLAN_BYTES)) {
+        return 1;
+    }
+    if (curveplan_refused_16(answer)) {
+        return differs(job, PICK(0, 1, 20));
+    }
+    size_t room = (size_t)answer;
+    switch (below(5)) {
+    case 0:
+        return differs(job, room);
+    case 1:
+        return differs(job, room - 1);
+    case 2:
+        return differs(job, room + 1);
+    case 3:
+        return differs(job, below((unsigned)room));
+    default:
+        return differs(job, 0);
+    }
+}
+
+int main(void)
+{
+    static struct bytes job;
+    for (unsigned i = 0; i < SMALL_JOBS + LARGE_JOBS; i++) {
+        int large = i >= SMALL_JOBS;
+        unsigned kind = below(10);
+        if (kind < 2 && !large) {
+            crafted_job(&job);
+        } else {
+            random_job(&job, large);
+        }
+        /* Whole, with one fault, with two. */
+        for (unsigned faults = kind < 6 ? 0 : kind < 8 ? 1 : 2; faults > 0; faults--) {
+            damage(&job);
+        }
+        if (any_differs(&job)) {
+            return 1;
+        }
+    }
+    int missing = 0;
+    printf("fast_c: %lu calls as the library answers them; planned by method", compared);
+    for (unsigned method = 0; method < 4; method++) {
+        printf(" %u: %lu", method, planned[method]);
+        missing |= planned[method] == 0;
+    }
+    printf("; refused");
+    for (unsigned number = 1; number < 10; number++) {
+        if (number != 8) {
+            printf(" %u: %lu", number, refused[number]);
+            missing |= refused[number] == 0;
+        }
+    }
+    printf("\n");
+    if (missing) {
+        printf("fast_c: some outcome never came up\n");
+    }
+    return missing;
+}
