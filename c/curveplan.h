@@ -63,7 +63,7 @@ enum curveplan_refusal {
  *   below 65,536      the count of plan bytes written, at most 5,120
  *   65,536 and above  a refusal: its number × 65,536 plus its figure. Take it apart by the three functions below
  *
- * Refusals: those of curveplan_read_job but 9; 7; 9 with the count of the bytes. It takes less than 16 kB of stack.
+ * Refusals: those of curveplan_read_job but 9; 7; 9 with the count of the bytes. It takes less than 20 kB of stack.
  */
 uint64_t curveplan_plan(const uint8_t *job, size_t job_len, uint8_t *plan, size_t plan_len);
 
