@@ -52,10 +52,12 @@ module _ (bs : List ℕ) (all : Bytes bs) (lent : ℕ) where
   call-refuses = go (readBytes bs) refl
     where
       by-size : (j : Request) → readBytes bs ≡ done j
-          → (wantsFit (capacity (j .head .rig)) (j .wants) ≡ done tt) ⊎ ((t : ℕ) × (t < length (j .wants)) × (wantsFit (capacity (j .head .rig)) (j .wants) ≡ refused 7 t)) → Refuses CallRefusal (jobToPlan bs lent)
+          → (wantsFit (capacity (j .head .rig)) (j .wants) ≡ done tt)
+          ⊎ ((t : ℕ) × (t < length (j .wants)) × (wantsFit (capacity (j .head .rig)) (j .wants) ≡ refused 7 t)) → Refuses CallRefusal (jobToPlan bs lent)
       by-size j e (inl f) =
           rw (call-written bs j all e f lent)
-          (refuses-both CallRefusal (room lent (length (bytesOf j))) (done (bytesOf j)) (unfold room in refuses-demand CallRefusal _ 9 (length (bytesOf j)) (inr refl, passed-length _ _ _ _ (checked j (read-exact bs j all e) f))) tt)
+          (refuses-both CallRefusal (room lent (length (bytesOf j))) (done (bytesOf j))
+          (unfold room in refuses-demand CallRefusal _ 9 (length (bytesOf j)) (inr refl, passed-length _ _ _ _ (checked j (read-exact bs j all e) f))) tt)
       by-size j e (inr x) =
           let r : ReadJob j = read-exact bs j all e in
           rw (call-too-large bs j all e 7 (x .0) (x .2) lent) (inl (omega arith, omega arith), omega (arith, x .1, r .is-job .tests-bounds .1))
@@ -71,7 +73,8 @@ module _ (bs : List ℕ) (all : Bytes bs) (lent : ℕ) where
   call-counts plan p = go (readBytes bs) refl
     where
       by-size : (j : Request) → readBytes bs ≡ done j
-          → (wantsFit (capacity (j .head .rig)) (j .wants) ≡ done tt) ⊎ ((t : ℕ) × (t < length (j .wants)) × (wantsFit (capacity (j .head .rig)) (j .wants) ≡ refused 7 t)) → length plan ≤ 5120
+          → (wantsFit (capacity (j .head .rig)) (j .wants) ≡ done tt)
+          ⊎ ((t : ℕ) × (t < length (j .wants)) × (wantsFit (capacity (j .head .rig)) (j .wants) ≡ refused 7 t)) → length plan ≤ 5120
       by-size j e (inr x) = absurd (refused≢done (sym (call-too-large bs j all e 7 (x .0) (x .2) lent) ∙ p))
       by-size j e (inl f) =
           let w = both-done (room lent (length (bytesOf j))) (done (bytesOf j)) plan (sym (call-written bs j all e f lent) ∙ p) in
@@ -83,7 +86,8 @@ module _ (bs : List ℕ) (all : Bytes bs) (lent : ℕ) where
 
   -- COUNTS AND REFUSALS NEVER MEET: an answer below 65,536 is the count of the bytes written, any other tells the refusal's number and figure
   pub call-tells : ((plan : List ℕ) → jobToPlan bs lent ≡ done plan → (numberOf (jobToPlan bs lent) ≡ length plan) × (length plan < 65536))
-      × ((k i : ℕ) → jobToPlan bs lent ≡ refused k i → (65536 ≤ numberOf (jobToPlan bs lent)) × (numberOf (jobToPlan bs lent) / 65536 ≡ k) × (numberOf (jobToPlan bs lent) % 65536 ≡ i))
+      × ((k i : ℕ) → jobToPlan bs lent ≡ refused k i
+      → (65536 ≤ numberOf (jobToPlan bs lent)) × (numberOf (jobToPlan bs lent) / 65536 ≡ k) × (numberOf (jobToPlan bs lent) % 65536 ≡ i))
   unfolding numberOf
   call-tells = (
     (λ plan e. rw e (refl, omega (arith, call-counts plan e))),
@@ -99,7 +103,8 @@ module _ (bs : List ℕ) (all : Bytes bs) (lent : ℕ) where
   call-planned plan p = go (readBytes bs) refl
     where
       by-size : (q : Request) → readBytes bs ≡ done q
-          → (wantsFit (capacity (q .head .rig)) (q .wants) ≡ done tt) ⊎ ((t : ℕ) × (t < length (q .wants)) × (wantsFit (capacity (q .head .rig)) (q .wants) ≡ refused 7 t)) → WrittenPlan bs plan
+          → (wantsFit (capacity (q .head .rig)) (q .wants) ≡ done tt)
+          ⊎ ((t : ℕ) × (t < length (q .wants)) × (wantsFit (capacity (q .head .rig)) (q .wants) ≡ refused 7 t)) → WrittenPlan bs plan
       by-size q e (inr x) = absurd (refused≢done (sym (call-too-large bs q all e 7 (x .0) (x .2) lent) ∙ p))
       by-size q e (inl f) =
           let c = checked q (read-exact bs q all e) f in

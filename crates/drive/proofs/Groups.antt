@@ -170,10 +170,15 @@ module _ {cs unused found : ℕ} {groups when ws : List ℕ} (g : Grouped cs unu
         let h : l < found = omega (arith, o .within) in
         let n = g .used l v h (omega (arith, p .0, bit-∖ v (group l) chosen)) in (
           omega (arith, n .0, p .0, bit-∖ v (group l) chosen, bit-∖ v cs chosen),
-          (p .1 .0, λ d m. let a = in-group d m (omega (arith, bit-∖ d unused chosen, bit-∖ d cs chosen, ap (bit d) z, bit-empty d)) in go d m h (n .1) (a .0) (a .1) (a .2) (ℕ-discrete (a .0) l)),
+          (
+            p .1 .0,
+            λ d m. let a = in-group d m (omega (arith, bit-∖ d unused chosen, bit-∖ d cs chosen, ap (bit d) z, bit-empty d)) in go d m h (n .1)
+                (a .0) (a .1) (a .2) (ℕ-discrete (a .0) l),
+          ),
         )
       where
-        go : (d : ℕ) → bit d (cs ∖ chosen) ≡ 1 → l < found → nextUse (r .curve) ws ≡ At (getD when l 0) → (j : ℕ) → j < count → bit d (group j) ≡ 1 → Dec (j ≡ l) → GoesBefore ws (r .curve) d
+        go : (d : ℕ) → bit d (cs ∖ chosen) ≡ 1 → l < found → nextUse (r .curve) ws ≡ At (getD when l 0) → (j : ℕ) → j < count
+            → bit d (group j) ≡ 1 → Dec (j ≡ l) → GoesBefore ws (r .curve) d
         go d m h n j b k (yes e) = p .1 .1 d (omega (arith, ap (λ (i : ℕ). bit d (group i)) e, bit-∖ d (group l) chosen, bit-∖ d cs chosen))
         go d m h n j b k (no e) = further-before (r .curve) d ws _ _ n (g .used j d (omega (arith, o .within)) k .1) (g .rising j l (omega arith) h)
 

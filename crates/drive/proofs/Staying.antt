@@ -77,7 +77,8 @@ first-rest cs r v ws i f =
     λ c d m o n. f c d (omega (arith, bit-∖ c r (2 ^ v))) (omega (arith, bit-∖ d cs (2 ^ v))) (omega (arith, bit-∖ d r (2 ^ v), bit-∖ d cs (2 ^ v)))
 
 -- one victim, and those chosen after it
-one-first : (n e cs r v : ℕ) (ws : List ℕ) → furthest n cs ws ≡ found v → bit v r ≡ 1 → victims (furthest n) e (cs ∖ 2 ^ v) ws ≡ r ∖ 2 ^ v → victims (furthest n) (suc e) cs ws ≡ r
+one-first : (n e cs r v : ℕ) (ws : List ℕ) → furthest n cs ws ≡ found v → bit v r ≡ 1 → victims (furthest n) e (cs ∖ 2 ^ v) ws ≡ r ∖ 2 ^ v
+    → victims (furthest n) (suc e) cs ws ≡ r
 unfolding victims andThen
 one-first n e cs r v ws p i rest = rw (p, rest) (put-back v r i)
 

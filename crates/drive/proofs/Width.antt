@@ -52,4 +52,5 @@ module _ (n m : ℕ) (wider : n ≤ m) where
   plan-width capacity h (w ∷ ws) l k =
       let s = next (furthest n) capacity h w ws in
       rw (drops-width capacity h w ws l)
-      (ap {B = List Sets} (λ ss. s ∷ ss) (plan-width capacity (moved h s) ws (∪-lt n (h ∖ s .drops) (s .loads) (∖-lt n h _ l) (∖-lt n w h (k 0 (omega arith)))) (λ i b. k (suc i) (omega arith))))
+      (ap {B = List Sets} (λ ss. s ∷ ss) (plan-width capacity (moved h s) ws
+      (∪-lt n (h ∖ s .drops) (s .loads) (∖-lt n h _ l) (∖-lt n w h (k 0 (omega arith)))) (λ i b. k (suc i) (omega arith))))

@@ -20,16 +20,19 @@ unfoldable pub heldAfter : ℕ → List Sets → ℕ
 heldAfter h [] = h
 heldAfter h (s ∷ ss) = heldAfter (moved h s) ss
 
--- the drop sets and the load sets of some steps; and what is wanted in some moves, and their sets
+-- the drops of some steps
 abbrev pub dropsOf : List Sets → List ℕ
 dropsOf = map (λ s. s .drops)
 
+-- their loads
 abbrev pub loadsOf : List Sets → List ℕ
 loadsOf = map (λ s. s .loads)
 
+-- what is wanted in some moves
 abbrev pub wantsOf : List Move → List ℕ
 wantsOf = map (λ m. m .want)
 
+-- their sets
 abbrev pub setsOf : List Move → List Sets
 setsOf = map (λ m. m .sets)
 

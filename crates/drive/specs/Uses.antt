@@ -7,6 +7,7 @@ use Rattle.bitset.specs.Set.{bit}
 use Rattle.drive.specs.declared.choice.NextUse.{NextUse}
 use Rattle.drive.specs.declared.choice.NextUse.the-variants.{At, Never}
 
+-- a use, told from one step earlier
 unfoldable pub later : NextUse → NextUse
 later (At n) = At (suc n)
 later Never = Never
@@ -16,6 +17,7 @@ unfoldable pub useBy : ℕ → NextUse → NextUse
 useBy zero u = later u
 useBy (suc d) u = At 0
 
+-- the next use of curve c in the steps that want ws
 unfoldable pub nextUse : ℕ → List ℕ → NextUse
 nextUse c [] = Never
 nextUse c (w ∷ ws) = useBy (bit c w) (nextUse c ws)

@@ -8,7 +8,8 @@ use Rattle.job.specs.Handed.{between, listed, each, someTests, placesKnown, cur
 use Rattle.job.specs.Order.{orderFrom}
 use Rattle.job.specs.Calls.{orderingKnown, checkingKnown, planningKnown}
 use Rattle.job_bytes.specs.SetBytes.{groupOf, stands, groupBytes, groupMap, setBytes, byteAt, readGroup, readGroups}
-use Rattle.job_bytes.specs.JobBytes.{fields, readNumber, readField, readFields, readHead, readRecord, readRecords, atEnd, readBytes, readJob, readJobAnswer, readJobWants, numberBytes, headBytes, recordBytes, jobBytes, writeJob, writeJobAnswer, writeJobBuffer}
+use Rattle.job_bytes.specs.JobBytes.{fields, readNumber, readField, readFields, readHead, readRecord, readRecords, atEnd, readBytes, readJob, readJobAnswer}
+use Rattle.job_bytes.specs.JobBytes.{readJobWants, numberBytes, headBytes, recordBytes, jobBytes, writeJob, writeJobAnswer, writeJobBuffer}
 use Rattle.packages.specs.Tests.{upTo}
 use Rattle.packages.specs.Packages.{flat, bestPair, without, joined, onPair, curvesOf, joinAll, try, pickTry, _orMore_, longer, runFrom, flipped, packages}
 use Rattle.ordering.specs.Methods.{weight, weights, degree, appended, grown, bestUnlisted, orElse, neighbour, nextOf, cuthillMcKee, reverseCuthillMcKee, reach, spanningTree, orderBy}
@@ -19,11 +20,22 @@ use Rattle.drive.specs.Uses.{later, useBy, nextUse, further}
 use Rattle.drive.specs.Plan.{furthest, andThen, victims, dropsFor, planFrom}
 use Rattle.planning.specs.Plan.{steps, inOrder}
 use Rattle.planning.specs.Planning.{ourPlan, planning, planAnswer, planLists, setsKnown, checkedOutcome, checking}
-use Rattle.plan_bytes.specs.PlanBytes.{setField, stepBytes, stepsBytes, writePlan, writePlanAnswer, writePlanBuffer, readSet, readStep, readSteps, readPlanBytes, planSteps, readPlan, readPlanAnswer, readPlanOrder, readPlanLists, placedAt, fetched, partOf, stepPart}
+use Rattle.plan_bytes.specs.PlanBytes.{setField, stepBytes, stepsBytes, writePlan, writePlanAnswer, writePlanBuffer, readSet, readStep, readSteps}
+use Rattle.plan_bytes.specs.PlanBytes.{readPlanBytes, planSteps, readPlan, readPlanAnswer, readPlanOrder, readPlanLists, placedAt, fetched, partOf, stepPart}
 use Rattle.report.specs.Report.{text, highDigits, decimal, curveText, curvesText, setText, stepText, stepsText, headText, planText, printed, sheet, writeSheet, sheetAnswer, sheetBuffer}
 use Rattle.planned.specs.Planned.{orderRequest, planInOrder, orderAndPlan, planJob}
 use Rattle.curveplan.specs.Call.{written, jobToPlan, numberOf, callAnswer, callPlan}
 
 unfoldable pub rules : Unit {0}
-unfolding ones readOutcome countOutcome _>>=_ _>>_ mapped demand room overwritten leaves keep choose bestOf between inside listed each someTests placesKnown curvesKnown testsKnown methodKnown wantsKnown wantsFit numbersKnown jobKnownBy countsKnown orderingKnown checkingKnown planningKnown groupOf stands groupBytes groupMap setBytes byteAt readGroup readGroups fields readNumber readField readFields readHead readRecord readRecords atEnd readBytes readJob readJobAnswer readJobWants numberBytes zipWith flatten headBytes recordBytes jobBytes writeJob writeJobAnswer writeJobBuffer weight weights degree upTo appended grown bestUnlisted orElse neighbour nextOf cuthillMcKee reverseCuthillMcKee reach spanningTree flat bestPair without joined onPair curvesOf joinAll try pickTry _orMore_ longer runFrom flipped packages orderBy ordering orderAnswer orderList orderFrom moves curveCount orBreaks keeps checkFrom later useBy nextUse further furthest andThen victims dropsFor planFrom steps inOrder ourPlan planning planAnswer planLists setsKnown checkedOutcome checking setField stepBytes stepsBytes writePlan writePlanAnswer writePlanBuffer readSet readStep readSteps readPlanBytes planSteps readPlan readPlanAnswer readPlanOrder readPlanLists placedAt fetched partOf stepPart text highDigits decimal curveText curvesText setText stepText stepsText headText planText printed sheet writeSheet sheetAnswer sheetBuffer orderRequest planInOrder orderAndPlan planJob written jobToPlan numberOf callAnswer callPlan
+unfolding ones readOutcome countOutcome _>>=_ _>>_ mapped demand room overwritten leaves keep choose bestOf between inside listed each someTests placesKnown
+    curvesKnown testsKnown methodKnown wantsKnown wantsFit numbersKnown jobKnownBy countsKnown orderingKnown checkingKnown planningKnown groupOf stands
+    groupBytes groupMap setBytes byteAt readGroup readGroups fields readNumber readField readFields readHead readRecord readRecords atEnd readBytes readJob
+    readJobAnswer readJobWants numberBytes zipWith flatten headBytes recordBytes jobBytes writeJob writeJobAnswer writeJobBuffer weight weights degree
+    upTo appended grown bestUnlisted orElse neighbour nextOf cuthillMcKee reverseCuthillMcKee reach spanningTree flat bestPair without joined onPair
+    curvesOf joinAll try pickTry _orMore_ longer runFrom flipped packages orderBy ordering orderAnswer orderList orderFrom moves curveCount
+    orBreaks keeps checkFrom later useBy nextUse further furthest andThen victims dropsFor planFrom steps inOrder ourPlan planning
+    planAnswer planLists setsKnown checkedOutcome checking setField stepBytes stepsBytes writePlan writePlanAnswer writePlanBuffer
+    readSet readStep readSteps readPlanBytes planSteps readPlan readPlanAnswer readPlanOrder readPlanLists placedAt fetched partOf
+    stepPart text highDigits decimal curveText curvesText setText stepText stepsText headText planText printed sheet writeSheet
+    sheetAnswer sheetBuffer orderRequest planInOrder orderAndPlan planJob written jobToPlan numberOf callAnswer callPlan
 rules = tt

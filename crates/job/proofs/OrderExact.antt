@@ -26,7 +26,8 @@ passes-from n before [] len once only = demand-done (leb n (length before)) 8 (l
 passes-from n before (t ∷ ts) len once only =
     done-both (demand (ltb (length before) n && ltb t n && not (listed before t)) 8 (length before)) (orderFrom n (before ++ (t ∷ [])) ts)
     (demand-done _ 8 (length before) (and _ _ (and _ _ (lt-ltb (length before) n (omega arith)) (lt-ltb t n tn)) (ap not (unlisted t before zeroBefore))))
-    ∙ passes-from n (before ++ (t ∷ [])) ts (omega (arith, length-append before (t ∷ []))) (λ s l. omega (arith, once s l, count-append s before (t ∷ []), single s)) (λ s l. omega (arith, only s l, counted s))
+    ∙ passes-from n (before ++ (t ∷ [])) ts (omega (arith, length-append before (t ∷ [])))
+    (λ s l. omega (arith, once s l, count-append s before (t ∷ []), single s)) (λ s l. omega (arith, only s l, counted s))
   where
     counted : (s : ℕ) → count s (t ∷ ts) ≡ digit (eqb t s) + count s ts
     counted s = refl

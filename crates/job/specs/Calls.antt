@@ -8,16 +8,19 @@ use Rattle.job.specs.Words.{Job, capacity}
 use Rattle.job.specs.Handed.{wantsFit, jobKnownBy, jobKnown}
 use Rattle.job.specs.Order.{orderKnown}
 
+-- "for ordering 7" behind 5 and 10, which the method belongs to
 unfoldable pub orderingKnown : ℕ → Job → Outcome (Unit {0})
 orderingKnown method j = do
   jobKnownBy method j
   wantsFit (capacity (j .rig)) (j .wants)
 
+-- "checking 8" behind 5 and 10
 unfoldable pub checkingKnown : Job → List ℕ → Outcome (Unit {0})
 checkingKnown j order = do
   jobKnown j
   orderKnown (length (j .wants)) order
 
+-- "planning 8, 7" behind 5 and 10
 unfoldable pub planningKnown : Job → List ℕ → Outcome (Unit {0})
 planningKnown j order = do
   checkingKnown j order

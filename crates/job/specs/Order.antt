@@ -14,5 +14,6 @@ orderFrom n before (t ∷ ts) = do
   demand (ltb (length before) n && ltb t n && not (listed before t)) 8 (length before)
   orderFrom n (before ++ (t ∷ [])) ts
 
+-- 8: whether a list of numbers is an order of n tests
 abbrev pub orderKnown : ℕ → List ℕ → Outcome (Unit {0})
 orderKnown n order = orderFrom n [] order

@@ -83,12 +83,14 @@ module _ (bs : List ℕ) (k j curves : ℕ) where
     pub marked-empty : (d : ℕ) → d ≤ 1 → counted d < d → Answers bs k d j curves Empty
     marked-empty d l p = let e : d ≡ 1 = omega arith in let q = rw e at p in rw e (due-empty bs k j curves h (omega arith))
 
-    pub marked-curves : (d : ℕ) → d ≤ 1 → d ≤ counted d → (s : ℕ) → s ≡ counted d * 2 ^ (8 * j) → inside s (allCurves (min curves 64)) ≡ true → Answers bs k d j curves (Curves s)
+    pub marked-curves : (d : ℕ) → d ≤ 1 → d ≤ counted d → (s : ℕ) → s ≡ counted d * 2 ^ (8 * j)
+        → inside s (allCurves (min curves 64)) ≡ true → Answers bs k d j curves (Curves s)
     marked-curves zero l p s v f = let e : s ≡ 0 = v ∙ rw (mul-zero, zero-mul) in rw e (due-none bs k j curves 0 refl)
     marked-curves (suc zero) l p s v f = due-curves bs k j curves h (omega arith) s (v ∙ rw mul-one) f
     marked-curves (suc (suc d)) l p s v f = absurd (omega arith)
 
-    pub marked-unknown : (d : ℕ) → d ≤ 1 → d ≤ counted d → (s : ℕ) → s ≡ counted d * 2 ^ (8 * j) → inside s (allCurves (min curves 64)) ≡ false → Answers bs k d j curves Unknown
+    pub marked-unknown : (d : ℕ) → d ≤ 1 → d ≤ counted d → (s : ℕ) → s ≡ counted d * 2 ^ (8 * j)
+        → inside s (allCurves (min curves 64)) ≡ false → Answers bs k d j curves Unknown
     marked-unknown zero l p s v f = let t = nothing-inside s (min curves 64) (v ∙ rw (mul-zero, zero-mul)) in let z : _≡_ {A = ℕ} 0 1 = cc in absurd (omega arith)
     marked-unknown (suc zero) l p s v f = let e : s ≡ getD bs k 0 * 2 ^ (8 * j) = v ∙ rw mul-one in due-unknown bs k j curves h (omega arith) (rw e at f)
     marked-unknown (suc (suc d)) l p s v f = absurd (omega arith)
@@ -100,7 +102,8 @@ module _ (owed empty unknown curves j i k : ℕ) (bs : List ℕ) where
   one-none h d = rw (drop-of-length-le bs h) refl
 
   one-some : k < length bs → (d : ℕ) → readGroup owed empty unknown curves (suc d) j i (drop k bs)
-      ≡ _>>_ (demand (ltb 0 (getD bs k 0)) empty i) (_>>_ (demand (inside (getD bs k 0 * 2 ^ (8 * j)) (allCurves curves)) unknown i) (done (got (getD bs k 0 * 2 ^ (8 * j)) (suc i) (drop (suc k) bs))))
+      ≡ _>>_ (demand (ltb 0 (getD bs k 0)) empty i)
+      (_>>_ (demand (inside (getD bs k 0 * 2 ^ (8 * j)) (allCurves curves)) unknown i) (done (got (getD bs k 0 * 2 ^ (8 * j)) (suc i) (drop (suc k) bs))))
   unfolding readGroup _>>=_
   one-some h d = rw (byte-there owed i k bs h) refl
 

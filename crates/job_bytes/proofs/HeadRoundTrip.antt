@@ -256,7 +256,8 @@ in-range h a =
 
 pub range-in : (h : Head) → InRange h → AllHave fields (valuesOf h)
 unfolding fields
-range-in h r = (has _ (h .rig .places) (λ n. r .places), (has _ (h .rig .curves) (λ n. r .curves), (has _ (h .tests) (λ n. (omega arith, r .tests)), (has _ (h .method) (λ n. (omega arith, r .method)), tt))))
+range-in h r =
+    (has _ (h .rig .places) (λ n. r .places), (has _ (h .rig .curves) (λ n. r .curves), (has _ (h .tests) (λ n. (omega arith, r .tests)), (has _ (h .method) (λ n. (omega arith, r .method)), tt))))
 
 pub head-range : (bs : List ℕ) (g : Got Head) → readHead bs ≡ done g → InRange (g .value)
 head-range bs g e = in-range (g .value) (head-read bs g e .have)

@@ -58,7 +58,8 @@ module _ (bs : List ℕ) where
   number-cut zero i l h = absurd (omega arith)
   number-cut (suc w) i l h = go (decLe (length bs) i) (number-cut w (suc i))
     where
-      go : Dec (length bs ≤ i) → (suc i ≤ length bs → length bs < suc i + w → readNumber w (suc i) (drop (suc i) bs) ≡ refused 1 (length bs)) → readNumber (suc w) i (drop i bs) ≡ refused 1 (length bs)
+      go : Dec (length bs ≤ i) → (suc i ≤ length bs → length bs < suc i + w → readNumber w (suc i) (drop (suc i) bs) ≡ refused 1 (length bs))
+          → readNumber (suc w) i (drop i bs) ≡ refused 1 (length bs)
       go (yes z) ih = let e : i ≡ length bs = omega arith in number-none w i z ∙ ap (refused 1) e
       go (no z) ih = number-next w i (omega arith) ∙ rw (ih (omega arith) (omega arith)) refl
 

@@ -49,11 +49,13 @@ read-bounded bs = behind (readHead bs) refl (head-span bs)
         → Bounded bs (_>>_ (demand b 5 0) (_>>=_ (readRecords (h .rig .curves) (h .tests) [] n rest) (λ r. _>>_ (atEnd 6 (r .next) (r .rest)) (done (record { head = h; wants = r .value })))))
     tested h n rest false t s = figure 5 0 (omega arith) (omega arith)
     tested h n rest true t s =
-        subst (λ (l : List ℕ). Bounded bs (_>>=_ (readRecords (h .rig .curves) (h .tests) [] n l) (λ r. _>>_ (atEnd 6 (r .next) (r .rest)) (done (record { head = h; wants = r .value }))))) (sym (s .behind))
+        subst (λ (l : List ℕ). Bounded bs (_>>=_ (readRecords (h .rig .curves) (h .tests) [] n l)
+        (λ r. _>>_ (atEnd 6 (r .next) (r .rest)) (done (record { head = h; wants = r .value }))))) (sym (s .behind))
         (all h n (readRecords (h .rig .curves) (h .tests) [] n (drop n bs)) t (omega (arith, s .most)) (records-span bs (h .rig .curves) (h .tests) [] n (s .within)))
 
     behind : (o : Outcome (Got Head)) → readHead bs ≡ o → Spans 6 0 bs o
-        → Bounded bs (_>>=_ o (λ h. _>>_ (someTests (h .value .tests)) (_>>=_ (readRecords (h .value .rig .curves) (h .value .tests) [] (h .next) (h .rest)) (λ r. _>>_ (atEnd 6 (r .next) (r .rest)) (done (record { head = h .value; wants = r .value }))))))
+        → Bounded bs (_>>=_ o (λ h. _>>_ (someTests (h .value .tests))
+        (_>>=_ (readRecords (h .value .rig .curves) (h .value .tests) [] (h .next) (h .rest)) (λ r. _>>_ (atEnd 6 (r .next) (r .rest)) (done (record { head = h .value; wants = r .value }))))))
     behind (refused k f) e s = let x = span-refused s in figure k f (omega (arith, x .0)) (x .1)
     behind (done g) e s =
         tested (g .value) (g .next) (g .rest) (ltb 0 (g .value .tests)) (head-range bs g e .tests) (span-done s)
@@ -141,7 +143,8 @@ module _ (ys : List ℕ) where
   behind-same xs l = go refl refl (head-same 2305 xs (omega arith))
     where
       tested : (h : Head) (n : ℕ) (rest : List ℕ) (b : Bool) → h .tests ≤ 256 → 2305 ≤ length rest
-          → _≡_ {A = Outcome Request} (_>>_ (demand b 5 0) (_>>=_ (readRecords (h .rig .curves) (h .tests) [] n (rest ++ ys)) (λ r. _>>_ (atEnd 6 (r .next) (r .rest)) (done (record { head = h; wants = r .value })))))
+          → _≡_ {A = Outcome Request} (_>>_ (demand b 5 0)
+          (_>>=_ (readRecords (h .rig .curves) (h .tests) [] n (rest ++ ys)) (λ r. _>>_ (atEnd 6 (r .next) (r .rest)) (done (record { head = h; wants = r .value })))))
           (_>>_ (demand b 5 0) (_>>=_ (readRecords (h .rig .curves) (h .tests) [] n rest) (λ r. _>>_ (atEnd 6 (r .next) (r .rest)) (done (record { head = h; wants = r .value })))))
       tested h n rest false t m = refl
       tested h n rest true t m = end-same h (records-same (h .rig .curves) (h .tests) [] n 1 rest (omega arith))

@@ -117,7 +117,8 @@ job-written h ws bs ok some count known bytes =
     same : jobBytes (request (h .method) (jobOf (h .rig) ws)) ≡ bs
     same = ap (λ (x : Head). headBytes (valuesOf x) ++ recordBytes ws) head ∙ sym bytes
 
-job-found : (h : Head) (bs rest : List ℕ) (g : Got (List ℕ)) → InRange h → someTests (h .tests) ≡ done tt → bs ≡ headBytes (valuesOf h) ++ rest → RecordsRead (h .rig .curves) (h .tests) [] rest g → g .rest ≡ []
+job-found : (h : Head) (bs rest : List ℕ) (g : Got (List ℕ)) → InRange h → someTests (h .tests) ≡ done tt → bs ≡ headBytes (valuesOf h) ++ rest
+    → RecordsRead (h .rig .curves) (h .tests) [] rest g → g .rest ≡ []
     → writeJob (h .method) (jobOf (h .rig) (g .value)) (length bs) ≡ done bs
 unfolding someTests
 job-found h bs rest g ok some bytes r none =

@@ -84,9 +84,11 @@ module _ (owed empty unknown curves M : ℕ) where
       small′ = let e : 8 * suc k ≡ 8 + 8 * k = omega arith in omega (arith, rw (e, pow-add 2 8 (8 * k)) at small)
 
       go : (b : ℕ) → s % 256 ≡ b
-          → ((acc i s : ℕ) (rest : List ℕ) → ((m : ℕ) → m < k → bit (suc j + m) M ≡ bit m (groupMap k s)) → s < 2 ^ (8 * k) → s * 2 ^ (8 * suc j) < 2 ^ curves → acc < 2 ^ (8 * suc j)
+          → ((acc i s : ℕ) (rest : List ℕ) → ((m : ℕ) → m < k → bit (suc j + m) M ≡ bit m (groupMap k s)) → s < 2 ^ (8 * k)
+          → s * 2 ^ (8 * suc j) < 2 ^ curves → acc < 2 ^ (8 * suc j)
           → readGroups owed empty unknown curves k (suc j) M acc i (groupBytes k s ++ rest) ≡ done (got (acc + s * 2 ^ (8 * suc j)) (i + length (groupBytes k s)) rest))
-          → _>>=_ (readGroup owed empty unknown curves (bit j M) j i (groupOf b (groupBytes k t) ++ rest)) (λ g. readGroups owed empty unknown curves k (suc j) M (acc ∪ g .value) (g .next) (g .rest))
+          → _>>=_ (readGroup owed empty unknown curves (bit j M) j i (groupOf b (groupBytes k t) ++ rest))
+          (λ g. readGroups owed empty unknown curves k (suc j) M (acc ∪ g .value) (g .next) (g .rest))
           ≡ done (got (acc + s * 2 ^ (8 * j)) (i + length (groupOf b (groupBytes k t))) rest)
       go zero e ih =
           let z : bit j M ≡ 0 = here ∙ ap stands e in
@@ -106,7 +108,8 @@ pub set-back : (owed empty unknown curves i s : ℕ) (rest : List ℕ) → curve
     → readGroups owed empty unknown curves 8 0 (groupMap 8 s) 0 i (groupBytes 8 s ++ rest) ≡ done (got s (i + length (groupBytes 8 s)) rest)
 set-back owed empty unknown curves i s rest c h =
     let v : 0 + s * 2 ^ (8 * 0) ≡ s = omega arith in
-    read-back owed empty unknown curves (groupMap 8 s) 8 0 0 i s rest (λ m l. let e : 0 + m ≡ m = omega arith in ap (λ (x : ℕ). bit x (groupMap 8 s)) e) (omega (arith, pow-mono c)) (omega arith) (omega arith)
+    read-back owed empty unknown curves (groupMap 8 s) 8 0 0 i s rest (λ m l. let e : 0 + m ≡ m = omega arith in ap (λ (x : ℕ). bit x (groupMap 8 s)) e)
+    (omega (arith, pow-mono c)) (omega arith) (omega arith)
     ∙ rw v refl
 
 -- ---- read, then written
@@ -184,7 +187,8 @@ module _ (owed empty unknown curves M : ℕ) where
           let y = both-bind (demand (inside (b * 2 ^ (8 * j)) (allCurves curves)) unknown i) (done (got (b * 2 ^ (8 * j)) (suc i) bs)) f g (x .1) in
           taken b (ltb-true 0 b (demand-true (ltb 0 b) empty i (x .0))) (inside-below curves (b * 2 ^ (8 * j)) (demand-true _ unknown i (y .0))) all (y .1)
         where
-          taken : (b : ℕ) → 0 < b → b * 2 ^ (8 * j) < 2 ^ curves → Bytes (b ∷ bs) → readGroups owed empty unknown curves k (suc j) M (acc ∪ b * 2 ^ (8 * j)) (suc i) bs ≡ done g → Exact curves M (suc k) j acc i (b ∷ bs) g
+          taken : (b : ℕ) → 0 < b → b * 2 ^ (8 * j) < 2 ^ curves → Bytes (b ∷ bs)
+              → readGroups owed empty unknown curves k (suc j) M (acc ∪ b * 2 ^ (8 * j)) (suc i) bs ≡ done g → Exact curves M (suc k) j acc i (b ∷ bs) g
           taken zero p own all e = absurd (omega arith)
           taken (suc b) p own all e =
               let u : acc ∪ suc b * 2 ^ (8 * j) ≡ acc + suc b * 2 ^ (8 * j) = or-shifted-r (suc b) (8 * j) acc low ∙ omega arith in

@@ -20,6 +20,7 @@ pub record Request : Type 0 where
 abbrev pub jobIn : Request → Job
 jobIn q = jobOf (q .head .rig) (q .wants)
 
+-- a job and a method, as they stand in job bytes
 abbrev pub request : ℕ → Job → Request
 request method j = record { head = record { rig = j .rig; tests = length (j .wants); method = method }; wants = j .wants }
 
@@ -56,6 +57,7 @@ readFields (f ∷ fs) map vs i bs = do
   v ← readField f (map % 2) i bs
   readFields fs (map / 2) (vs ++ (v .value ∷ [])) (v .next) (v .rest)
 
+-- the head of its fields' values, in bit order
 abbrev pub headOf : List ℕ → Head
 headOf vs = record { rig = record { places = getD vs 0 0; curves = getD vs 1 0 }; tests = getD vs 2 0; method = getD vs 3 0 }
 
@@ -114,6 +116,7 @@ readJobWants bs old = leaves (mapped (λ j. j .wants) (readJob bs (length old)))
 
 -- ---- written
 
+-- so many bytes of a number: "Two-byte numbers have the low byte first"
 unfoldable pub numberBytes : ℕ → ℕ → List ℕ
 numberBytes zero v = []
 numberBytes (suc w) v = v % 256 ∷ numberBytes w (v / 256)
@@ -124,10 +127,12 @@ headBytes vs =
     foldr (λ b map. b + 2 * map) 0 (zipWith (λ f v. cond (eqb v (f .absent)) 0 1) fields vs)
     ∷ flatten (zipWith (λ f v. cond (eqb v (f .absent)) [] (numberBytes (f .width) v)) fields vs)
 
+-- one record for each test
 unfoldable pub recordBytes : List ℕ → List ℕ
 recordBytes [] = []
 recordBytes (w ∷ ws) = setBytes w ++ recordBytes ws
 
+-- the head's bytes, then the records
 unfoldable pub jobBytes : Request → List ℕ
 jobBytes q = headBytes (valuesOf (q .head)) ++ recordBytes (q .wants)
 

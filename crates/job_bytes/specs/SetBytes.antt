@@ -30,10 +30,12 @@ unfoldable pub groupBytes : ℕ → ℕ → List ℕ
 groupBytes zero s = []
 groupBytes (suc k) s = groupOf (s % 256) (groupBytes k (s / 256))
 
+-- the map of k groups: a bit for each that is not empty, the lowest first
 unfoldable pub groupMap : ℕ → ℕ → ℕ
 groupMap zero s = 0
 groupMap (suc k) s = stands (s % 256) + 2 * groupMap k (s / 256)
 
+-- the map, then the groups that are not empty
 unfoldable pub setBytes : ℕ → List ℕ
 setBytes s = groupMap 8 s ∷ groupBytes 8 s
 
@@ -45,6 +47,7 @@ pub record Got (A : Type 0) : Type 0 where
   pub next : ℕ
   pub rest : List ℕ
 
+-- a value, and the bytes from position i on, which are still to be read
 abbrev pub got : {A : Type 0} → A → ℕ → List ℕ → Got A
 got a i bs = record { value = a; next = i; rest = bs }
 

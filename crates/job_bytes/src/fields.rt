@@ -50,7 +50,7 @@ const TABLE: [Field; FIELDS] = [
 ];
 
 // The row of bit j.
-pub fn row(j: usize) -> Field
+pub(crate) fn row(j: usize) -> Field
     requires { ⌜ j < length fields ⌝ }
     ensures { λ r. ⌜ (drop j fields ≡ r ∷ drop (j + 1) fields) × (r .width ≤ 8) ⌝ }
 {

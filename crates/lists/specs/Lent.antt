@@ -5,9 +5,11 @@ use lib.ListN.{length, drop}
 use denote.Ref.{RefT, now}
 use denote.Triple.Both.{Both}
 
+-- at the call
 abbrev pub was : {X : Type 0} → Both (RefT X) (RefT X) → X
 was x = now (x .entry)
 
+-- afterwards
 abbrev pub after : {X : Type 0} → Both (RefT X) (RefT X) → X
 after x = now (x .exit)
 

@@ -21,7 +21,8 @@ module _ (fits : ℕ → Bool) (cs rs : List ℕ) (rated : (k : ℕ) → k < len
   abbrev Low : ℕ → ℕ → Type 0
   Low s i = (a : ℕ) × (b : ℕ) × (bestPair fits cs i ≡ chosen a b) × (score cs a b < s)
 
-  more : (s i a b q : ℕ) → bestPair fits cs i ≡ chosen a b → score cs a b < s → rowTo fits cs i (length cs) ≡ chosen i q → score cs i q < s → Dec (score cs a b < score cs i q) → Low s (suc i)
+  more : (s i a b q : ℕ) → bestPair fits cs i ≡ chosen a b → score cs a b < s → rowTo fits cs i (length cs) ≡ chosen i q → score cs i q < s
+      → Dec (score cs a b < score cs i q) → Low s (suc i)
   more s i a b q e l r m (yes d) = (i, q, pair-take fits cs i q a b (score cs a b) e r refl d, m)
   more s i a b q e l r m (no d) = (a, b, pair-stay fits cs i q a b (score cs a b) e r refl (omega arith), l)
 

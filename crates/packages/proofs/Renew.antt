@@ -27,7 +27,8 @@ module _ (fits : ℕ → Bool) (cs : List ℕ) (k : ℕ) where
   Row n = (q : ℕ) × (rowTo fits cs k n ≡ chosen k q) × Best fits cs k n q
 
   -- one package more
-  row-turn : (j q : ℕ) → k < j → rowTo fits cs k j ≡ chosen k q → Best fits cs k j q → (t : Bool) → fits (getD cs k 0 ∪ getD cs j 0) ≡ t → Dec (score cs k q < score cs k j) → Row (j + 1)
+  row-turn : (j q : ℕ) → k < j → rowTo fits cs k j ≡ chosen k q → Best fits cs k j q → (t : Bool) → fits (getD cs k 0 ∪ getD cs j 0) ≡ t
+      → Dec (score cs k q < score cs k j) → Row (j + 1)
   row-turn j q l e b true f (yes h) =
       let s = score-some cs k j (omega arith) in (
         j,
@@ -187,7 +188,8 @@ entry-out ds ls j within made x = go (decLt x j)
 
     go : Dec (x < j) → getD ds x 0 ≡ getD ls (oldPlace j x) 0
     go (yes h) =
-        ap (λ (m : List ℕ). getD m x 0) made ∙ List·getD-append (take j ls) (drop (suc j) ls) 0 x (omega (arith, n)) ∙ getD-take j ls x 0 h ∙ ap (λ (m : ℕ). getD ls m 0) (sym (old-low j x h))
+        ap (λ (m : List ℕ). getD m x 0) made ∙ List·getD-append (take j ls) (drop (suc j) ls) 0 x (omega (arith, n)) ∙ getD-take j ls x 0 h
+        ∙ ap (λ (m : ℕ). getD ls m 0) (sym (old-low j x h))
     go (no h) =
         let e : x ≡ length (take j ls) + (x - j) = omega (arith, n) in
         let f : suc j + (x - j) ≡ oldPlace j x = omega (arith, old-high j x (omega arith)) in
@@ -460,7 +462,8 @@ module _ (fits : ℕ → Bool) (cs ds rs xs ys zs : List ℕ) (i j own : ℕ) (b
       go (no a) (no b) =
           let e : k ≡ i = omega arith in
           let mine : getD zs k 0 ≡ own =
-          stays k (omega arith) ∙ rest k (omega arith) ∙ placed k h ∙ ap (λ (n : ℕ). getD (set rs i own) n 0) (old-low j k (omega arith) ∙ e) ∙ getD-set-same rs i own 0 (omega (arith, as-long)) in
+          stays k (omega arith) ∙ rest k (omega arith) ∙ placed k h ∙ ap (λ (n : ℕ). getD (set rs i own) n 0) (old-low j k (omega arith) ∙ e)
+          ∙ getD-set-same rs i own 0 (omega (arith, as-long)) in
           subst (λ (n : ℕ). Rated fits ds n (getD zs k 0)) (sym e) (subst (Rated fits ds i) (sym mine) joined)
 
 -- the ratings in a list that was lent and came back as ys
@@ -470,7 +473,8 @@ front-rated fits cs ys zs n a b h k l =
     subst (Rated fits cs k) (sym (ap (λ (m : List ℕ). getD m k 0) (take-append-le n ys zs a) ∙ getD-take n ys k 0 (omega arith))) (h k l)
 
 -- the same where the curves were lent too, and the first n entries count
-pub fronts-rated : (fits : ℕ → Bool) (us vs ys zs : List ℕ) (n m : ℕ) → m ≡ n → n ≤ length us → n ≤ length ys → ((k : ℕ) → k < length (take m us) → Rated fits (take m us) k (getD ys k 0))
+pub fronts-rated : (fits : ℕ → Bool) (us vs ys zs : List ℕ) (n m : ℕ) → m ≡ n → n ≤ length us → n ≤ length ys
+    → ((k : ℕ) → k < length (take m us) → Rated fits (take m us) k (getD ys k 0))
     → (k : ℕ) → k < length (take n (us ++ vs)) → Rated fits (take n (us ++ vs)) k (getD (take n (ys ++ zs)) k 0)
 fronts-rated fits us vs ys zs n m e a b h k l =
     let f = take-append-le n us vs a in

@@ -38,7 +38,8 @@ module _ {A : Type 0} (fair : A → Bool) (key : A → ℕ) where
   merge-last x y true p = rw p refl
   merge-last x y false p = rw p refl
 
-  merge-both : (x y w : A) (e t u v : Bool) → fair x ≡ e → higher w y ≡ t → higher x w ≡ u → higher x y ≡ v → (t ≡ true → u ≡ true → v ≡ true) → (t ≡ false → u ≡ false → v ≡ false)
+  merge-both : (x y w : A) (e t u v : Bool) → fair x ≡ e → higher w y ≡ t → higher x w ≡ u → higher x y ≡ v
+      → (t ≡ true → u ≡ true → v ≡ true) → (t ≡ false → u ≡ false → v ≡ false)
       → choose fair higher x (keep (higher w y) w (found y)) ≡ merge higher (found y) (keep (fair x && higher x w) x (found w))
   unfolding merge choose keep
   merge-both x y w false true u v p q r s f g = rw (q, p, q) refl

@@ -84,7 +84,8 @@ module _ (f g : Bool) (p q r x y z one two three : List ℕ) (a b from : ℕ) (p
       let Z = turned g z in
       let all : length p ≡ length x + (length y + length z) = ap length parts ∙ length-append x (y ++ z) ∙ ap (λ (n : ℕ). length x + n) (length-append y z) in
       let one-is : one ≡ X = e₁ ∙ ap (turned f) (ap (take a) parts ∙ take-at x (y ++ z) a first) in
-      let q-is : q ≡ (X ++ y) ++ z = e₂ ∙ ap (λ (l : List ℕ). l ++ drop a p) one-is ∙ ap (λ (l : List ℕ). X ++ l) (ap (drop a) parts ∙ drop-at x (y ++ z) a first) ∙ sym (append-assoc X y z) in
+      let q-is : q ≡ (X ++ y) ++ z =
+      e₂ ∙ ap (λ (l : List ℕ). l ++ drop a p) one-is ∙ ap (λ (l : List ℕ). X ++ l) (ap (drop a) parts ∙ drop-at x (y ++ z) a first) ∙ sym (append-assoc X y z) in
       let n : length (X ++ y) ≡ from = omega (arith, length-append X y, length-turned f x, all, start, first, second) in
       let two-is : two ≡ Z = e₃ ∙ ap (turned g) (tail-lent q from ∙ ap (drop from) q-is ∙ drop-at (X ++ y) z from n) in
       let r-is : r ≡ X ++ (y ++ Z) =

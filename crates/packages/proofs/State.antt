@@ -64,7 +64,8 @@ module _ (wants : List ℕ) (places : ℕ) (a b : List ℕ) where
       flipped-any wants places a b (λ (l : List ℕ). curvesOf wants l ≡ curvesOf wants a ∪ curvesOf wants b) (curves-append wants a b)
       (curves-append wants a (reverse b) ∙ ap (λ (u : ℕ). curvesOf wants a ∪ u) (curves-reverse wants b))
       (curves-append wants (reverse a) b ∙ ap (λ (u : ℕ). u ∪ curvesOf wants b) (curves-reverse wants a))
-      (curves-append wants (reverse a) (reverse b) ∙ ap (λ (u : ℕ). u ∪ curvesOf wants (reverse b)) (curves-reverse wants a) ∙ ap (λ (u : ℕ). curvesOf wants a ∪ u) (curves-reverse wants b))
+      (curves-append wants (reverse a) (reverse b) ∙ ap (λ (u : ℕ). u ∪ curvesOf wants (reverse b)) (curves-reverse wants a)
+      ∙ ap (λ (u : ℕ). curvesOf wants a ∪ u) (curves-reverse wants b))
   curves-join false = curves-append wants a b
 
 -- ---- lists of packages

@@ -15,6 +15,7 @@ at i j = record { first = i; second = j }
 
 -- ---- lists that are changed in place
 
+-- the sum of a list
 unfoldable pub sumOf : List ℕ → ℕ
 sumOf [] = 0
 sumOf (x ∷ xs) = x + sumOf xs
@@ -52,6 +53,7 @@ pub record Laid (ps : List (List ℕ)) (rest tests lengths : List ℕ) : Type 0 
 
 -- ---- ratings: what the code keeps of each package, as one number: 256 times a score, plus the place of a partner
 
+-- whether a set has at most so many curves
 abbrev pub within : ℕ → ℕ → Bool
 within bound u = leb (size u) bound
 

@@ -114,7 +114,8 @@ module _ (curves tests : ℕ) where
     set-same : (d i m : ℕ) (xs : List ℕ) → 9 + m ≤ length xs → Same ys m (readSet curves tests d i xs) (readSet curves tests d i (xs ++ ys))
     unfolding readSet
     set-same zero i m xs l = value 0 i xs (omega arith)
-    set-same (suc d) i m xs l = same-then ys (8 + m) m _ (byte-same ys 11 i (8 + m) xs (omega arith)) (λ map n xs l. same-test ys m _ 11 i (groups-same ys 11 11 11 curves 8 0 map 0 n m xs (omega arith)))
+    set-same (suc d) i m xs l =
+        same-then ys (8 + m) m _ (byte-same ys 11 i (8 + m) xs (omega arith)) (λ map n xs l. same-test ys m _ 11 i (groups-same ys 11 11 11 curves 8 0 map 0 n m xs (omega arith)))
 
     step-same : (i m : ℕ) (xs : List ℕ) → 20 + m ≤ length xs → Same ys m (readStep curves tests i xs) (readStep curves tests i (xs ++ ys))
     unfolding readStep
@@ -124,7 +125,8 @@ module _ (curves tests : ℕ) where
         same-test ys m _ 11 i
         (same-then ys (10 + m) m _ (set-same _ n (10 + m) xs (omega arith))
         (λ ds n xs l.
-        same-then ys (1 + m) m _ (set-same _ n (1 + m) xs (omega arith)) (λ ls n xs l. same-then ys m m _ (byte-same ys 11 n m xs (omega arith)) (λ t k xs l. same-test ys m _ 11 n (value _ k xs l))))))
+        same-then ys (1 + m) m _ (set-same _ n (1 + m) xs (omega arith))
+        (λ ls n xs l. same-then ys m m _ (byte-same ys 11 n m xs (omega arith)) (λ t k xs l. same-test ys m _ 11 n (value _ k xs l))))))
 
     steps-same : (k : ℕ) (ss : List Placed) (i m : ℕ) (xs : List ℕ) → 20 * k + m ≤ length xs → Same ys m (readSteps curves tests k ss i xs) (readSteps curves tests k ss i (xs ++ ys))
     unfolding readSteps

@@ -123,7 +123,8 @@ module _ (curves tests : ℕ) (few : curves ≤ 64) where
   steps-back acc i (t ∷ ts) (d ∷ ds) (l ∷ ls) rest r =
       let n : i + length (stepBytes (one t d l)) + length (planBytes ts ds ls) ≡ i + length (stepBytes (one t d l) ++ planBytes ts ds ls) = simp length-append (omega arith) in
       rw (append-assoc (stepBytes (one t d l)) (planBytes ts ds ls) rest, step-back i t d l (planBytes ts ds ls ++ rest) (r .0) (r .1) (r .2))
-      (steps-back (acc ++ (stepOf i t d l ∷ [])) (i + length (stepBytes (one t d l))) ts ds ls rest (r .3) ∙ rw (n, append-assoc acc (stepOf i t d l ∷ []) (stepsOf (i + length (stepBytes (one t d l))) ts ds ls)) refl)
+      (steps-back (acc ++ (stepOf i t d l ∷ [])) (i + length (stepBytes (one t d l))) ts ds ls rest (r .3)
+      ∙ rw (n, append-assoc acc (stepOf i t d l ∷ []) (stepsOf (i + length (stepBytes (one t d l))) ts ds ls)) refl)
 
   of-tests : (i : ℕ) (ts ds ls : List ℕ) → InRange ts ds ls → map (λ s. s .step .test) (stepsOf i ts ds ls) ≡ ts
   unfolding stepsOf
@@ -166,7 +167,8 @@ module _ (places curves : ℕ) (wants : List ℕ) where
   below : (s : ℕ) → s ≼ allCurves curves → s < 2 ^ curves
   below s h = inside-below curves s (≼-inside s (allCurves curves) h)
 
-  in-range : (few : curves ≤ 64) (h : ℕ) (ts ds ls : List ℕ) → length ds ≡ length ts → length ls ≡ length ts → h ≼ allCurves curves → ((t : ℕ) → length wants ≤ t → count t ts ≡ 0)
+  in-range : (few : curves ≤ 64) (h : ℕ) (ts ds ls : List ℕ) → length ds ≡ length ts → length ls ≡ length ts → h ≼ allCurves curves
+      → ((t : ℕ) → length wants ≤ t → count t ts ≡ 0)
       → AllKept places (allCurves curves) h (moves (inOrder wants ts) ds ls) → InRange curves (length wants) few ts ds ls
   unfolding inOrder count moves
   in-range few h [] [] [] nd nl s own ok = tt
@@ -199,7 +201,8 @@ plan-back j order p lent bytes e =
     let few = ok .is-job .curves-bounds .1 in
     let long = order-length tests order (ok .is-order) in
     let r : InRange curves tests few order (p .drops) (p .loads) =
-    in-range (capacity (j .rig)) curves (j .wants) few 0 order (p .drops) (p .loads) (ok .drop-sets ∙ sym long) (ok .load-sets ∙ sym long) (empty-≼ (allCurves curves)) (ok .is-order .only) (ok .steps) in
+    in-range (capacity (j .rig)) curves (j .wants) few 0 order (p .drops) (p .loads) (ok .drop-sets ∙ sym long) (ok .load-sets ∙ sym long)
+    (empty-≼ (allCurves curves)) (ok .is-order .only) (ok .steps) in
     let ss = stepsOf curves tests few 0 order (p .drops) (p .loads) in (
       ss,
       done-both _ _ (counts-done curves tests (ok .is-job .curves-bounds) (ok .is-job .tests-bounds))
@@ -236,7 +239,8 @@ module _ (curves tests : ℕ) where
       go (suc v) q m p b t =
           record {
             bit-stands = rw q (unfold stands in (omega arith));
-            bytes = ap {B = List ℕ} (λ l. M ∷ l) b ∙ ap {B = List ℕ} (λ x. x ∷ (groupBytes 8 (g .value) ++ g .rest)) (sym m) ∙ sym (ap (λ (l : List ℕ). l ++ g .rest) (whole (g .value) v q));
+            bytes = ap {B = List ℕ} (λ l. M ∷ l) b ∙ ap {B = List ℕ} (λ x. x ∷ (groupBytes 8 (g .value) ++ g .rest)) (sym m)
+                ∙ sym (ap (λ (l : List ℕ). l ++ g .rest) (whole (g .value) v q));
             tail = t;
           }
         where
@@ -270,7 +274,8 @@ module _ (curves tests : ℕ) where
       last (l .0 .rest) (l .0 .next) (d .0) (l .0) (leb-true 4 M (m .0)) (leb-true M 7 (m .1)) D L refl (L .tail) (l .2)
     where
       last : (r : List ℕ) (n : ℕ) (ds ls : Got ℕ) → 4 ≤ M → M ≤ 7 → FieldRead (bit 0 M) bs ds → FieldRead (bit 1 M) (ds .rest) ls → ls .rest ≡ r → Bytes (ls .rest)
-          → _>>=_ (byteAt 11 n r) (λ t. _>>_ (demand (ltb (t .value) tests) 11 n) (done (got (record { step = one (t .value) (ds .value) (ls .value); from = i; until = t .next }) (t .next) (t .rest)))) ≡ done g
+          → _>>=_ (byteAt 11 n r) (λ t. _>>_ (demand (ltb (t .value) tests) 11 n)
+          (done (got (record { step = one (t .value) (ds .value) (ls .value); from = i; until = t .next }) (t .next) (t .rest)))) ≡ done g
           → StepRead (M ∷ bs) g
       last [] n ds ls lo hi D L q tl e = absurd (refused≢done e)
       last (t ∷ rest) n ds ls lo hi D L q tl e =
@@ -295,12 +300,14 @@ module _ (curves tests : ℕ) where
         steps = x .0 .value ∷ r .steps;
         value = r .value ∙ append-assoc acc (x .0 .value ∷ []) (r .steps);
         bytes = s .bytes ∙ ap (λ (l : List ℕ). stepBytes (x .0 .value .step) ++ l) (r .bytes)
-            ∙ sym (append-assoc (stepBytes (x .0 .value .step)) (planBytes (map (λ s. s .step .test) (r .steps)) (map (λ s. s .step .drops) (r .steps)) (map (λ s. s .step .loads) (r .steps))) (g .rest));
+            ∙ sym (append-assoc (stepBytes (x .0 .value .step))
+            (planBytes (map (λ s. s .step .test) (r .steps)) (map (λ s. s .step .drops) (r .steps)) (map (λ s. s .step .loads) (r .steps))) (g .rest));
         tail = r .tail;
       }
 
   -- BYTES THAT READ AS A PLAN are those that are written for it
-  pub plan-bytes-read : (bs : List ℕ) (ss : List Placed) → Bytes bs → readPlanBytes curves tests bs ≡ done ss → planBytes (map (λ s. s .step .test) ss) (map (λ s. s .step .drops) ss) (map (λ s. s .step .loads) ss) ≡ bs
+  pub plan-bytes-read : (bs : List ℕ) (ss : List Placed) → Bytes bs → readPlanBytes curves tests bs ≡ done ss
+      → planBytes (map (λ s. s .step .test) ss) (map (λ s. s .step .drops) ss) (map (λ s. s .step .loads) ss) ≡ bs
   unfolding readPlanBytes
   plan-bytes-read bs ss all e =
       let x = bind-done (readSteps curves tests tests [] 0 bs) _ ss e in
@@ -308,7 +315,8 @@ module _ (curves tests : ℕ) where
       let z = both-done (atEnd 11 (x .0 .next) (x .0 .rest)) (done (x .0 .value)) ss (x .2) in
       found (r .steps) (x .0 .rest) (sym (r .value) ∙ done-same (z .1)) (r .bytes) (end-none 11 (x .0 .next) (x .0 .rest) (z .0))
     where
-      found : (ts : List Placed) (rest : List ℕ) → ts ≡ ss → bs ≡ planBytes (map (λ s. s .step .test) ts) (map (λ s. s .step .drops) ts) (map (λ s. s .step .loads) ts) ++ rest → rest ≡ []
+      found : (ts : List Placed) (rest : List ℕ) → ts ≡ ss
+          → bs ≡ planBytes (map (λ s. s .step .test) ts) (map (λ s. s .step .drops) ts) (map (λ s. s .step .loads) ts) ++ rest → rest ≡ []
           → planBytes (map (λ s. s .step .test) ss) (map (λ s. s .step .drops) ss) (map (λ s. s .step .loads) ss) ≡ bs
       found ts rest q b n =
           subst (λ (us : List Placed). planBytes (map (λ s. s .step .test) us) (map (λ s. s .step .drops) us) (map (λ s. s .step .loads) us) ≡ bs) q

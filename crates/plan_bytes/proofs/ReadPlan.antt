@@ -77,7 +77,8 @@ module _ (curves tests : ℕ) (bs : List ℕ) where
     plan-refused k i e = (rw e refl, (rw e refl, rw e refl))
 
     -- .. and what is left of the lists where the plan reads and they take it
-    pub plan-given : (newOrder newDrops newLoads : List ℕ) → mapped (λ _. tt) (readPlanBytes curves tests bs) ≡ done (tt {0}) → planRead curves tests bs order lent ≡ readPlanBytes curves tests bs
+    pub plan-given : (newOrder newDrops newLoads : List ℕ) → mapped (λ _. tt) (readPlanBytes curves tests bs) ≡ done (tt {0})
+        → planRead curves tests bs order lent ≡ readPlanBytes curves tests bs
         → newOrder ≡ leaves (mapped testsOf (readPlanBytes curves tests bs)) order
         → newDrops ≡ leaves (mapped (λ ss. planIn ss .drops) (readPlanBytes curves tests bs)) (lent .drops)
         → newLoads ≡ leaves (mapped (λ ss. planIn ss .loads) (readPlanBytes curves tests bs)) (lent .loads)

@@ -46,7 +46,8 @@ module _ (curves tests : ℕ) where
       value : g .value ≡ acc ++ ss
       laid : Laid bs i ss
 
-    steps-laid : (k : ℕ) (acc : List Placed) (i : ℕ) (cs : List ℕ) (g : Got (List Placed)) → Bytes cs → cs ≡ drop i bs → i + length cs ≡ length bs → readSteps curves tests k acc i cs ≡ done g → LaidFrom acc i g
+    steps-laid : (k : ℕ) (acc : List Placed) (i : ℕ) (cs : List ℕ) (g : Got (List Placed)) → Bytes cs → cs ≡ drop i bs
+        → i + length cs ≡ length bs → readSteps curves tests k acc i cs ≡ done g → LaidFrom acc i g
     unfolding readSteps
     steps-laid zero acc i cs g all p n e = record { ss = []; value = sym (ap (λ (h : Got (List Placed)). h .value) (done-same e)) ∙ sym (append-nil acc); laid = tt }
     steps-laid (suc k) acc i cs g all p n e =

@@ -108,7 +108,8 @@ module _ (f : Placed → ℕ) (old : List ℕ) where
   fill-all acc new o e F = rw e (F .entries)
 
 -- a plan that reads, all of whose steps have been read
-pub all-read : (curves tests : ℕ) (bs : List ℕ) (k i : ℕ) (acc : List Placed) → Behind curves tests k i bs acc → tests ≤ k → mapped (λ _. tt) (readPlanBytes curves tests bs) ≡ done (tt {0})
+pub all-read : (curves tests : ℕ) (bs : List ℕ) (k i : ℕ) (acc : List Placed) → Behind curves tests k i bs acc → tests ≤ k
+    → mapped (λ _. tt) (readPlanBytes curves tests bs) ≡ done (tt {0})
     → readPlanBytes curves tests bs ≡ done acc
 all-read curves tests bs k i acc b h e = go (decLt i (length bs))
   where

@@ -9,6 +9,7 @@ use Rattle.plan_bytes.specs.declared.SetRead.{SetRead}
 use Rattle.plan_bytes.specs.declared.StepRead.{StepRead}
 use Rattle.plan_bytes.specs.PlanBytes.{Placed}
 
+-- what reading a set came to, as an outcome
 unfoldable pub setOutcome : List ℕ → SetRead → Outcome (Got ℕ)
 setOutcome bs (SetRead.Set s next) = done (got s next (drop next bs))
 setOutcome bs (SetRead.Fault i) = refused 11 i

@@ -30,6 +30,7 @@ unfoldable pub stepsBytes : List Step → List ℕ
 stepsBytes [] = []
 stepsBytes (s ∷ ss) = stepBytes s ++ stepsBytes ss
 
+-- the bytes of the steps that three lists give
 abbrev pub planBytes : List ℕ → List ℕ → List ℕ → List ℕ
 planBytes order drops loads = stepsBytes (steps order drops loads)
 
@@ -133,6 +134,7 @@ module _ (curves tests : ℕ) where
   placedAt zero (s ∷ ss) = found s
   placedAt (suc p) (s ∷ ss) = placedAt p ss
 
+  -- the step at position p of what was read
   unfoldable pub fetched : ℕ → Outcome (List Placed) → Found Placed
   fetched p (done ss) = placedAt p ss
   fetched p (refused k i) = nobody
@@ -151,5 +153,6 @@ module _ (curves tests : ℕ) where
 abbrev pub inPart : List ℕ → StepPart → List ℕ
 inPart bs q = take (q .count) (drop (q .start) bs)
 
+-- "A step's bytes .. fetched by position": that part of the bytes
 abbrev pub stepAt : ℕ → ℕ → List ℕ → ℕ → List ℕ
 stepAt curves tests bs p = inPart bs (stepPart curves tests bs p)

@@ -16,9 +16,11 @@ pub record Told : Type 0 where
   pub head : Head
   pub loads : ℕ
 
+-- what the function answers of a planned job
 abbrev pub told : Planned → Told
 told p = record { head = p .request .head; loads = curveCount (p .plan .loads) }
 
+-- the answer of the function as an outcome
 unfoldable pub plannedOutcome : JobPlanned → Outcome Told
 plannedOutcome (JobPlanned.Planned h n) = done (record { head = h; loads = n })
 plannedOutcome (JobPlanned.Refused r) = refused (number r) (figure r)
@@ -29,12 +31,15 @@ pub record Lists : Type 0 where
   pub order : List ℕ
   pub plan : Plan
 
+-- the lists of one call together
 abbrev pub listsOf : List ℕ → List ℕ → Plan → Lists
 listsOf wants order plan = record { wants = wants; order = order; plan = plan }
 
+-- the lists of a plan after a call that comes to o
 abbrev pub leavesPlan : Outcome Planned → Plan → Plan
 leavesPlan o old = planOf (leaves (mapped (λ p. p .plan .drops) o) (old .drops)) (leaves (mapped (λ p. p .plan .loads) o) (old .loads))
 
+-- the lists after a call: each stage that succeeds fills its own
 unfoldable pub leavesLists : List ℕ → Lists → Lists
 leavesLists bs old =
     listsOf (leaves (mapped (λ q. q .wants) (readBytes bs)) (old .wants)) (leaves (_>>=_ (readBytes bs) orderRequest) (old .order)) (leavesPlan (planJob bs) (old .plan))
@@ -43,14 +48,17 @@ leavesLists bs old =
 abbrev pub shortest : Lists → ℕ
 shortest l = min (min (length (l .wants)) (length (l .order))) (entries (l .plan))
 
+-- the answer of the call: 9 where a list has no room for 256 tests, then what reading, ordering and planning come to
 unfoldable pub planJobAnswer : List ℕ → Lists → Outcome Told
 planJobAnswer bs old = do
   room (shortest old) 256
   mapped told (planJob bs)
 
+-- the new lists, or under a refusal the old
 unfoldable pub keptUnless : Outcome (Unit {0}) → Lists → Lists → Lists
 keptUnless (done tt) old new = new
 keptUnless (refused k i) old new = old
 
+-- the lists after the call
 unfoldable pub planJobLists : List ℕ → Lists → Lists
 planJobLists bs old = keptUnless (room (shortest old) 256) old (leavesLists bs old)

@@ -17,16 +17,19 @@ pub record Planned : Type 0 where
 unfoldable pub orderRequest : Request → Outcome (List ℕ)
 orderRequest q = ordering (q .head .method) (jobIn q) (q .head .tests)
 
+-- the plan for an order of the tests
 unfoldable pub planInOrder : Request → List ℕ → Outcome Planned
 planInOrder q order = do
   sets ← planning (jobIn q) order (q .head .tests)
   done (record { request = q; order = order; plan = handed sets })
 
+-- the order by the method, then the plan for it
 unfoldable pub orderAndPlan : Request → Outcome Planned
 orderAndPlan q = do
   order ← orderRequest q
   planInOrder q order
 
+-- reading, ordering, planning
 unfoldable pub planJob : List ℕ → Outcome Planned
 planJob bs = do
   q ← readBytes bs

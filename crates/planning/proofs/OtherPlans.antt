@@ -52,7 +52,9 @@ pub record OtherPlans : Type 0 where
   surplus : checked (0 ∷ 0 ∷ 0 ∷ []) (1 ∷ 2 ∷ 0 ∷ 0 ∷ []) ≡ refused 12 3
 
 pub other-plans : OtherPlans
-unfolding ones inside _>>=_ _>>_ mapped demand room keep choose bestOf between listed each someTests placesKnown curvesKnown testsKnown methodKnown wantsKnown wantsFit numbersKnown jobKnownBy orderFrom checkingKnown planningKnown inOrder moves curveCount orBreaks keeps checkFrom later useBy nextUse further furthest andThen victims dropsFor planFrom ourPlan planning planAnswer setsKnown checkedOutcome checking
+unfolding ones inside _>>=_ _>>_ mapped demand room keep choose bestOf between listed each someTests placesKnown curvesKnown testsKnown methodKnown wantsKnown
+    wantsFit numbersKnown jobKnownBy orderFrom checkingKnown planningKnown inOrder moves curveCount orBreaks keeps checkFrom later useBy nextUse further
+    furthest andThen victims dropsFor planFrom ourPlan planning planAnswer setsKnown checkedOutcome checking
 other-plans =
     record {
       our-drops = refl;

@@ -58,7 +58,8 @@ module _ (j : Job) (order : List ℕ) (lent : Plan) where
         rw e (plan-width (j .rig .curves) 64 (known-exact j order (planning-parts j order known .0) .0 .curves-bounds .1) (capacity (j .rig)) 0 steps (pow-pos (j .rig .curves)) step-curves)
 
     -- ---- the whole: what was written for steps that want ws, and counted in the first entries of the loads
-    pub steps-contract : n ≤ entries lent → (ws : List ℕ) (count : ℕ) (ds ls : List ℕ) → ws ≡ steps → ds ≡ sets (lent .drops) 0 (dropsOf (planFrom (furthest 64) (capacity (j .rig)) 0 ws))
+    pub steps-contract : n ≤ entries lent → (ws : List ℕ) (count : ℕ) (ds ls : List ℕ) → ws ≡ steps
+        → ds ≡ sets (lent .drops) 0 (dropsOf (planFrom (furthest 64) (capacity (j .rig)) 0 ws))
         → ls ≡ sets (lent .loads) 0 (loadsOf (planFrom (furthest 64) (capacity (j .rig)) 0 ws)) → count ≡ curveCount (take n ls) → Contract (done count) (planOf ds ls)
     unfolding planAnswer planLists mapped
     steps-contract h ws count ds ls e d l c =
@@ -66,7 +67,9 @@ module _ (j : Job) (order : List ℕ) (lent : Plan) where
         let long : length plan ≡ n = plan-length j order (entries lent) plan p in
         let nd : length (dropsOf plan) ≡ n = length-map plan (λ s. s .drops) ∙ long in
         let nl : length (loadsOf plan) ≡ n = length-map plan (λ s. s .loads) ∙ long in
-        let wd : ds ≡ overwritten (dropsOf plan) (lent .drops) = d ∙ ap (λ (q : List Sets). sets (lent .drops) 0 (dropsOf q)) (our-plan ws e) ∙ sets-whole (dropsOf plan) (lent .drops) (omega arith) in
-        let wl : ls ≡ overwritten (loadsOf plan) (lent .loads) = l ∙ ap (λ (q : List Sets). sets (lent .loads) 0 (loadsOf q)) (our-plan ws e) ∙ sets-whole (loadsOf plan) (lent .loads) (omega arith) in
+        let wd : ds ≡ overwritten (dropsOf plan) (lent .drops) =
+        d ∙ ap (λ (q : List Sets). sets (lent .drops) 0 (dropsOf q)) (our-plan ws e) ∙ sets-whole (dropsOf plan) (lent .drops) (omega arith) in
+        let wl : ls ≡ overwritten (loadsOf plan) (lent .loads) =
+        l ∙ ap (λ (q : List Sets). sets (lent .loads) 0 (loadsOf q)) (our-plan ws e) ∙ sets-whole (loadsOf plan) (lent .loads) (omega arith) in
         let wc : count ≡ loadCount plan = c ∙ ap (λ (x : List ℕ). curveCount (take n x)) wl ∙ ap curveCount (front (loadsOf plan) (lent .loads) n nl) in
         contract (done count) (planOf ds ls) (rw (wc, p) refl) (rw (wd, wl, ← (leaves-done dropsOf _ plan (lent .drops) p), ← (leaves-done loadsOf _ plan (lent .loads) p)) refl)

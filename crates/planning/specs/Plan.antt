@@ -10,9 +10,11 @@ pub record Plan : Type 0 where
   pub drops : List ℕ
   pub loads : List ℕ
 
+-- the plan of two lists
 abbrev pub planOf : List ℕ → List ℕ → Plan
 planOf drops loads = record { drops = drops; loads = loads }
 
+-- steps as two lists
 abbrev pub handed : List Sets → Plan
 handed ss = planOf (dropsOf ss) (loadsOf ss)
 
@@ -20,6 +22,7 @@ handed ss = planOf (dropsOf ss) (loadsOf ss)
 abbrev pub first : ℕ → Plan → Plan
 first n p = planOf (take n (p .drops)) (take n (p .loads))
 
+-- for how many steps two lists have room
 abbrev pub entries : Plan → ℕ
 entries p = min (length (p .drops)) (length (p .loads))
 

@@ -91,8 +91,10 @@ module _ (q : Request) (plan O : List ℕ) (lent : Plan) (long : q .head .tests 
       let r : planRead c t plan O lent ≡ done ss = whole ∙ m in
       let k = plan-count c t plan ss (both-done (countsKnown c t) (readPlanBytes c t plan) ss m .1) in
       let po : take t O′ ≡ testsOf ss = ap (take t) (eo ∙ leaves-done testsOf (planRead c t plan O lent) ss O r) ∙ front (testsOf ss) O t (length-map ss (λ s. s .step .test) ∙ k) in
-      let pd = ap (take t) (leaves-done (λ ss. planIn ss .drops) (planRead c t plan O lent) ss (lent .drops) r) ∙ front (planIn ss .drops) (lent .drops) t (length-map ss (λ s. s .step .drops) ∙ k) in
-      let pl = ap (take t) (leaves-done (λ ss. planIn ss .loads) (planRead c t plan O lent) ss (lent .loads) r) ∙ front (planIn ss .loads) (lent .loads) t (length-map ss (λ s. s .step .loads) ∙ k) in
+      let pd = ap (take t) (leaves-done (λ ss. planIn ss .drops) (planRead c t plan O lent) ss (lent .drops) r)
+      ∙ front (planIn ss .drops) (lent .drops) t (length-map ss (λ s. s .step .drops) ∙ k) in
+      let pl = ap (take t) (leaves-done (λ ss. planIn ss .loads) (planRead c t plan O lent) ss (lent .loads) r)
+      ∙ front (planIn ss .loads) (lent .loads) t (length-map ss (λ s. s .step .loads) ∙ k) in
       rw (el, po, pd, pl, m) refl
 
   module _ (x : Counted) (e : countOutcome x ≡ readPlanAnswer c t plan O lent) where

@@ -47,11 +47,20 @@ curves-first : (n c k s : ℕ) → c ≤ k → k < c + n → k ∈ s → ((j : �
 curves-first zero c k s l h m b = absurd (omega arith)
 curves-first (suc n) c k s l h m b = at (ℕ-discrete c k) (curves-first n (suc c) k s)
   where
-    at : Dec (c ≡ k) → (suc c ≤ k → k < suc c + n → k ∈ s → ((j : ℕ) → j < k → bit j s ≡ 0) → curvesText n (suc c) s ≡ text " " ++ decimal k ++ curvesText n (suc c) (s ∖ 2 ^ k)) → curvesText (suc n) c s ≡ text " " ++ decimal k ++ curvesText (suc n) c (s ∖ 2 ^ k)
+    at : Dec (c ≡ k)
+        → (suc c ≤ k → k < suc c + n → k ∈ s → ((j : ℕ) → j < k → bit j s ≡ 0)
+        → curvesText n (suc c) s ≡ text " " ++ decimal k ++ curvesText n (suc c) (s ∖ 2 ^ k)) → curvesText (suc n) c s ≡ text " " ++ decimal k ++ curvesText (suc n) c (s ∖ 2 ^ k)
     at (yes e) r =
         let here : bit c s ≡ 1 = rw e m in
         let gone : bit c (s ∖ 2 ^ k) ≡ 0 = rw e (bit-gone k s) in
-        rw (turn n c s, turn n c (s ∖ 2 ^ k), present (bit c s) c here, absent (bit c (s ∖ 2 ^ k)) c gone, curves-same n (suc c) s (s ∖ 2 ^ k) (λ j i. bit-kept j k s (λ f. omega arith)), e) refl
+        rw (
+          turn n c s,
+          turn n c (s ∖ 2 ^ k),
+          present (bit c s) c here,
+          absent (bit c (s ∖ 2 ^ k)) c gone,
+          curves-same n (suc c) s (s ∖ 2 ^ k) (λ j i. bit-kept j k s (λ f. omega arith)),
+          e,
+        ) refl
     at (no n') r =
         let gone : bit c (s ∖ 2 ^ k) ≡ 0 = omega (arith, bit-kept c k s n', b c (omega arith)) in
         rw (turn n c s, turn n c (s ∖ 2 ^ k), absent (bit c s) c (b c (omega arith)), absent (bit c (s ∖ 2 ^ k)) c gone) (r (omega arith) (omega arith) m b)

@@ -22,14 +22,16 @@ highDigits zero n = []
 highDigits (suc h) zero = []
 highDigits (suc h) (suc n) = highDigits h (suc n / 10) ++ ((48 + suc n % 10) ∷ [])
 
+-- a number in decimal digits, without leading zeros
 unfoldable pub decimal : ℕ → List ℕ
 decimal n = highDigits n (n / 10) ++ ((48 + n % 10) ∷ [])
 
--- "in rising order": of k curves from curve c on, those of the set s, behind a space each
+-- curve c, behind a space, where its bit is 1
 unfoldable pub curveText : ℕ → ℕ → List ℕ
 curveText zero c = []
 curveText (suc d) c = text " " ++ decimal c
 
+-- "in rising order": of k curves from curve c on, those of the set s
 unfoldable pub curvesText : ℕ → ℕ → ℕ → List ℕ
 curvesText zero c s = []
 curvesText (suc k) c s = curveText (bit c s) c ++ curvesText k (suc c) s
@@ -43,6 +45,7 @@ setText (suc s) = curvesText 64 0 (suc s)
 unfoldable pub stepText : ℕ → Step → List ℕ
 stepText i s = decimal i ++ text ": test " ++ decimal (s .test) ++ text " drop" ++ setText (s .drops) ++ text " load" ++ setText (s .loads) ++ text "\n"
 
+-- a line for each step, from position i on
 unfoldable pub stepsText : ℕ → List Step → List ℕ
 stepsText i [] = []
 stepsText i (s ∷ ss) = stepText i s ++ stepsText (suc i) ss
@@ -53,6 +56,7 @@ headText p =
     let h = p .request .head in
     decimal (h .tests) ++ text " tests, " ++ decimal (capacity (h .rig)) ++ text " places, method " ++ decimal (h .method) ++ text "\n"
 
+-- the sheet of a planned job: its head, a line for each step, the load count
 unfoldable pub planText : Planned → List ℕ
 planText p =
     headText p ++ stepsText 0 (steps (p .order) (p .plan .drops) (p .plan .loads)) ++ text "loads " ++ decimal (curveCount (p .plan .loads)) ++ text "\n"

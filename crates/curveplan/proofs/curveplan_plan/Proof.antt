@@ -16,7 +16,9 @@ bytes c = bytes-of (now (c .before .args .job)) (λ k l. omega (arith, c .shared
 
 -- the refusal's number and figure are small
 small : (c : tie.After-known-told) → (number (c .before .r .given .0 .0) ≤ 9) × (figure (c .before .r .given .0 .0) ≤ 5120)
-small c = refusal-bounds (now (c .before .before .before .before .before .before .before .before .before .args .job)) (now (c .before .before .before .before .before .before .before .before .before .args .plan)) _ (c .before .before .before .before .before .job-to-plan .ensures .0) (bytes (c .before .before .before .before .before .before .before .before)) _ (c .before .r .given .1)
+small c = refusal-bounds (now (c .before .before .before .before .before .before .before .before .before .args .job))
+    (now (c .before .before .before .before .before .before .before .before .before .args .plan)) _
+    (c .before .before .before .before .before .job-to-plan .ensures .0) (bytes (c .before .before .before .before .before .before .before .before)) _ (c .before .r .given .1)
 
 mul-result : tie.Need-mul-result
 mul-result c = omega (arith, c .number-of .ensures, small (c .before) .0)

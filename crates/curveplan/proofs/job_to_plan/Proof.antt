@@ -23,10 +23,14 @@ filled c =
     let l = c .before .before .before .before .before .before .before .plan-job .last in
     listsOf (l .1 .0) (l .1 .1 .0) (planOf (l .1 .1 .1 .0) (l .1 .1 .1 .1 .0))
 
-given : (c : tie.After-known-told2) → Given (now (c .before .before .before .before .before .before .before .before .before .before .before .before .before .before .args .job)) (c .before .head .given .0 .0) (c .before .head .given .0 .1 .0) (filled c)
+given : (c : tie.After-known-told2)
+    → Given (now (c .before .before .before .before .before .before .before .before .before .before .before .before .before .before .args .job))
+    (c .before .head .given .0 .0) (c .before .head .given .0 .1 .0) (filled c)
 given c =
     let r = c .before .before .before .before .before .before .before .plan-job in
-    planned-job (now (c .before .before .before .before .before .before .before .before .before .before .before .before .before .before .args .job)) (bytes (c .before .before .before .before .before .before .before .before .before .before .before .before .before)) _ _ (r .ensures .0) (omega arith) _ _ _ (c .before .head .given .1) (r .ensures .1)
+    planned-job (now (c .before .before .before .before .before .before .before .before .before .before .before .before .before .before .args .job))
+    (bytes (c .before .before .before .before .before .before .before .before .before .before .before .before .before)) _ _ (r .ensures .0) (omega arith) _
+    _ _ (c .before .head .given .1) (r .ensures .1)
 
 array-share-prefix-wants : tie.Need-array-share-prefix-wants
 array-share-prefix-wants c = omega (arith, given c .few, c .before .before .before .before .before .before .before .plan-job .kept .1 .0)
@@ -57,7 +61,9 @@ unfolding countOutcome
 returns c =
     let a = c .before .before .before .before .before .before .before .before .before .before .before .before .before .before .args in
     let r = c .before .before .before .before .before .before .before .plan-job in
-    call-refused (now (a .job)) (now (a .plan)) _ _ (refused-job (now (a .job)) (bytes (c .before .before .before .before .before .before .before .before .before .before .before .before .before)) _ _ (r .ensures .0) (omega arith) _ (c .before .r .given .1))
+    call-refused (now (a .job)) (now (a .plan)) _ _
+    (refused-job (now (a .job)) (bytes (c .before .before .before .before .before .before .before .before .before .before .before .before .before)) _ _
+    (r .ensures .0) (omega arith) _ (c .before .r .given .1))
 
 returns-2 : tie.Need-returns-2
 returns-2 c =

@@ -42,7 +42,8 @@ loop-again c =
       turns = omega arith;
       goes =
           rw (c .moved .ensures) (k .loop .inv .goes
-          ∙ check-goes (a .capacity) (a .all) (k .loop .held) (k .loop .i) (now (a .wants)) (now (a .drops)) (now (a .loads)) _ _ _ (c .before .before .before .before .before .before .loop-test .taken)
+          ∙ check-goes (a .capacity) (a .all) (k .loop .held) (k .loop .i) (now (a .wants)) (now (a .drops)) (now (a .loads)) _ _ _
+          (c .before .before .before .before .before .before .loop-test .taken)
           (c .before .before .before .before .before .entry .ensures) (c .before .before .before .before .entry2 .ensures) (c .before .before .keeps .ensures) (not-false _ (c .before .if1 .left)));
     }
 

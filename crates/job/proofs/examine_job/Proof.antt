@@ -18,7 +18,8 @@ examine-wants-requires : tie.Need-examine-wants-requires
 examine-wants-requires c κs = known-bounds _ _ (examined-passed _ _ (c .before .enum-told .given .1) (c .before .before .before .examine-numbers .ensures))
 
 returns-3 : tie.Need-returns-3
-returns-3 c = c .examine-wants .ensures ∙ sym (by-rest _ _ (examined-passed _ _ (c .before .before .enum-told .given .1) (c .before .before .before .before .examine-numbers .ensures)) (c .before .if1 .left))
+returns-3 c =
+    c .examine-wants .ensures ∙ sym (by-rest _ _ (examined-passed _ _ (c .before .before .enum-told .given .1) (c .before .before .before .before .examine-numbers .ensures)) (c .before .if1 .left))
 
 pub examine-job-spec : {M : Type 1} → statement M
 examine-job-spec =

@@ -21,14 +21,26 @@ abbrev μ-loop : tie.MeasureT-loop
 
 returns : tie.Need-returns Inv-loop μ-loop
 unfolding examinedOutcome wantsFit
-returns c = sym (c .before .before .before .before .loop .inv .1 ∙ each-fail (λ w. leb (size w) (c .before .before .before .before .before .before .args .places)) 7 0 (c .before .before .before .before .before .before .args .wants .now) (c .before .before .before .before .loop .t) (omega arith) (lt-leb (size (getD (c .before .before .before .before .before .before .args .wants .now) (c .before .before .before .before .loop .t) 0)) _ (omega arith)) ∙ ap (λ (x : ℕ). refused 7 x) (omega arith))
+returns c =
+    sym (c .before .before .before .before .loop .inv .1
+    ∙ each-fail (λ w. leb (size w) (c .before .before .before .before .before .before .args .places)) 7 0
+    (c .before .before .before .before .before .before .args .wants .now) (c .before .before .before .before .loop .t) (omega arith)
+    (lt-leb (size (getD (c .before .before .before .before .before .before .args .wants .now) (c .before .before .before .before .loop .t) 0)) _
+    (omega arith)) ∙ ap (λ (x : ℕ). refused 7 x) (omega arith))
 
 loop-again : tie.Need-loop-again Inv-loop μ-loop
-loop-again c = (omega arith, c .before .before .before .before .loop .inv .1 ∙ each-pass (λ w. leb (size w) (c .before .before .before .before .before .before .args .places)) 7 0 (c .before .before .before .before .before .before .args .wants .now) (c .before .before .before .before .loop .t) (omega arith) (le-leb (size (getD (c .before .before .before .before .before .before .args .wants .now) (c .before .before .before .before .loop .t) 0)) _ (omega arith)))
+loop-again c = (
+  omega arith,
+  c .before .before .before .before .loop .inv .1
+      ∙ each-pass (λ w. leb (size w) (c .before .before .before .before .before .before .args .places)) 7 0
+      (c .before .before .before .before .before .before .args .wants .now) (c .before .before .before .before .loop .t) (omega arith)
+      (le-leb (size (getD (c .before .before .before .before .before .before .args .wants .now) (c .before .before .before .before .loop .t) 0)) _ (omega arith)),
+)
 
 returns-2 : tie.Need-returns-2 Inv-loop μ-loop
 unfolding examinedOutcome wantsFit
-returns-2 c = sym (c .before .loop .inv .1 ∙ each-end (λ w. leb (size w) (c .before .before .before .args .places)) 7 0 (c .before .before .before .args .wants .now) (c .before .loop .t) (omega arith))
+returns-2 c =
+    sym (c .before .loop .inv .1 ∙ each-end (λ w. leb (size w) (c .before .before .before .args .places)) 7 0 (c .before .before .before .args .wants .now) (c .before .loop .t) (omega arith))
 
 pub examine-sizes-spec : {M : Type 1} → statement M
 examine-sizes-spec =

@@ -23,15 +23,35 @@ abbrev μ-loop : tie.MeasureT-loop
 μ-loop curves wants all t₀ t = length wants - t
 
 loop-again : tie.Need-loop-again Inv-loop μ-loop
-loop-again c = (omega arith, c .before .before .before .before .loop .inv .1 ∙ each-pass (λ w. inside w (allCurves (c .before .before .before .before .before .before .before .args .curves))) 10 4 (c .before .before .before .before .before .before .before .args .wants .now) (c .before .before .before .before .loop .t) (omega arith) (ap (λ (x : ℕ). inside (getD (c .before .before .before .before .before .before .before .args .wants .now) (c .before .before .before .before .loop .t) 0) x) (sym (all-curves (c .before .before .before .before .before .before .before .args .curves) (c .before .before .before .before .before .below .result) (c .before .before .before .before .before .below .ensures) (c .before .before .before .before .before .before .before .pre .0))) ∙ sym (c .before .inside .ensures) ∙ c .if1 .taken))
+loop-again c = (
+  omega arith,
+  c .before .before .before .before .loop .inv .1
+      ∙ each-pass (λ w. inside w (allCurves (c .before .before .before .before .before .before .before .args .curves))) 10 4
+      (c .before .before .before .before .before .before .before .args .wants .now) (c .before .before .before .before .loop .t) (omega arith)
+      (ap (λ (x : ℕ). inside (getD (c .before .before .before .before .before .before .before .args .wants .now)
+      (c .before .before .before .before .loop .t) 0) x)
+      (sym (all-curves (c .before .before .before .before .before .before .before .args .curves)
+      (c .before .before .before .before .before .below .result) (c .before .before .before .before .before .below .ensures)
+      (c .before .before .before .before .before .before .before .pre .0))) ∙ sym (c .before .inside .ensures) ∙ c .if1 .taken),
+)
 
 returns : tie.Need-returns Inv-loop μ-loop
 unfolding examinedOutcome wantsKnown
-returns c = sym (c .before .before .before .before .loop .inv .1 ∙ each-fail (λ w. inside w (allCurves (c .before .before .before .before .before .before .before .args .curves))) 10 4 (c .before .before .before .before .before .before .before .args .wants .now) (c .before .before .before .before .loop .t) (omega arith) (ap (λ (x : ℕ). inside (getD (c .before .before .before .before .before .before .before .args .wants .now) (c .before .before .before .before .loop .t) 0) x) (sym (all-curves (c .before .before .before .before .before .before .before .args .curves) (c .before .before .before .before .before .below .result) (c .before .before .before .before .before .below .ensures) (c .before .before .before .before .before .before .before .pre .0))) ∙ sym (c .before .inside .ensures) ∙ c .if1 .left))
+returns c =
+    sym (c .before .before .before .before .loop .inv .1
+    ∙ each-fail (λ w. inside w (allCurves (c .before .before .before .before .before .before .before .args .curves))) 10 4
+    (c .before .before .before .before .before .before .before .args .wants .now) (c .before .before .before .before .loop .t) (omega arith)
+    (ap (λ (x : ℕ). inside (getD (c .before .before .before .before .before .before .before .args .wants .now)
+    (c .before .before .before .before .loop .t) 0) x)
+    (sym (all-curves (c .before .before .before .before .before .before .before .args .curves)
+    (c .before .before .before .before .before .below .result) (c .before .before .before .before .before .below .ensures)
+    (c .before .before .before .before .before .before .before .pre .0))) ∙ sym (c .before .inside .ensures) ∙ c .if1 .left))
 
 returns-2 : tie.Need-returns-2 Inv-loop μ-loop
 unfolding examinedOutcome wantsKnown
-returns-2 c = sym (c .before .loop .inv .1 ∙ each-end (λ w. inside w (allCurves (c .before .before .before .before .args .curves))) 10 4 (c .before .before .before .before .args .wants .now) (c .before .loop .t) (omega arith))
+returns-2 c =
+    sym (c .before .loop .inv .1
+    ∙ each-end (λ w. inside w (allCurves (c .before .before .before .before .args .curves))) 10 4 (c .before .before .before .before .args .wants .now) (c .before .loop .t) (omega arith))
 
 pub examine-wants-spec : {M : Type 1} → statement M
 examine-wants-spec =

@@ -18,7 +18,8 @@ over old l m e = ap (λ r. overwritten r old) (sym e)
 returns : tie.Need-returns
 returns c =
     let a = c .before .before .before .before .before .before .before .args in
-    c .before .before .listed-order .ensures ∙ listed-all (length (now (a .wants))) (now (a .order)) (omega arith) (omega arith) ∙ over (now (a .order)) _ _ (by-0 (a .places) (now (a .wants)) (a .method) (omega arith))
+    c .before .before .listed-order .ensures ∙ listed-all (length (now (a .wants))) (now (a .order)) (omega arith) (omega arith)
+    ∙ over (now (a .order)) _ _ (by-0 (a .places) (now (a .wants)) (a .method) (omega arith))
 
 returns-2 : tie.Need-returns-2
 returns-2 c =

@@ -60,7 +60,8 @@ loop-again c =
     let few = rows.few-shared (getD cs i 0) (getD cs j 0) (c .before .shared .result) (c .before .before .shared-slice-known3 .given i .fits) e in
     ⊎-elim
     (λ w.
-    let f : leb (size (getD cs i 0 ∪ getD cs j 0)) (a .bound) ≡ true = le-leb (size (getD cs i 0 ∪ getD cs j 0)) (a .bound) (omega (arith, w .5 .taken, w .4 .ensures, ap size (w .3 .ensures))) in
+    let f : leb (size (getD cs i 0 ∪ getD cs j 0)) (a .bound) ≡ true =
+    le-leb (size (getD cs i 0 ∪ getD cs j 0)) (a .bound) (omega (arith, w .5 .taken, w .4 .ensures, ap size (w .3 .ensures))) in
     record {
       turns = omega arith;
       within = omega arith;
@@ -72,7 +73,8 @@ loop-again c =
     (λ o.
     ⊎-elim
     (λ w.
-    let f : leb (size (getD cs i 0 ∪ getD cs j 0)) (a .bound) ≡ false = lt-leb (size (getD cs i 0 ∪ getD cs j 0)) (a .bound) (omega (arith, w .5 .left, w .4 .ensures, ap size (w .3 .ensures))) in
+    let f : leb (size (getD cs i 0 ∪ getD cs j 0)) (a .bound) ≡ false =
+    lt-leb (size (getD cs i 0 ∪ getD cs j 0)) (a .bound) (omega (arith, w .5 .left, w .4 .ensures, ap size (w .3 .ensures))) in
     record {
       turns = omega arith;
       within = omega arith;

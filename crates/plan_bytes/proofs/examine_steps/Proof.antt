@@ -24,13 +24,17 @@ unfolding mapped examinedOutcome
 returns c =
     let l = c .before .before .before .before .before .loop in
     let a = c .before .before .before .before .before .before .before .args in
-    rw (step-faulty (a .curves) (a .tests) (now (a .plan)) (l .k) (l .at) (l .inv .0) (l .inv .1) (c .before .before .before .before .loop-test .taken) _ (c .before .before .before .read-step .ensures) _ (c .before .i .given .1)) refl
+    rw (step-faulty (a .curves) (a .tests) (now (a .plan)) (l .k) (l .at) (l .inv .0) (l .inv .1) (c .before .before .before .before .loop-test .taken) _
+    (c .before .before .before .read-step .ensures) _ (c .before .i .given .1)) refl
 
 loop-again : tie.Need-loop-again Inv-loop μ-loop
 loop-again c =
     let l = c .before .before .before .before .before .loop in
-    let a = c .before .before .before .before .before .before .before .args in
-    (_, step-more (a .curves) (a .tests) (now (a .plan)) (l .k) (l .at) (l .inv .0) (l .inv .1) (c .before .before .before .before .loop-test .taken) _ (c .before .before .before .read-step .ensures) _ _ _ _ (c .before .next .given .1))
+    let a = c .before .before .before .before .before .before .before .args in (
+      _,
+      step-more (a .curves) (a .tests) (now (a .plan)) (l .k) (l .at) (l .inv .0) (l .inv .1) (c .before .before .before .before .loop-test .taken) _
+          (c .before .before .before .read-step .ensures) _ _ _ _ (c .before .next .given .1),
+    )
 
 returns-2 : tie.Need-returns-2 Inv-loop μ-loop
 unfolding mapped examinedOutcome

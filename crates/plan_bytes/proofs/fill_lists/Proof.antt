@@ -49,16 +49,20 @@ returns c =
     let l = c .before .before .before .before .loop in
     let s = c .before .before .before .before .before .before .before .before .before in
     let a = s .args in
-    absurd (no-fault _ _ (s .pre .1) (step-faulty (a .curves) (a .tests) (now (a .plan)) (l .k) (l .at) (l .inv .0) (l .inv .1 .behind) (c .before .before .before .loop-test .taken) _ (c .before .before .read-step .ensures) _ (c .enum-told .given .1)))
+    absurd (no-fault _ _ (s .pre .1) (step-faulty (a .curves) (a .tests) (now (a .plan)) (l .k) (l .at) (l .inv .0) (l .inv .1 .behind)
+    (c .before .before .before .loop-test .taken) _ (c .before .before .read-step .ensures) _ (c .enum-told .given .1)))
 
 slice-write-order : tie.Need-slice-write-order Inv-loop μ-loop
-slice-write-order c = let l = c .before .before .before .before .before .loop .inv .1 .tests .long in let p = c .before .before .before .before .before .before .before .before .before .before .pre in omega arith
+slice-write-order c = let l = c .before .before .before .before .before .loop .inv .1 .tests .long in let p =
+    c .before .before .before .before .before .before .before .before .before .before .pre in omega arith
 
 slice-write-drops : tie.Need-slice-write-drops Inv-loop μ-loop
-slice-write-drops c = let l = c .before .before .before .before .before .loop .inv .1 .drops .long in let p = c .before .before .before .before .before .before .before .before .before .before .pre in omega arith
+slice-write-drops c = let l = c .before .before .before .before .before .loop .inv .1 .drops .long in let p =
+    c .before .before .before .before .before .before .before .before .before .before .pre in omega arith
 
 slice-write-loads : tie.Need-slice-write-loads Inv-loop μ-loop
-slice-write-loads c = let l = c .before .before .before .before .before .loop .inv .1 .loads .long in let p = c .before .before .before .before .before .before .before .before .before .before .pre in omega arith
+slice-write-loads c = let l = c .before .before .before .before .before .loop .inv .1 .loads .long in let p =
+    c .before .before .before .before .before .before .before .before .before .before .pre in omega arith
 
 loop-again : tie.Need-loop-again Inv-loop μ-loop
 loop-again c =

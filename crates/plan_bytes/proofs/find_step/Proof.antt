@@ -21,18 +21,21 @@ abbrev μ-loop : tie.MeasureT-loop
 μ-loop curves tests plan position size start₀ count₀ at₀ i₀ start count at i = tests - i
 
 loop-holds : tie.Need-loop-holds Inv-loop μ-loop
-loop-holds c = let a = c .before .args in ([], record { behind = begin (a .curves) (a .tests) (now (a .plan)); inside = omega arith; part = part-none (a .curves) (a .tests) (now (a .plan)) (a .position) })
+loop-holds c = let a =
+    c .before .args in ([], record { behind = begin (a .curves) (a .tests) (now (a .plan)); inside = omega arith; part = part-none (a .curves) (a .tests) (now (a .plan)) (a .position) })
 
 returns : tie.Need-returns Inv-loop μ-loop
 returns c =
     let l = c .before .before .before .before .loop in
     let a = c .before .before .before .before .before .before .args in
-    let e = step-faulty (a .curves) (a .tests) (now (a .plan)) (l .i) (l .at) (l .inv .0) (l .inv .1 .behind) (c .before .before .before .loop-test .taken) _ (c .before .before .read-step .ensures) _ (c .enum-told .given .1) in
+    let e = step-faulty (a .curves) (a .tests) (now (a .plan)) (l .i) (l .at) (l .inv .0) (l .inv .1 .behind) (c .before .before .before .loop-test .taken) _
+    (c .before .before .read-step .ensures) _ (c .enum-told .given .1) in
     (part-refused (a .curves) (a .tests) (now (a .plan)) (a .position) _ _ _ e, omega arith)
 
 -- the step that was read goes on in the bytes, and ends within them
 onward : (c : tie.After-known-told Inv-loop μ-loop) →
-    (c .before .before .before .before .before .loop .at ≤ c .before .next .given .0 .1 .1 .1 .0) × (c .before .next .given .0 .1 .1 .1 .0 ≤ length (now (c .before .before .before .before .before .before .before .args .plan)))
+    (c .before .before .before .before .before .loop .at ≤ c .before .next .given .0 .1 .1 .1 .0)
+    × (c .before .next .given .0 .1 .1 .1 .0 ≤ length (now (c .before .before .before .before .before .before .before .args .plan)))
 onward c =
     let l = c .before .before .before .before .before .loop in
     let a = c .before .before .before .before .before .before .before .args in
@@ -52,8 +55,24 @@ loop-again c =
     let w = onward (c .before) in
     let b = step-more (a .curves) (a .tests) (now (a .plan)) (l .i) (l .at) (l .inv .0) (i .behind) h _ r _ _ _ _ (v .1) in
     ⊎-elim
-    (λ q. rw (q .1, q .2, q .3) (_, record { behind = b; inside = w .1; part = part-here (a .curves) (a .tests) (now (a .plan)) (a .position) (l .inv .0) (placed (l .at) _ _ _ _) (omega (arith, i .behind .count, q .0 .taken)) (w .0) (w .1) }))
-    (λ q. rw (q .1, q .2, q .3) (_, record { behind = b; inside = w .1; part = part-other (a .curves) (a .tests) (now (a .plan)) (a .position) (l .inv .0) _ (l .start) (l .count) (λ e. q .0 .left (omega (arith, i .behind .count))) (i .part) }))
+    (λ q. rw (q .1, q .2, q .3) (
+      _,
+      record {
+        behind = b;
+        inside = w .1;
+        part = part-here (a .curves) (a .tests) (now (a .plan)) (a .position) (l .inv .0) (placed (l .at) _ _ _ _)
+            (omega (arith, i .behind .count, q .0 .taken)) (w .0) (w .1);
+      },
+    ))
+    (λ q. rw (q .1, q .2, q .3) (
+      _,
+      record {
+        behind = b;
+        inside = w .1;
+        part = part-other (a .curves) (a .tests) (now (a .plan)) (a .position) (l .inv .0) _ (l .start) (l .count)
+            (λ e. q .0 .left (omega (arith, i .behind .count))) (i .part);
+      },
+    ))
     (c .if1 .came)
 
 returns-2 : tie.Need-returns-2 Inv-loop μ-loop

@@ -48,7 +48,12 @@ fill-lists-requires : tie.Need-fill-lists-requires
 fill-lists-requires c κs =
     let a = c .before .before .before .before .before .before .before .before .before .before .before .before .before .args in
     let p = passed (c .before .before .before .before .before .before) in (
-      (counts-bounds (a .curves) (a .tests) (bytes-counts (a .curves) (a .tests) (now (a .plan)) p) .0, c .before .before .before .before .before .if1 .left, c .before .before .before .before .if2 .left, c .before .before .before .if3 .left),
+      (
+        counts-bounds (a .curves) (a .tests) (bytes-counts (a .curves) (a .tests) (now (a .plan)) p) .0,
+        c .before .before .before .before .before .if1 .left,
+        c .before .before .before .before .if2 .left,
+        c .before .before .before .if3 .left,
+      ),
       bytes-passed (a .curves) (a .tests) (now (a .plan)) p,
     )
 

@@ -25,7 +25,9 @@ returns-3 c tests =
 returns-4 : tie.Need-returns-4
 returns-4 c tests =
     let a = c .before .before .before .before .before .before .before .args in
-    c .read-groups .ensures ∙ sym (set-groups (a .at) (now (a .plan)) (a .curves) tests (a .stands) (omega (arith, c .before .before .before .before .before .if1 .left)) (omega arith) (omega (arith, c .before .before .if3 .left)))
+    c .read-groups .ensures
+    ∙ sym (set-groups (a .at) (now (a .plan)) (a .curves) tests (a .stands) (omega (arith, c .before .before .before .before .before .if1 .left))
+    (omega arith) (omega (arith, c .before .before .if3 .left)))
 
 pub read-set-spec : {M : Type 1} → statement M
 read-set-spec =

@@ -26,7 +26,8 @@ drops-read c =
 -- the loads that were read
 loads-read : (c : tie.After-loads) →
     let a = c .before .before .before .before .before .before .before .before .before .before .before .before .args in
-    readSet (a .curves) (a .tests) (bit 1 (getD (now (a .plan)) (a .at) 0)) (c .before .before .before .before .drops .given .0 .1 .0) (drop (c .before .before .before .before .drops .given .0 .1 .0) (now (a .plan)))
+    readSet (a .curves) (a .tests) (bit 1 (getD (now (a .plan)) (a .at) 0)) (c .before .before .before .before .drops .given .0 .1 .0)
+    (drop (c .before .before .before .before .drops .given .0 .1 .0) (now (a .plan)))
     ≡ done (got (c .loads .given .0 .0) (c .loads .given .0 .1 .0) (drop (c .loads .given .0 .1 .0) (now (a .plan))))
 loads-read c =
     let a = c .before .before .before .before .before .before .before .before .before .before .before .before .args in
@@ -80,7 +81,8 @@ unfolding stepOutcome
 returns-7 c =
     let a = c .before .before .before .before .before .before .before .before .before .before .before .before .before .args in
     let d = c .before .before .before .before .before in
-    sym (loads-faulty (a .curves) (a .tests) (a .at) (now (a .plan)) (omega arith) (omega arith) (omega arith) (d .drops .given .0 .0) (d .drops .given .0 .1 .0) (drops-read d) (c .before .i2 .given .0 .0)
+    sym (loads-faulty (a .curves) (a .tests) (a .at) (now (a .plan)) (omega arith) (omega arith) (omega arith) (d .drops .given .0 .0)
+    (d .drops .given .0 .1 .0) (drops-read d) (c .before .i2 .given .0 .0)
     (set-refused (now (a .plan)) _ _ (c .before .before .before .read-set2 .ensures (a .tests)) _ (c .before .i2 .given .1)))
 
 returns-8 : tie.Need-returns-8

@@ -10,19 +10,25 @@ use Rattle.planned.proofs.plan_job.Tie as tie
 
 returns : tie.Need-returns
 unfolding plannedOutcome
-returns c = let a = c .before .before .before .before .before .before .args in too-short (now (a .job)) (listsOf (now (a .wants)) (now (a .order)) (planOf (now (a .drops)) (now (a .loads)))) (omega arith)
+returns c = let a =
+    c .before .before .before .before .before .before .args in too-short (now (a .job)) (listsOf (now (a .wants)) (now (a .order)) (planOf (now (a .drops)) (now (a .loads)))) (omega arith)
 
 returns-2 : tie.Need-returns-2
 unfolding plannedOutcome
-returns-2 c = let a = c .before .before .before .before .before .before .before .args in too-short (now (a .job)) (listsOf (now (a .wants)) (now (a .order)) (planOf (now (a .drops)) (now (a .loads)))) (omega arith)
+returns-2 c = let a =
+    c .before .before .before .before .before .before .before .args in too-short (now (a .job)) (listsOf (now (a .wants)) (now (a .order)) (planOf (now (a .drops)) (now (a .loads)))) (omega arith)
 
 returns-3 : tie.Need-returns-3
 unfolding plannedOutcome
-returns-3 c = let a = c .before .before .before .before .before .before .before .before .args in too-short (now (a .job)) (listsOf (now (a .wants)) (now (a .order)) (planOf (now (a .drops)) (now (a .loads)))) (omega arith)
+returns-3 c = let a =
+    c .before .before .before .before .before .before .before .before .args in too-short (now (a .job))
+    (listsOf (now (a .wants)) (now (a .order)) (planOf (now (a .drops)) (now (a .loads)))) (omega arith)
 
 returns-4 : tie.Need-returns-4
 unfolding plannedOutcome
-returns-4 c = let a = c .before .before .before .before .before .before .before .before .before .args in too-short (now (a .job)) (listsOf (now (a .wants)) (now (a .order)) (planOf (now (a .drops)) (now (a .loads)))) (omega arith)
+returns-4 c = let a =
+    c .before .before .before .before .before .before .before .before .before .args in too-short (now (a .job))
+    (listsOf (now (a .wants)) (now (a .order)) (planOf (now (a .drops)) (now (a .loads)))) (omega arith)
 
 returns-5 : tie.Need-returns-5
 returns-5 c =

@@ -17,14 +17,23 @@ bytes : (c : tie.After-shared-slice-known) → Bytes (now (c .before .args .job)
 bytes c = bytes-of (now (c .before .args .job)) (λ k l. omega (arith, c .shared-slice-known .given k))
 
 -- what was read
-read : (c : tie.After-known-told2) → ReadFirst (now (c .before .before .before .before .before .before .before .before .before .before .before .before .args .job)) (c .before .head .given .0 .0) (c .before .before .before .before .before .read-job .last .1 .0)
+read : (c : tie.After-known-told2)
+    → ReadFirst (now (c .before .before .before .before .before .before .before .before .before .before .before .before .args .job))
+    (c .before .head .given .0 .0) (c .before .before .before .before .before .read-job .last .1 .0)
 read c =
     let s = c .before .before .before .before .before .before .before .before .before .before .before .before in
     let r = c .before .before .before .before .before .read-job in
-    answer-done (now (s .args .job)) (now (s .args .wants)) (bytes (c .before .before .before .before .before .before .before .before .before .before .before)) (s .pre .0) _ _ (read-done _ _ _ (r .ensures .0) (c .before .head .given .1)) (r .ensures .1)
+    answer-done (now (s .args .job)) (now (s .args .wants)) (bytes (c .before .before .before .before .before .before .before .before .before .before .before))
+    (s .pre .0) _ _ (read-done _ _ _ (r .ensures .0) (c .before .head .given .1)) (r .ensures .1)
 
 slice-reshare-prefix-order-and-plan : tie.Need-slice-reshare-prefix-order-and-plan
-slice-reshare-prefix-order-and-plan c = omega (arith, read c .few, c .before .before .before .before .before .read-job .kept .1 .0, c .before .before .before .before .before .before .before .before .before .before .before .before .pre .0)
+slice-reshare-prefix-order-and-plan c =
+    omega (
+      arith,
+      read c .few,
+      c .before .before .before .before .before .read-job .kept .1 .0,
+      c .before .before .before .before .before .before .before .before .before .before .before .before .pre .0,
+    )
 
 slice-aggregate-order-and-plan : tie.Need-slice-aggregate-order-and-plan
 slice-aggregate-order-and-plan c = sym (read (c .before) .tests)
@@ -53,7 +62,8 @@ returns-2 c =
     let e = read k .read in
     let p = c .before .before .before .before .before .before .before .before .before .order-and-plan in
     let old = listsOf (now (a .wants)) (now (a .order)) (planOf (now (a .drops)) (now (a .loads))) in
-    let w = k .before .before .before .before .before .read-job .ensures .1 ∙ wants-left (now (a .job)) (now (a .wants)) (bytes (k .before .before .before .before .before .before .before .before .before .before .before)) (s .pre .0) in
+    let w = k .before .before .before .before .before .read-job .ensures .1
+    ∙ wants-left (now (a .job)) (now (a .wants)) (bytes (k .before .before .before .before .before .before .before .before .before .before .before)) (s .pre .0) in
     (tells-refusal (now (a .job)) _ e _ (p .ensures .0) _ (c .before .r2 .given .1), read-lists (now (a .job)) old _ w _ _ _ e (p .ensures .1 .0) (p .ensures .1 .1))
 
 returns-3 : tie.Need-returns-3
@@ -64,7 +74,8 @@ returns-3 c =
     let e = read k .read in
     let p = c .before .before .before .before .before .before .before .before .before .order-and-plan in
     let old = listsOf (now (a .wants)) (now (a .order)) (planOf (now (a .drops)) (now (a .loads))) in
-    let w = k .before .before .before .before .before .read-job .ensures .1 ∙ wants-left (now (a .job)) (now (a .wants)) (bytes (k .before .before .before .before .before .before .before .before .before .before .before)) (s .pre .0) in
+    let w = k .before .before .before .before .before .read-job .ensures .1
+    ∙ wants-left (now (a .job)) (now (a .wants)) (bytes (k .before .before .before .before .before .before .before .before .before .before .before)) (s .pre .0) in
     (tells-count (now (a .job)) _ e _ (p .ensures .0) _ (c .before .count .given .1), read-lists (now (a .job)) old _ w _ _ _ e (p .ensures .1 .0) (p .ensures .1 .1))
 
 pub read-and-plan-spec : {M : Type 1} → statement M

@@ -38,7 +38,8 @@ unfolding countOutcome
 returns-2 c = sym (check-sets _ _ _ (passed (c .before .before .before .before)) _ _ (examined-refused _ _ _ (c .before .r2 .given .1) (c .before .before .before .examine-sets .ensures)))
 
 -- the local list has an entry for each test
-enough : (c : tie.After-steps2) → length (now (c .before .before .before .before .before .before .before .before .before .before .before .before .before .args .wants)) ≤ length (c .before .in-order .last .1 .1 .0)
+enough : (c : tie.After-steps2)
+    → length (now (c .before .before .before .before .before .before .before .before .before .before .before .before .before .args .wants)) ≤ length (c .before .in-order .last .1 .1 .0)
 enough c = omega (arith, c .before .in-order .kept .1 .1 .0, known-exact _ _ (passed (c .before .before .before .before .before .before)) .0 .tests-bounds)
 
 array-share-prefix-steps : tie.Need-array-share-prefix-steps
@@ -47,7 +48,11 @@ array-share-prefix-steps c = omega (arith, enough (c .before))
 slice-aggregate-check-steps : tie.Need-slice-aggregate-check-steps
 slice-aggregate-check-steps c =
     let s = c .before .before in
-    omega (arith, length-take-le (length (now (s .before .before .before .before .before .before .before .before .before .before .before .before .before .args .wants))) (s .before .in-order .last .1 .1 .0) (enough s))
+    omega (
+      arith,
+      length-take-le (length (now (s .before .before .before .before .before .before .before .before .before .before .before .before .before .args .wants)))
+          (s .before .in-order .last .1 .1 .0) (enough s),
+    )
 
 -- what was answered of the steps
 checked : (c : tie.After-check-steps)

@@ -24,7 +24,8 @@ few : (c : tie.After-enum-told) → length (now (c .before .before .before .befo
 few c = known-exact _ _ (planning-parts _ _ (passed c) .0) .0 .tests-bounds .1
 
 -- the local list has an entry for each test
-enough : (c : tie.After-steps2) → length (now (c .before .before .before .before .before .before .before .before .before .before .before .before .args .wants)) ≤ length (c .before .in-order .last .1 .1 .0)
+enough : (c : tie.After-steps2)
+    → length (now (c .before .before .before .before .before .before .before .before .before .before .before .before .args .wants)) ≤ length (c .before .in-order .last .1 .1 .0)
 enough c = omega (arith, c .before .in-order .kept .1 .1 .0, few (c .before .before .before .before .before))
 
 -- and its first entries are the steps' wants
@@ -65,18 +66,26 @@ slice-aggregate-plan-steps c =
     omega (arith, length-take-le (length (now (a .wants))) (c .before .before .in-order .last .1 .1 .0) (enough (c .before)))
 
 -- the loads still have an entry for each test
-loads-long : (c : tie.After-plan-steps) → length (now (c .before .before .before .before .before .before .before .before .before .before .before .before .before .before .before .before .args .wants)) ≤ length (c .plan-steps .last .1 .1 .1 .1 .0)
+loads-long : (c : tie.After-plan-steps)
+    → length (now (c .before .before .before .before .before .before .before .before .before .before .before .before .before .before .before .before .args
+    .wants)) ≤ length (c .plan-steps .last .1 .1 .1 .1 .0)
 loads-long c = omega (arith, c .plan-steps .kept .1 .1 .1 .1 .0, c .before .before .before .before .before .before .before .if2 .left)
 
 slice-aggregate-count-curves : tie.Need-slice-aggregate-count-curves
 slice-aggregate-count-curves c =
     let p = c .before .before .before .before .before in
-    sym (length-take-le (length (now (p .before .before .before .before .before .before .before .before .before .before .before .before .before .before .before .before .args .wants))) (p .plan-steps .last .1 .1 .1 .1 .0) (loads-long p))
+    sym (length-take-le (length (now (p .before .before .before .before .before .before .before .before .before .before .before .before .before .before .before
+    .before .args .wants))) (p .plan-steps .last .1 .1 .1 .1 .0) (loads-long p))
 
 count-curves-requires : tie.Need-count-curves-requires
 count-curves-requires c κs =
     let p = c .before .before .before .before .before in
-    omega (arith, length-take-le (length (now (p .before .before .before .before .before .before .before .before .before .before .before .before .before .before .before .before .args .wants))) (p .plan-steps .last .1 .1 .1 .1 .0) (loads-long p), few (p .before .before .before .before .before .before .before .before .before))
+    omega (
+      arith,
+      length-take-le (length (now (p .before .before .before .before .before .before .before .before .before .before .before .before .before .before .before
+          .before .args .wants))) (p .plan-steps .last .1 .1 .1 .1 .0) (loads-long p),
+      few (p .before .before .before .before .before .before .before .before .before),
+    )
 
 returns-4 : tie.Need-returns-4
 unfolding countOutcome

@@ -24,7 +24,8 @@ returns : tie.Need-returns
 unfolding text
 returns c =
     rw (head-line (c .before .before .before .before .before .before .before .before .before .before .before .before .before .before .before .before .args .head) [] [] [])
-    (wrote-append (wrote-append (c .before .before .before .before .before .before .before .before .before .before .before .before .put-number .ensures) (c .before .before .before .before .before .before .before .put-number2 .ensures)) (c .before .before .put-number3 .ensures))
+    (wrote-append (wrote-append (c .before .before .before .before .before .before .before .before .before .before .before .before .put-number .ensures)
+    (c .before .before .before .before .before .before .before .put-number2 .ensures)) (c .before .before .put-number3 .ensures))
 
 pub put-head-spec : {M : Type 1} → statement M
 put-head-spec =

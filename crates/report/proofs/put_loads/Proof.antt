@@ -17,7 +17,9 @@ put-number-requires c κs = omega (arith, loads-length (c .before .before .befor
 
 returns : tie.Need-returns
 unfolding text
-returns c = rw (loads-line (c .before .before .before .before .before .before .before .before .before .before .before .args .count)) (wrote-append (c .before .before .before .before .before .before .before .put-text .ensures) (c .before .before .put-number .ensures))
+returns c =
+    rw (loads-line (c .before .before .before .before .before .before .before .before .before .before .before .args .count))
+    (wrote-append (c .before .before .before .before .before .before .before .put-text .ensures) (c .before .before .put-number .ensures))
 
 pub put-loads-spec : {M : Type 1} → statement M
 put-loads-spec = tie.close (tie.spec (λ c. search needs) put-text-requires (λ c. search needs) put-number-requires (λ c. search needs) returns)

@@ -79,7 +79,8 @@ loop-again c =
       range = omega (arith, c .without-lowest .ensures, fewer 64 (l .left) (omega arith) (l .inv .range));
       rest =
           rw (c .without-lowest .ensures)
-          (rest-put (turn i) (wrote-append (c .before .before .before .before .before .before .before .before .put-byte .ensures) (rw (c .before .before .before .before .lowest .ensures) at (c .before .before .before .put-decimal .ensures))));
+          (rest-put (turn i) (wrote-append (c .before .before .before .before .before .before .before .before .put-byte .ensures)
+          (rw (c .before .before .before .before .lowest .ensures) at (c .before .before .before .put-decimal .ensures))));
     }
 
 whole : (c : tie.After-loop Inv-loop μ-loop) →

@@ -17,26 +17,41 @@ put-number-requires-2 c κs = let a = c .before .before .before .before .before 
 
 put-set-requires : tie.Need-put-set-requires
 unfolding text
-put-set-requires c κs = let a = c .before .before .before .before .before .before .before .before .before .before .before .before .args in omega (arith, step-length (a .position) (a .test) (a .drops) (a .loads))
+put-set-requires c κs = let a =
+    c .before .before .before .before .before .before .before .before .before .before .before .before .args in omega (arith, step-length (a .position) (a .test) (a .drops) (a .loads))
 
 put-text-requires : tie.Need-put-text-requires
 unfolding text
-put-text-requires c κs = let a = c .before .before .before .before .before .before .before .before .before .before .before .before .before .before .before .before .before .args in omega (arith, step-length (a .position) (a .test) (a .drops) (a .loads))
+put-text-requires c κs = let a =
+    c .before .before .before .before .before .before .before .before .before .before .before .before .before .before .before .before .before .args in omega
+    (arith, step-length (a .position) (a .test) (a .drops) (a .loads))
 
 put-set-requires-2 : tie.Need-put-set-requires-2
 unfolding text
-put-set-requires-2 c κs = let a = c .before .before .before .before .before .before .before .before .before .before .before .before .before .before .before .before .before .before .before .before .before .args in omega (arith, step-length (a .position) (a .test) (a .drops) (a .loads))
+put-set-requires-2 c κs = let a =
+    c .before .before .before .before .before .before .before .before .before .before .before .before .before .before .before .before .before .before .before
+    .before .before .args in omega (arith, step-length (a .position) (a .test) (a .drops) (a .loads))
 
 put-byte-requires : tie.Need-put-byte-requires
 unfolding text
-put-byte-requires c κs = let a = c .before .before .before .before .before .before .before .before .before .before .before .before .before .before .before .before .before .before .before .before .before .before .before .before .before .args in omega (arith, step-length (a .position) (a .test) (a .drops) (a .loads))
+put-byte-requires c κs = let a =
+    c .before .before .before .before .before .before .before .before .before .before .before .before .before .before .before .before .before .before .before
+    .before .before .before .before .before .before .args in omega (arith, step-length (a .position) (a .test) (a .drops) (a .loads))
 
 returns : tie.Need-returns
 unfolding text
 returns c =
-    let a = c .before .before .before .before .before .before .before .before .before .before .before .before .before .before .before .before .before .before .before .before .before .before .before .before .before .before .before .before .args in
+    let a = c .before .before .before .before .before .before .before .before .before .before .before .before .before .before .before .before .before .before
+    .before .before .before .before .before .before .before .before .before .before .args in
     rw (step-line (a .position) (a .test) (a .drops) (a .loads))
-    (wrote-append (wrote-append (wrote-append (wrote-append (wrote-append (c .before .before .before .before .before .before .before .before .before .before .before .before .before .before .before .before .before .before .before .before .before .before .before .before .put-number .ensures) (c .before .before .before .before .before .before .before .before .before .before .before .before .before .before .before .before .before .before .before .put-number2 .ensures)) (c .before .before .before .before .before .before .before .before .before .before .before .before .before .before .before .put-set .ensures)) (c .before .before .before .before .before .before .before .before .before .before .put-text .ensures)) (c .before .before .before .before .before .before .put-set2 .ensures)) (c .before .before .put-byte .ensures))
+    (wrote-append (wrote-append (wrote-append
+    (wrote-append (wrote-append (c .before .before .before .before .before .before .before .before .before .before .before .before .before .before .before
+    .before .before .before .before .before .before .before .before .before .put-number .ensures)
+    (c .before .before .before .before .before .before .before .before .before .before .before .before .before .before .before .before .before
+    .before .before .put-number2 .ensures)) (c .before .before .before .before .before .before .before .before .before .before .before .before
+    .before .before .before .put-set .ensures))
+    (c .before .before .before .before .before .before .before .before .before .before .put-text .ensures))
+    (c .before .before .before .before .before .before .put-set2 .ensures)) (c .before .before .put-byte .ensures))
 
 pub put-step-spec : {M : Type 1} → statement M
 put-step-spec =

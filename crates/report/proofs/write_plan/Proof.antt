@@ -16,7 +16,8 @@ short : (c : tie.After-shared-slice-known) → let a = c .before .args in length
 short c =
     let a = c .before .args in
     let p = c .before .pre in
-    plan-word (a .head) (now (a .order)) (now (a .drops)) (now (a .loads)) (omega arith) (omega arith) (omega arith) (omega arith) (λ j l. omega (arith, c .shared-slice-known .given j)) (omega (arith, p .1 .0, c .before .fits .count))
+    plan-word (a .head) (now (a .order)) (now (a .drops)) (now (a .loads)) (omega arith) (omega arith) (omega arith) (omega arith)
+    (λ j l. omega (arith, c .shared-slice-known .given j)) (omega (arith, p .1 .0, c .before .fits .count))
 
 put-plan-requires : tie.Need-put-plan-requires
 put-plan-requires c κs = (c .before .before .before .before .before .pre .0, (c .before .before .before .before .before .pre .1 .0, short (c .before .before .before .before)))
@@ -29,7 +30,10 @@ returns c =
     (fill-short t (now (a .out)) w (c .if1 .taken))
 
 put-plan-requires-2 : tie.Need-put-plan-requires-2
-put-plan-requires-2 c κs = (c .before .before .before .before .before .before .before .before .before .pre .0, (c .before .before .before .before .before .before .before .before .before .pre .1 .0, short (c .before .before .before .before .before .before .before .before)))
+put-plan-requires-2 c κs = (
+  c .before .before .before .before .before .before .before .before .before .pre .0,
+  (c .before .before .before .before .before .before .before .before .before .pre .1 .0, short (c .before .before .before .before .before .before .before .before)),
+)
 
 returns-2 : tie.Need-returns-2
 returns-2 c =

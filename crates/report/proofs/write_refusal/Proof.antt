@@ -22,7 +22,11 @@ returns-2 c =
     let i = c .before .before .before .before .before .before .before .before .figure-of in
     let a = c .before .before .before .before .before .before .before .before .before .before .before .before .args in
     let t = now (a .of) ++ printed (refused (k .result) (i .result)) in
-    rw (← k .ensures, ← i .ensures) (fill-whole t (now (a .out)) (c .before .before .before .before .before .before .put-refusal .ensures) (c .before .before .before .before .if1 .left) (c .before .before .put-refusal2 .ensures))
+    rw (
+      ← k .ensures,
+      ← i .ensures,
+    ) (fill-whole t (now (a .out)) (c .before .before .before .before .before .before .put-refusal .ensures)
+    (c .before .before .before .before .if1 .left) (c .before .before .put-refusal2 .ensures))
 
 pub write-refusal-spec : {M : Type 1} → statement M
 write-refusal-spec =

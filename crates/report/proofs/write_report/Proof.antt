@@ -22,10 +22,14 @@ filled c =
     let l = c .before .before .before .before .before .before .before .plan-job .last in
     listsOf (l .1 .0) (l .1 .1 .0) (planOf (l .1 .1 .1 .0) (l .1 .1 .1 .1 .0))
 
-given : (c : tie.After-known-told2) → Given (now (c .before .before .before .before .before .before .before .before .before .before .before .before .before .before .args .job)) (c .before .head .given .0 .0) (c .before .head .given .0 .1 .0) (filled c)
+given : (c : tie.After-known-told2)
+    → Given (now (c .before .before .before .before .before .before .before .before .before .before .before .before .before .before .args .job))
+    (c .before .head .given .0 .0) (c .before .head .given .0 .1 .0) (filled c)
 given c =
     let r = c .before .before .before .before .before .before .before .plan-job in
-    planned-job (now (c .before .before .before .before .before .before .before .before .before .before .before .before .before .before .args .job)) (bytes (c .before .before .before .before .before .before .before .before .before .before .before .before .before)) _ _ (r .ensures .0) (omega arith) _ _ _ (c .before .head .given .1) (r .ensures .1)
+    planned-job (now (c .before .before .before .before .before .before .before .before .before .before .before .before .before .before .args .job))
+    (bytes (c .before .before .before .before .before .before .before .before .before .before .before .before .before)) _ _ (r .ensures .0) (omega arith) _
+    _ _ (c .before .head .given .1) (r .ensures .1)
 
 array-share-prefix-order : tie.Need-array-share-prefix-order
 array-share-prefix-order c = omega (arith, given c .few, c .before .before .before .before .before .before .before .plan-job .kept .1 .1 .0)
@@ -55,7 +59,9 @@ returns c =
     let k = c .before .before .before .before .before in
     let a = k .before .before .before .before .before .before .before .before .before .before .before .before .before .before .args in
     let r = k .before .before .before .before .before .before .before .plan-job in
-    sheet-refused (now (a .job)) (now (a .out)) _ _ (refused-job (now (a .job)) (bytes (k .before .before .before .before .before .before .before .before .before .before .before .before .before)) _ _ (r .ensures .0) (omega arith) _ (k .before .r .given .1)) (c .before .before .write-refusal .ensures)
+    sheet-refused (now (a .job)) (now (a .out)) _ _
+    (refused-job (now (a .job)) (bytes (k .before .before .before .before .before .before .before .before .before .before .before .before .before)) _ _
+    (r .ensures .0) (omega arith) _ (k .before .r .given .1)) (c .before .before .write-refusal .ensures)
 
 returns-2 : tie.Need-returns-2
 returns-2 c =

@@ -21,7 +21,8 @@ returns c =
 -- what the candidates and the excess are
 by-rule : (c : tie.After-without) (x : ℕ)
     → let a = c .before .before .before .before .before .before .before .args in
-    x ≡ victims (furthest 64) (c .before .before .size .result - a .capacity) (c .without .result) (now (a .later)) → x ≡ dropsFor (furthest 64) (a .capacity) (a .held) (a .want) (now (a .later))
+    x ≡ victims (furthest 64) (c .before .before .size .result - a .capacity) (c .without .result) (now (a .later))
+    → x ≡ dropsFor (furthest 64) (a .capacity) (a .held) (a .want) (now (a .later))
 unfolding dropsFor
 by-rule c x e =
     let k = c .before .before in

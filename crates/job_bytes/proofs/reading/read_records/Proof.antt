@@ -104,7 +104,8 @@ module _ (k : tie.At-tests Inv-loop μ-loop Inv-tests μ-tests) (more : k .tests
   abbrev rest : List ℕ
   rest = let job = now (k .before .before .before .args .job) in take (length job - k .tests .at) (drop (k .tests .at) job)
 
-  fault : (n f : ℕ) → 0 < length rest → readGroups 1 3 4 (k .before .before .before .args .curves) 8 0 (getD rest 0 0) 0 (k .tests .at + 1) (drop 1 rest) ≡ refused n f → whole ≡ refused n f
+  fault : (n f : ℕ) → 0 < length rest
+      → readGroups 1 3 4 (k .before .before .before .args .curves) 8 0 (getD rest 0 0) 0 (k .tests .at + 1) (drop 1 rest) ≡ refused n f → whole ≡ refused n f
   fault n f some e =
       let a = k .before .before .before .args in
       let q = k .tests in

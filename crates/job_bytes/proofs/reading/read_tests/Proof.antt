@@ -76,7 +76,8 @@ returns-3 c =
 copy-front-requires : tie.Need-copy-front-requires
 copy-front-requires c κs =
     let k = c .before .before .before .before .before .before .before .before .before .before .before .before .before in
-    let long : length (c .before .before .before .before .before .before .before .before .read-records .last .1 .1 .1 .1 .0) ≡ 256 = c .before .before .before .before .before .before .before .before .read-records .kept .1 .1 .1 .1 .0 in
+    let long : length (c .before .before .before .before .before .before .before .before .read-records .last .1 .1 .1 .1 .0) ≡ 256 =
+    c .before .before .before .before .before .before .before .before .read-records .kept .1 .1 .1 .1 .0 in
     (omega (arith, head-range (now (k .args .job)) _ (k .pre) .tests), c .before .before .if3 .left)
 
 returns-4 : tie.Need-returns-4
@@ -99,7 +100,8 @@ returns-5 c =
     let long : length (list d) ≡ 256 = d .before .before .before .read-records .kept .1 .1 .1 .1 .0 in
     let count : length (sets d) ≡ a .head .tests = length-take-le (a .head .tests) (list d) (omega (arith, head-range (now (a .job)) _ (k .pre) .tests)) in
     let w = job-fits (now (a .job)) (now (a .wants)) _
-    (whole-read (now (a .job)) (a .head) (a .start) (k .pre) (some d) (sets d) (end d) (records d) (c .before .before .before .before .before .before .if2 .left)) (c .before .before .before .before .before .if3 .left) in
+    (whole-read (now (a .job)) (a .head) (a .start) (k .pre) (some d) (sets d) (end d) (records d)
+    (c .before .before .before .before .before .before .if2 .left)) (c .before .before .before .before .before .if3 .left) in
     (w .0, c .before .before .copy-front .ensures ∙ rw count at (w .1))
 
 pub read-tests-spec : {M : Type 1} → statement M

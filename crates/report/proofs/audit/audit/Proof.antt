@@ -22,10 +22,12 @@ bytes c = bytes-of (now (c .before .args .job)) (λ k l. omega (arith, c .shared
 read : (c : tie.After-known-told2) →
     let h = c .before .head .given .0 .0 in
     let w = c .before .before .before .before .read-job .last .1 .0 in
-    (readBytes (now (c .before .before .before .before .before .before .before .before .args .job)) ≡ done (record { head = h; wants = take (h .tests) w })) × (length (take (h .tests) w) ≡ h .tests) × (h .tests ≤ 256)
+    (readBytes (now (c .before .before .before .before .before .before .before .before .args .job)) ≡ done (record { head = h; wants = take (h .tests) w }))
+    × (length (take (h .tests) w) ≡ h .tests) × (h .tests ≤ 256)
 read c =
     let r = c .before .before .before .before .read-job in
-    let x = answer-done (now (c .before .before .before .before .before .before .before .before .args .job)) _ (bytes (c .before .before .before .before .before .before .before)) (omega arith) _ _ (read-done _ _ _ (r .ensures .0) (c .before .head .given .1)) (r .ensures .1) in
+    let x = answer-done (now (c .before .before .before .before .before .before .before .before .args .job)) _
+    (bytes (c .before .before .before .before .before .before .before)) (omega arith) _ _ (read-done _ _ _ (r .ensures .0) (c .before .head .given .1)) (r .ensures .1) in
     (x .read, x .tests, x .few)
 
 array-share-prefix-wants : tie.Need-array-share-prefix-wants
@@ -41,10 +43,12 @@ returns : tie.Need-returns
 returns c =
     let a = c .before .before .before .before .before .before .before .before .args in
     let r = c .before .before .before .before .read-job in
-    job-refused (now (a .job)) (now (a .plan)) _ (answer-refused (now (a .job)) _ (bytes (c .before .before .before .before .before .before .before)) (omega arith) _ _ (read-refused _ _ _ (r .ensures .0) (c .before .r .given .1)))
+    job-refused (now (a .job)) (now (a .plan)) _
+    (answer-refused (now (a .job)) _ (bytes (c .before .before .before .before .before .before .before)) (omega arith) _ _ (read-refused _ _ _ (r .ensures .0) (c .before .r .given .1)))
 
 returns-2 : tie.Need-returns-2
-returns-2 c = let a = c .before .before .before .before .before .before .before .before .before .before .args in c .audit-plan .ensures ∙ job-done (now (a .job)) (now (a .plan)) _ (read (c .before .before) .0)
+returns-2 c = let a =
+    c .before .before .before .before .before .before .before .before .before .before .args in c .audit-plan .ensures ∙ job-done (now (a .job)) (now (a .plan)) _ (read (c .before .before) .0)
 
 pub audit-spec : {M : Type 1} → statement M
 audit-spec =

@@ -11,13 +11,34 @@ use Rattle.report.proofs.audit.audit_plan.Statement.{statement}
 use Rattle.report.proofs.audit.audit_plan.Tie as tie
 
 slice-aggregate-audit-steps : tie.Need-slice-aggregate-audit-steps
-slice-aggregate-audit-steps c = sym (length-take-le (c .before .before .before .before .before .before .before .before .before .before .before .before .args .head .tests) (c .before .before .before .before .before .before .read-plan .last .1 .1 .1 .0) (omega (arith, c .before .before .before .before .before .before .before .before .before .before .before .before .pre, c .before .before .before .before .before .before .read-plan .kept .1 .1 .1 .0)))
+slice-aggregate-audit-steps c =
+    sym (length-take-le (c .before .before .before .before .before .before .before .before .before .before .before .before .args .head .tests)
+    (c .before .before .before .before .before .before .read-plan .last .1 .1 .1 .0)
+    (omega (
+      arith,
+      c .before .before .before .before .before .before .before .before .before .before .before .before .pre,
+      c .before .before .before .before .before .before .read-plan .kept .1 .1 .1 .0,
+    )))
 
 slice-aggregate-audit-steps-2 : tie.Need-slice-aggregate-audit-steps-2
-slice-aggregate-audit-steps-2 c = sym (length-take-le (c .before .before .before .before .before .before .before .before .before .before .before .before .before .args .head .tests) (c .before .before .before .before .before .before .before .read-plan .last .1 .1 .1 .1 .0) (omega (arith, c .before .before .before .before .before .before .before .before .before .before .before .before .before .pre, c .before .before .before .before .before .before .before .read-plan .kept .1 .1 .1 .1 .0)))
+slice-aggregate-audit-steps-2 c =
+    sym (length-take-le (c .before .before .before .before .before .before .before .before .before .before .before .before .before .args .head .tests)
+    (c .before .before .before .before .before .before .before .read-plan .last .1 .1 .1 .1 .0)
+    (omega (
+      arith,
+      c .before .before .before .before .before .before .before .before .before .before .before .before .before .pre,
+      c .before .before .before .before .before .before .before .read-plan .kept .1 .1 .1 .1 .0,
+    )))
 
 slice-aggregate-audit-steps-3 : tie.Need-slice-aggregate-audit-steps-3
-slice-aggregate-audit-steps-3 c = sym (length-take-le (c .before .before .before .before .before .before .before .before .before .before .before .before .before .before .args .head .tests) (c .before .before .before .before .before .before .before .before .read-plan .last .1 .1 .1 .1 .1 .0) (omega (arith, c .before .before .before .before .before .before .before .before .before .before .before .before .before .before .pre, c .before .before .before .before .before .before .before .before .read-plan .kept .1 .1 .1 .1 .1 .0)))
+slice-aggregate-audit-steps-3 c =
+    sym (length-take-le (c .before .before .before .before .before .before .before .before .before .before .before .before .before .before .args .head .tests)
+    (c .before .before .before .before .before .before .before .before .read-plan .last .1 .1 .1 .1 .1 .0)
+    (omega (
+      arith,
+      c .before .before .before .before .before .before .before .before .before .before .before .before .before .before .pre,
+      c .before .before .before .before .before .before .before .before .read-plan .kept .1 .1 .1 .1 .1 .0,
+    )))
 
 returns : tie.Need-returns
 returns c =
@@ -32,7 +53,8 @@ returns-2 c =
     let a = s .args in
     let r = c .before .before .before .before .before .before .before .before .before .read-plan in
     c .audit-steps .ensures
-    ∙ ap done (plan-counted (record { head = a .head; wants = now (a .wants) }) (now (a .plan)) _ (planOf _ _) (omega (arith, s .pre .1)) (r .result) (r .ensures .0) _ (c .before .before .before .before .enum-told .given .1) _ _
+    ∙ ap done (plan-counted (record { head = a .head; wants = now (a .wants) }) (now (a .plan)) _ (planOf _ _) (omega (arith, s .pre .1)) (r .result)
+    (r .ensures .0) _ (c .before .before .before .before .enum-told .given .1) _ _
     (r .ensures .1 .0) (r .ensures .1 .1))
 
 pub audit-plan-spec : {M : Type 1} → statement M

@@ -13,23 +13,73 @@ use Rattle.report.proofs.audit.put_counts.Tie as tie
 put-number-requires : tie.Need-put-number-requires
 unfolding text
 put-number-requires c κs =
-    omega (arith, length-append (decimal (c .before .before .before .before .before .before .before .before .args .loads)) (text "\nfewest "), decimal-word (c .before .before .before .before .before .before .before .before .args .loads) (omega (arith, c .before .before .before .before .before .before .before .before .fits .loads)))
+    omega (
+      arith,
+      length-append (decimal (c .before .before .before .before .before .before .before .before .args .loads)) (text "\nfewest "),
+      decimal-word (c .before .before .before .before .before .before .before .before .args .loads) (omega (arith, c .before .before .before .before .before .before .before .before .fits .loads)),
+    )
 
 put-number-requires-2 : tie.Need-put-number-requires-2
 unfolding text
 put-number-requires-2 c κs =
-    omega (arith, length-append (decimal (c .before .before .before .before .before .before .before .before .before .before .before .before .before .args .loads)) (text "\nfewest "), decimal-word (c .before .before .before .before .before .before .before .before .before .before .before .before .before .args .loads) (omega (arith, c .before .before .before .before .before .before .before .before .before .before .before .before .before .fits .loads)), length-append (decimal (c .before .before .before .before .before .before .before .before .before .before .before .before .before .args .fewest)) (text "\nshorter by "), decimal-word (c .before .before .before .before .before .before .before .before .before .before .before .before .before .args .fewest) (omega (arith, c .before .before .before .before .before .before .before .before .before .before .before .before .before .fits .fewest)))
+    omega (
+      arith,
+      length-append (decimal (c .before .before .before .before .before .before .before .before .before .before .before .before .before .args .loads))
+          (text "\nfewest "),
+      decimal-word (c .before .before .before .before .before .before .before .before .before .before .before .before .before .args .loads)
+          (omega (arith, c .before .before .before .before .before .before .before .before .before .before .before .before .before .fits .loads)),
+      length-append (decimal (c .before .before .before .before .before .before .before .before .before .before .before .before .before .args
+          .fewest)) (text "\nshorter by "),
+      decimal-word (c .before .before .before .before .before .before .before .before .before .before .before .before .before .args
+          .fewest) (omega (arith, c .before .before .before .before .before .before .before .before .before .before .before .before .before .fits .fewest)),
+    )
 
 put-number-requires-3 : tie.Need-put-number-requires-3
 unfolding text
 put-number-requires-3 c κs =
-    omega (arith, length-append (decimal (c .before .before .before .before .before .before .before .before .before .before .before .before .before .before .before .before .before .before .args .loads)) (text "\nfewest "), decimal-word (c .before .before .before .before .before .before .before .before .before .before .before .before .before .before .before .before .before .before .args .loads) (omega (arith, c .before .before .before .before .before .before .before .before .before .before .before .before .before .before .before .before .before .before .fits .loads)), length-append (decimal (c .before .before .before .before .before .before .before .before .before .before .before .before .before .before .before .before .before .before .args .fewest)) (text "\nshorter by "), decimal-word (c .before .before .before .before .before .before .before .before .before .before .before .before .before .before .before .before .before .before .args .fewest) (omega (arith, c .before .before .before .before .before .before .before .before .before .before .before .before .before .before .before .before .before .before .fits .fewest)), length-append (decimal (c .before .before .before .before .before .before .before .before .before .before .before .before .before .before .before .before .before .before .args .loads - c .before .before .before .before .before .before .before .before .before .before .before .before .before .before .before .before .before .before .args .fewest)) (text "\n"), decimal-word (c .before .before .before .before .before .before .before .before .before .before .before .before .before .before .before .before .before .before .args .loads - c .before .before .before .before .before .before .before .before .before .before .before .before .before .before .before .before .before .before .args .fewest) (omega (arith, c .before .before .before .before .before .before .before .before .before .before .before .before .before .before .before .before .before .before .fits .loads)))
+    omega (
+      arith,
+      length-append (decimal (c .before .before .before .before .before .before .before .before .before .before .before .before .before .before .before
+          .before .before .before .args .loads)) (text "\nfewest "),
+      decimal-word (c .before .before .before .before .before .before .before .before .before .before .before .before .before .before .before .before
+          .before .before .args .loads) (omega (
+            arith,
+            c .before .before .before .before .before .before .before .before .before .before .before .before .before .before .before .before
+                .before .before .fits .loads,
+          )),
+      length-append (decimal (c .before .before .before .before .before .before .before .before .before .before .before .before
+          .before .before .before .before .before .before .args .fewest)) (text "\nshorter by "),
+      decimal-word (c .before .before .before .before .before .before .before .before .before .before .before .before .before
+          .before .before .before .before .before .args .fewest)
+          (omega (
+            arith,
+            c .before .before .before .before .before .before .before .before .before .before .before .before .before
+                .before .before .before .before .before .fits .fewest,
+          )),
+      length-append (decimal (c .before .before .before .before .before .before .before .before .before
+          .before .before .before .before .before .before .before .before .before .args .loads -
+          c .before .before .before .before .before .before .before .before .before .before .before
+          .before .before .before .before .before .before .before .args .fewest)) (text "\n"),
+      decimal-word (c .before .before .before .before .before .before .before .before
+          .before .before .before .before .before .before .before .before .before .before
+          .args .loads - c .before .before .before .before .before .before .before
+          .before .before .before .before .before .before .before .before .before
+          .before .before .args .fewest) (omega (
+            arith,
+            c .before .before .before .before .before .before .before
+                .before .before .before .before .before .before .before
+                .before .before .before .before .fits .loads,
+          )),
+    )
 
 returns : tie.Need-returns
 unfolding text
 returns c =
     let a = c .before .before .before .before .before .before .before .before .before .before .before .before .before .before .before .before .before .before .before .before .before .args in
-    rw (counts-lines (a .loads) (a .fewest)) (wrote-append (wrote-append (wrote-append (c .before .before .before .before .before .before .before .before .before .before .before .before .before .before .before .before .before .put-text .ensures) (c .before .before .before .before .before .before .before .before .before .before .before .before .put-number .ensures)) (c .before .before .before .before .before .before .before .put-number2 .ensures)) (c .before .before .put-number3 .ensures))
+    rw (counts-lines (a .loads) (a .fewest)) (wrote-append
+    (wrote-append (wrote-append (c .before .before .before .before .before .before .before .before .before .before .before .before .before .before .before
+    .before .before .put-text .ensures) (c .before .before .before .before .before .before .before .before .before .before .before .before .put-number
+    .ensures)) (c .before .before .before .before .before .before .before .put-number2 .ensures)) (c .before .before .put-number3 .ensures))
 
 pub put-counts-spec : {M : Type 1} → statement M
 put-counts-spec =
