@@ -63,7 +63,7 @@ enum curveplan_refusal {
  *   below 65,536      the count of plan bytes written, at most 5,120
  *   65,536 and above  a refusal: its number × 65,536 plus its figure. Take it apart by the three functions below
  *
- * Refusals: those of curveplan_read_job but 9; 7; 9 with the count of the bytes. It takes less than 20 kB of stack.
+ * Refusals: those of curveplan_read_job but 9; 7; 9 with the count of the bytes. It takes less than 25 kB of stack.
  */
 uint64_t curveplan_plan(const uint8_t *job, size_t job_len, uint8_t *plan, size_t plan_len);
 
@@ -76,7 +76,7 @@ static inline unsigned curveplan_figure_16(uint64_t answer) { return (unsigned)(
 
 /*
  * What the functions below answer: a count, below 2^48, or a refusal, which is its number × 2^48 plus its figure. It is not the rule of curveplan_plan.
- * They take less than 20 kB of stack.
+ * They take less than 25 kB of stack.
  */
 static inline int curveplan_refused_48(uint64_t answer) { return (answer >> 48) != 0; }
 static inline unsigned curveplan_number_48(uint64_t answer) { return (unsigned)(answer >> 48); }

@@ -1,25 +1,18 @@
--- The set 2 ^ k of the one element k, the lowest element of a set, what code writes, and sums over a set. Assumes nothing.
+-- The set 2 ^ k of the one element k, the lowest element of a set, what code writes, and sums. Assumes nothing.
 use mathlib.Core.Path.{_≡_, refl, sym, ap, _∙_, subst}
-use mathlib.Core.Logic.{_↔_, _⊎_, _≢_, inl, inr, ⊎-elim}
+use mathlib.Core.Logic.{_↔_}
 use Prim.Native.Nat.{ℕ, zero, suc, _+_, _-_, _*_, _/_, _%_, _^_, _≤_, _<_, min, zero-le}
-use native.Mathlib.Nat.{mul-mod-right, mod-eq-of-lt, le-antisymm, add-mul}
+use native.Mathlib.Nat.{mul-mod-right, mod-eq-of-lt, le-antisymm}
 use native.Mathlib.Decide.{ℕ-discrete, decLe}
 use native.Mathlib.Omega.{arith}
-use lib.Bits.{and-comm, and-self, and-step, or-disjoint}
+use lib.Bits.{and-comm, and-self, and-step}
 use lib.Count.{ones, ones-step, trailingZeros, under}
-use lib.Pow.{pow-add, pow-lt, pow-mono, pow-pos, shl-exact}
+use lib.Pow.{pow-add, pow-lt, pow-mono, shl-exact}
 use Rattle.bitset.specs.Set.{_∩_, _∪_, _∖_, _∈_, _⊆_, size, bit}
 use Rattle.bitset.proofs.Bits.{bit-zero, bit-suc, bit-single, bit-other, bit-empty, bit-beyond, bitwise, half-pow, same-by-bits, size-empty}
-use Rattle.bitset.proofs.Laws.{∈?, ∈-∖, ∈-∪, ⊆-bits, ⊆-by-bits, ⊆-le, size-split, size-disjoint}
+use Rattle.bitset.proofs.Laws.{⊆-bits, ⊆-by-bits, ⊆-le, size-split, size-disjoint}
 
 -- ---- one element
-
-pub ∈-single : (j k : ℕ) → j ∈ 2 ^ k ↔ j ≡ k
-∈-single j k = (λ h. there (ℕ-discrete j k) h, λ e. subst (λ (x : ℕ). j ∈ 2 ^ x) e (bit-single j))
-  where
-    there : Dec (j ≡ k) → j ∈ 2 ^ k → j ≡ k
-    there (yes e) h = e
-    there (no n) h = omega (arith, bit-other j k n)
 
 pub single-⊆ : (k s : ℕ) → k ∈ s ↔ 2 ^ k ⊆ s
 single-⊆ k s = (λ h. ⊆-by-bits (2 ^ k) s (λ j. at h j (ℕ-discrete j k)), λ h. omega (arith, ⊆-bits (2 ^ k) s h k, bit-single k))
@@ -50,12 +43,6 @@ remove k s h = ap (λ (x : ℕ). s - x) (and-comm s (2 ^ k) ∙ single-⊆ k s .
 pub size-remove : (k s : ℕ) → k ∈ s → size (s ∖ 2 ^ k) + 1 ≡ size s
 size-remove k s h = omega (arith, size-split s (2 ^ k), size-single k, ap size (and-comm s (2 ^ k) ∙ single-⊆ k s .0 h))
 
-pub ∈-remove : (j k s : ℕ) → j ∈ s ∖ 2 ^ k ↔ (j ∈ s) × (j ≢ k)
-∈-remove j k s = (
-  λ h. (∈-∖ j s (2 ^ k) .0 h .0, λ e. ∈-∖ j s (2 ^ k) .0 h .1 (∈-single j k .1 e)),
-  λ h. ∈-∖ j s (2 ^ k) .1 (h .0, λ m. h .1 (∈-single j k .0 m)),
-)
-
 -- an element put in
 pub apart : (k s : ℕ) → ¬ (k ∈ s) → s ∩ 2 ^ k ≡ 0
 apart k s h = same-by-bits (s ∩ 2 ^ k) 0 (λ j. simp (bitwise, bit-empty) (at j (ℕ-discrete j k)))
@@ -64,17 +51,8 @@ apart k s h = same-by-bits (s ∩ 2 ^ k) 0 (λ j. simp (bitwise, bit-empty) (at 
     at j (yes e) = subst (λ (x : ℕ). min (bit x s) (bit x (2 ^ k)) ≡ 0) (sym e) (omega arith)
     at j (no n) = omega (arith, bit-other j k n)
 
-pub insert : (k s : ℕ) → ¬ (k ∈ s) → s ∪ 2 ^ k ≡ s + 2 ^ k
-insert k s h = or-disjoint s (2 ^ k) (apart k s h)
-
 pub size-insert : (k s : ℕ) → ¬ (k ∈ s) → size (s ∪ 2 ^ k) ≡ size s + 1
 size-insert k s h = omega (arith, size-disjoint s (2 ^ k) (apart k s h), size-single k)
-
-pub ∈-insert : (j k s : ℕ) → j ∈ s ∪ 2 ^ k ↔ (j ∈ s) ⊎ (j ≡ k)
-∈-insert j k s = (
-  λ h. ⊎-elim inl (λ m. inr (∈-single j k .0 m)) (∈-∪ j s (2 ^ k) .0 h),
-  λ h. ∈-∪ j s (2 ^ k) .1 (⊎-elim inl (λ m. inr (∈-single j k .1 m)) h),
-)
 
 -- ---- the lowest element
 
@@ -149,13 +127,15 @@ and-not W x y hx hy = same-by-bits (x ∩ ((2 ^ W - 1) - y)) (x ∖ y) (λ k. si
 pub shl-one : (W k : ℕ) → k < W → (1 * 2 ^ k) % 2 ^ W ≡ 2 ^ k
 shl-one W k h = shl-exact 1 k W (omega arith) (omega arith) ∙ omega arith
 
--- `s & (1 << k) != 0`
-pub ∩-single : (k s : ℕ) → k ∈ s ↔ s ∩ 2 ^ k ≢ 0
-∩-single k s = (λ h. omega (arith, and-comm s (2 ^ k), single-⊆ k s .0 h, pow-pos k), λ h. there (∈? k s) h)
-  where
-    there : Dec (k ∈ s) → s ∩ 2 ^ k ≢ 0 → k ∈ s
-    there (yes m) h = m
-    there (no n) h = absurd (h (apart k s n))
+-- `1 << k` at the width or beyond: nothing
+pub shl-none : (W k : ℕ) → W ≤ k → 2 ^ k % 2 ^ W ≡ 0
+shl-none W k h =
+    let e : k ≡ W + (k - W) = omega arith in
+    ap (λ (x : ℕ). 2 ^ x % 2 ^ W) e ∙ ap (λ (x : ℕ). x % 2 ^ W) (pow-add 2 W (k - W)) ∙ mul-mod-right (2 ^ W) (2 ^ (k - W))
+
+-- and below it: the set of k
+pub shl-some : (W k : ℕ) → k < W → 2 ^ k % 2 ^ W ≡ 2 ^ k
+shl-some W k h = mod-eq-of-lt (pow-lt h)
 
 -- ---- sums over the numbers below a width
 
@@ -177,11 +157,6 @@ unfolding sum
 sum-add zero f g = refl
 sum-add (suc W) f g = omega (arith, sum-add W (λ k. f (suc k)) (λ k. g (suc k)))
 
-pub sum-mul : (W : ℕ) (f : ℕ → ℕ) (b : ℕ) → sum W (λ k. f k * b) ≡ sum W f * b
-unfolding sum
-sum-mul zero f b = omega arith
-sum-mul (suc W) f b = omega (arith, sum-mul W (λ k. f (suc k)) b)
-
 pub sum-none : (W : ℕ) (f : ℕ → ℕ) → ((k : ℕ) → k < W → f k ≡ 0) → sum W f ≡ 0
 unfolding sum
 sum-none zero f h = refl
@@ -199,53 +174,3 @@ unfolding sum
 size-sum zero s h = let e : s ≡ 0 = omega arith in ap size e ∙ size-empty
 size-sum (suc W) s h =
     omega (arith, ones-step s, bit-zero s, size-sum W (s / 2) (omega arith), sum-same W (λ k. bit k (s / 2)) (λ k. bit (suc k) s) (λ k l. sym (bit-suc k s)))
-
--- ---- the sum of f over the elements of a set of numbers below W
-
-unfoldable pub weigh : ℕ → (ℕ → ℕ) → ℕ → ℕ
-weigh W f s = sum W (λ k. bit k s * f k)
-
-nought : {x : ℕ} (y : ℕ) → x ≡ 0 → x * y ≡ 0
-nought y e = rw e (omega arith)
-
-pub weigh-empty : (W : ℕ) (f : ℕ → ℕ) → weigh W f 0 ≡ 0
-unfolding weigh
-weigh-empty W f = sum-none W (λ k. bit k 0 * f k) (λ k l. nought (f k) (bit-empty k))
-
-pub weigh-split : (W : ℕ) (f : ℕ → ℕ) (a b : ℕ) → weigh W f (a ∩ b) + weigh W f (a ∖ b) ≡ weigh W f a
-unfolding weigh
-weigh-split W f a b =
-    sym (sum-add W (λ k. bit k (a ∩ b) * f k) (λ k. bit k (a ∖ b) * f k))
-    ∙ sum-same W (λ k. bit k (a ∩ b) * f k + bit k (a ∖ b) * f k) (λ k. bit k a * f k)
-    (λ k l. sym (add-mul (bit k (a ∩ b)) (bit k (a ∖ b)) (f k)) ∙ ap (λ (x : ℕ). x * f k) (simp bitwise (omega arith)))
-
-pub weigh-single : (W : ℕ) (f : ℕ → ℕ) (k : ℕ) → k < W → weigh W f (2 ^ k) ≡ f k
-unfolding weigh sum
-weigh-single zero f k h = omega arith
-weigh-single (suc W) f zero h =
-    omega (arith, sum-none W (λ j. bit (suc j) 1 * f (suc j)) (λ j l. nought (f (suc j)) (bit-other (suc j) 0 (omega arith))))
-weigh-single (suc W) f (suc k) h =
-    omega (
-      arith,
-      nought (f 0) (bit-other 0 (suc k) (omega arith)),
-      weigh-single W (λ j. f (suc j)) k (omega arith),
-      sum-same W (λ j. bit (suc j) (2 ^ suc k) * f (suc j)) (λ j. bit j (2 ^ k) * f (suc j)) (λ j l. ap (λ (x : ℕ). x * f (suc j)) (bit-suc j (2 ^ suc k) ∙ ap (bit j) (half-pow k))),
-    )
-
-pub weigh-remove : (W : ℕ) (f : ℕ → ℕ) (k s : ℕ) → k < W → k ∈ s → weigh W f s ≡ f k + weigh W f (s ∖ 2 ^ k)
-weigh-remove W f k s l h =
-    omega (arith, weigh-split W f s (2 ^ k), ap (weigh W f) (and-comm s (2 ^ k) ∙ single-⊆ k s .0 h), weigh-single W f k l)
-
-pub weigh-const : (W b s : ℕ) → s < 2 ^ W → weigh W (λ k. b) s ≡ size s * b
-unfolding weigh
-weigh-const W b s h = sum-mul W (λ k. bit k s) b ∙ ap (λ (x : ℕ). x * b) (sym (size-sum W s h))
-
--- `1 << k` at the width or beyond: nothing
-pub shl-none : (W k : ℕ) → W ≤ k → 2 ^ k % 2 ^ W ≡ 0
-shl-none W k h =
-    let e : k ≡ W + (k - W) = omega arith in
-    ap (λ (x : ℕ). 2 ^ x % 2 ^ W) e ∙ ap (λ (x : ℕ). x % 2 ^ W) (pow-add 2 W (k - W)) ∙ mul-mod-right (2 ^ W) (2 ^ (k - W))
-
--- and below it: the set of k
-pub shl-some : (W k : ℕ) → k < W → 2 ^ k % 2 ^ W ≡ 2 ^ k
-shl-some W k h = mod-eq-of-lt (pow-lt h)

@@ -1,37 +1,14 @@
 -- The laws of finite sets, at every width. Each is shown at one bit (`Set.antt`). Assumes nothing.
-use mathlib.Core.Path.{_≡_, refl, sym, ap, _∙_}
-use mathlib.Core.Logic.{_↔_, _⊎_, inl, inr, ⊎-elim}
+use mathlib.Core.Path.{_≡_, refl, ap, _∙_}
 use mathlib.Core.List.{[], _∷_}
-use Prim.Native.Nat.{ℕ, zero, suc, _+_, _-_, _^_, _≤_, _<_, max, zero-le}
+use Prim.Native.Nat.{ℕ, _+_, _-_, _^_, _≤_, _<_}
 use native.Mathlib.Nat.{lt-of-le-of-lt, sub-le}
-use native.Mathlib.Decide.{ℕ-discrete}
 use native.Mathlib.Omega.{arith}
 use lib.Arith.{bin-ind}
-use lib.Bits.{and-le-l, and-le-r, and-self, and-comm, or-lt}
+use lib.Bits.{and-le-l, and-le-r, and-comm, or-lt}
 use lib.Count.{ones-step, ones-le}
-use Rattle.bitset.specs.Set.{_∩_, _∪_, _∖_, _∈_, _⊆_, size, bit}
-use Rattle.bitset.proofs.Bits.{bit-∩, bit-empty, bitwise, same-by-bits, sizes-le, sizes-eq, size-empty}
-
--- ---- elements
-
-pub ∈? : (k s : ℕ) → Dec (k ∈ s)
-∈? k s = ℕ-discrete (bit k s) 1
-
-pub ∉-empty : (k : ℕ) → ¬ (k ∈ 0)
-∉-empty k = omega (arith, bit-empty k)
-
-pub ∈-∩ : (k a b : ℕ) → k ∈ a ∩ b ↔ (k ∈ a) × (k ∈ b)
-∈-∩ k a b = simp bitwise (omega arith)
-
-pub ∈-∖ : (k a b : ℕ) → k ∈ a ∖ b ↔ (k ∈ a) × ¬ (k ∈ b)
-∈-∖ k a b = simp bitwise (omega arith)
-
-pub ∈-∪ : (k a b : ℕ) → k ∈ a ∪ b ↔ (k ∈ a) ⊎ (k ∈ b)
-∈-∪ k a b = (λ h. which (∈? k a) (simp bitwise at h), ⊎-elim (λ h. simp bitwise (omega arith)) (λ h. simp bitwise (omega arith)))
-  where
-    which : Dec (k ∈ a) → max (bit k a) (bit k b) ≡ 1 → (k ∈ a) ⊎ (k ∈ b)
-    which (yes p) h = inl p
-    which (no p) h = inr (omega arith)
+use Rattle.bitset.specs.Set.{_∩_, _∪_, _∖_, _⊆_, size, bit}
+use Rattle.bitset.proofs.Bits.{bit-∩, bitwise, same-by-bits, sizes-le, sizes-eq, size-empty}
 
 -- ---- parts
 
@@ -41,33 +18,11 @@ pub ⊆-bits : (a b : ℕ) → a ⊆ b → (k : ℕ) → bit k a ≤ bit k b
 pub ⊆-by-bits : (a b : ℕ) → ((k : ℕ) → bit k a ≤ bit k b) → a ⊆ b
 ⊆-by-bits a b h = same-by-bits (a ∩ b) a (λ k. simp bitwise (omega (arith, h k)))
 
-pub ⊆-members : (a b : ℕ) → a ⊆ b ↔ ((k : ℕ) → k ∈ a → k ∈ b)
-⊆-members a b = (λ h k m. omega (arith, ⊆-bits a b h k), λ h. ⊆-by-bits a b (λ k. le (bit k a) (bit k b) (omega arith) (h k)))
-  where
-    le : (x y : ℕ) → x ≤ 1 → (x ≡ 1 → y ≡ 1) → x ≤ y
-    le zero y l h = zero-le
-    le (suc x) y l h = omega (arith, h (omega arith))
-
-pub ⊆-refl : (a : ℕ) → a ⊆ a
-⊆-refl = and-self
-
 pub ⊆-trans : (a b c : ℕ) → a ⊆ b → b ⊆ c → a ⊆ c
 ⊆-trans a b c h l = ⊆-by-bits a c (λ k. omega (arith, ⊆-bits a b h k, ⊆-bits b c l k))
 
-pub ⊆-antisym : (a b : ℕ) → a ⊆ b → b ⊆ a → a ≡ b
-⊆-antisym a b h l = sym h ∙ and-comm a b ∙ l
-
 pub ⊆-le : (a b : ℕ) → a ⊆ b → a ≤ b
 ⊆-le a b h = omega (arith, and-le-r a b)
-
-pub ∩-⊆ : (a b : ℕ) → a ∩ b ⊆ a
-∩-⊆ a b = ⊆-by-bits (a ∩ b) a (λ k. simp bitwise (omega arith))
-
-pub ∩-⊆-r : (a b : ℕ) → a ∩ b ⊆ b
-∩-⊆-r a b = ⊆-by-bits (a ∩ b) b (λ k. simp bitwise (omega arith))
-
-pub ∖-⊆ : (a b : ℕ) → a ∖ b ⊆ a
-∖-⊆ a b = ⊆-by-bits (a ∖ b) a (λ k. simp bitwise (omega arith))
 
 pub ⊆-∪ : (a b : ℕ) → a ⊆ a ∪ b
 ⊆-∪ a b = ⊆-by-bits a (a ∪ b) (λ k. simp bitwise (omega arith))
@@ -75,38 +30,13 @@ pub ⊆-∪ : (a b : ℕ) → a ⊆ a ∪ b
 pub ⊆-∪-r : (a b : ℕ) → b ⊆ a ∪ b
 ⊆-∪-r a b = ⊆-by-bits b (a ∪ b) (λ k. simp bitwise (omega arith))
 
--- the least of the sets that hold both, and the largest of those that both hold
-pub ∪-least : (a b c : ℕ) → a ⊆ c → b ⊆ c → a ∪ b ⊆ c
-∪-least a b c h l = ⊆-by-bits (a ∪ b) c (λ k. simp bitwise (omega (arith, ⊆-bits a c h k, ⊆-bits b c l k)))
-
-pub ∩-most : (a b c : ℕ) → c ⊆ a → c ⊆ b → c ⊆ a ∩ b
-∩-most a b c h l = ⊆-by-bits c (a ∩ b) (λ k. simp bitwise (omega (arith, ⊆-bits c a h k, ⊆-bits c b l k)))
-
-pub ∖-mono : (a b c d : ℕ) → a ⊆ b → d ⊆ c → a ∖ c ⊆ b ∖ d
-∖-mono a b c d h l = ⊆-by-bits (a ∖ c) (b ∖ d) (λ k. simp bitwise (omega (arith, ⊆-bits a b h k, ⊆-bits d c l k)))
-
 -- ---- the algebra (that the operands may be exchanged is `and-comm` and `or-comm` of `lib.Bits`)
-
-pub ∩-assoc : (a b c : ℕ) → a ∩ b ∩ c ≡ a ∩ (b ∩ c)
-∩-assoc a b c = same-by-bits (a ∩ b ∩ c) (a ∩ (b ∩ c)) (λ k. simp bitwise (omega arith))
 
 pub ∪-assoc : (a b c : ℕ) → a ∪ b ∪ c ≡ a ∪ (b ∪ c)
 ∪-assoc a b c = same-by-bits (a ∪ b ∪ c) (a ∪ (b ∪ c)) (λ k. simp bitwise (omega arith))
 
-pub ∩-∪ : (a b c : ℕ) → a ∩ (b ∪ c) ≡ a ∩ b ∪ a ∩ c
-∩-∪ a b c = same-by-bits (a ∩ (b ∪ c)) (a ∩ b ∪ a ∩ c) (λ k. simp bitwise (omega arith))
-
-pub ∪-∖ : (a b c : ℕ) → (a ∪ b) ∖ c ≡ (a ∖ c) ∪ (b ∖ c)
-∪-∖ a b c = same-by-bits ((a ∪ b) ∖ c) ((a ∖ c) ∪ (b ∖ c)) (λ k. simp bitwise (omega arith))
-
-pub ∩-∖ : (a b c : ℕ) → a ∩ b ∖ c ≡ a ∩ (b ∖ c)
-∩-∖ a b c = same-by-bits (a ∩ b ∖ c) (a ∩ (b ∖ c)) (λ k. simp bitwise (omega arith))
-
 pub ∖-∖ : (a b c : ℕ) → a ∖ b ∖ c ≡ a ∖ (b ∪ c)
 ∖-∖ a b c = same-by-bits (a ∖ b ∖ c) (a ∖ (b ∪ c)) (λ k. simp bitwise (omega arith))
-
-pub ∪-rest : (a b : ℕ) → a ∪ (b ∖ a) ≡ a ∪ b
-∪-rest a b = same-by-bits (a ∪ (b ∖ a)) (a ∪ b) (λ k. simp bitwise (omega arith))
 
 -- ---- bounds: sets of numbers below W are the numbers below 2 ^ W
 
@@ -145,6 +75,3 @@ size-∩-le a b = omega (arith, size-split a b)
 -- a set of size 0 is empty, and a part as large as the whole is the whole
 pub size-none : (s : ℕ) → size s ≡ 0 → s ≡ 0
 size-none = bin-ind (λ (n : ℕ). size n ≡ 0 → n ≡ 0) (λ h. refl) (λ n ih h. omega (arith, ones-step n, ih (omega (arith, ones-step n))))
-
-pub ⊆-full : (a b : ℕ) → a ⊆ b → size b ≤ size a → a ≡ b
-⊆-full a b h l = omega (arith, and-le-r a b, and-comm a b, size-none (b ∖ a) (omega (arith, size-split b a, ap size (and-comm b a ∙ h))))

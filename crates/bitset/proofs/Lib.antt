@@ -1,11 +1,9 @@
 -- The laws of sets, for every width together.
 --     Bits     the bits of a set, and how sets and sizes are compared bit by bit
---     Laws     elements, parts, the algebra of sets, sizes
---     Element  the set of one element, the lowest element, sums over a set, and what `!`, `<<` and `>>` give
+--     Laws     parts, the algebra of sets, sizes
+--     Element  the set of one element, the lowest element, sums, and what `!`, `<<` and `>>` give
 --     Parts    parts of sets, bit by bit
---     Width    a size that computes
 pub mod Bits
 pub mod Laws
 pub mod Element
 pub mod Parts
-pub mod Width

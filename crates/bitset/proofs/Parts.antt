@@ -5,11 +5,10 @@ use Prim.Native.Nat.{ℕ, zero, suc, _+_, _-_, _^_, _≤_, _<_}
 use native.Mathlib.Decide.{ℕ-discrete, decLe}
 use native.Mathlib.Omega.{arith}
 use lib.Pow.{pow-pos, pow-mono}
-use lib.Count.{trailingZeros}
 use borrow.Author.Tests.{eqb-true, eq-eqb}
 use Rattle.bitset.specs.Set.{_∩_, _∪_, _∖_, size, bit, inside, below}
 use Rattle.bitset.proofs.Bits.{bitwise, bit-∩, bit-∖, bit-single, bit-other, bit-beyond, bit-empty, same-by-bits, size-empty}
-use Rattle.bitset.proofs.Element.{bit-not, remove, lowest-in}
+use Rattle.bitset.proofs.Element.{bit-not}
 
 -- each number of a is one of b; and no number is in both
 infix 4 _≼_
@@ -79,12 +78,5 @@ module _ (v s : ℕ) where
   pub put-back : bit v s ≡ 1 → 2 ^ v ∪ (s ∖ 2 ^ v) ≡ s
   put-back h = same-by-bits (2 ^ v ∪ (s ∖ 2 ^ v)) s (λ k. simp bitwise (omega (arith, single-≼ h k)))
 
--- ---- a set without an element, and without its lowest one
-pub rest-less : (W s : ℕ) → 0 < s → s < 2 ^ W → s ∖ 2 ^ trailingZeros W s < s
-rest-less W s p h = omega (arith, remove (trailingZeros W s) s (lowest-in W s p h), pow-pos (trailingZeros W s))
-
 pub rest-same : (k s : ℕ) → bit k (s ∖ 2 ^ k) ≡ 0
 rest-same k s = omega (arith, bit-∖ k s (2 ^ k), bit-single k)
-
-pub rest-other : (c k s : ℕ) → (c ≡ k → ⊥) → bit c (s ∖ 2 ^ k) ≡ bit c s
-rest-other c k s d = omega (arith, bit-∖ c s (2 ^ k), bit-other c k d)

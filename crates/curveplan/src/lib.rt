@@ -21,14 +21,8 @@ fn job_to_plan(job: &[u8], plan: &mut [u8]) -> Counted
         JobPlanned::Refused(r) => Counted::Refused(r),
         JobPlanned::Planned(head, _) => {
             let n = head.tests;
-            plan_bytes::write_plan(
-                head.rig,
-                &wants[..n],
-                &order[..n],
-                &drops[..n],
-                &loads[..n],
-                plan,
-            )
+            // without the check: it is proved that our plan passes
+            plan_bytes::write_steps(&order[..n], &drops[..n], &loads[..n], plan)
         }
     }
 }

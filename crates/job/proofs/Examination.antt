@@ -11,12 +11,21 @@ use Rattle.job.specs.Refusal.{Outcome, done, refused, number, figure, ex
 use Rattle.job.specs.declared.Rig.{Rig}
 use Rattle.job.specs.Words.{Job}
 use Rattle.job.specs.Handed.{between, someTests, placesKnown, curvesKnown, testsKnown, methodKnown, wantsKnown, numbersKnown, jobKnownBy, countsKnown}
-use Rattle.job.proofs.Laws.{both, both-done, demand-true}
+use Rattle.job.proofs.Laws.{both, both-done, demand-true, demand-done}
 
 -- a sequence whose first part is refused
 pub refused-both : {A B : Type 0} (a : Outcome A) (b : Outcome B) (k i : ℕ) → a ≡ refused k i → _>>_ a b ≡ refused k i
 unfolding _>>_
 refused-both a b k i e = rw e refl
+
+-- a number of tests that is known
+pub few-tests : (tests : ℕ) → tests ≤ 256 → testsKnown tests ≡ done tt
+unfolding testsKnown
+few-tests tests h = demand-done _ 10 2 (le-leb tests 256 h)
+
+pub tests-few : (tests : ℕ) → testsKnown tests ≡ done tt → tests ≤ 256
+unfolding testsKnown
+tests-few tests e = leb-true tests 256 (demand-true _ 10 2 e)
 
 module _ (rig : Rig) (tests : ℕ) where
   pub no-tests : tests ≡ 0 → numbersKnown rig tests ≡ refused 5 0
@@ -34,12 +43,12 @@ module _ (rig : Rig) (tests : ℕ) where
     numbers-counts p = rw (lt-ltb 0 tests some, p) refl
 
   pub known-bounds : numbersKnown rig tests ≡ done tt → (rig .curves ≤ 64) × (tests ≤ 256)
-  unfolding numbersKnown curvesKnown testsKnown between
+  unfolding numbersKnown curvesKnown between
   known-bounds e =
       let a = both-done (someTests tests) _ tt e in
       let b = both-done (placesKnown (rig .places)) _ tt (a .1) in
       let c = both-done (curvesKnown (rig .curves)) _ tt (b .1) in
-      (leb-true _ 64 (both (leb 1 (rig .curves)) (leb (rig .curves) 64) (demand-true _ 10 1 (c .0)) .1), leb-true tests 256 (demand-true _ 10 2 (c .1)))
+      (leb-true _ 64 (both (leb 1 (rig .curves)) (leb (rig .curves) 64) (demand-true _ 10 1 (c .0)) .1), tests-few tests (c .1))
 
 module _ (curves tests : ℕ) where
   pub counts-none : tests ≡ 0 → countsKnown curves tests ≡ refused 5 0

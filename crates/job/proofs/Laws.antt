@@ -64,15 +64,6 @@ pub done-both : {B : Type 0} (a : Outcome (Unit {0})) (r : Outcome B) → a ≡ 
 unfolding _>>_
 done-both a r e = rw e refl
 
-pub >>=-done : {A B : Type 0} (a : A) (f : A → Outcome B) → _>>=_ (done a) f ≡ f a
-unfolding _>>=_
->>=-done a f = refl
-
-pub >>=-assoc : {A B C : Type 0} (a : Outcome A) (f : A → Outcome B) (g : B → Outcome C) → _>>=_ (_>>=_ a f) g ≡ _>>=_ a (λ x. _>>=_ (f x) g)
-unfolding _>>=_
->>=-assoc (done a) f g = refl
->>=-assoc (refused k i) f g = refl
-
 -- ---- `each`
 
 -- every entry passes

@@ -5,7 +5,7 @@ use Prim.Native.Nat.{ℕ}
 use lib.ListN.{length}
 use Rattle.job.specs.Refusal.{Outcome, _>>_}
 use Rattle.job.specs.Words.{Job, capacity}
-use Rattle.job.specs.Handed.{wantsFit, jobKnownBy, jobKnown}
+use Rattle.job.specs.Handed.{testsKnown, wantsFit, jobKnownBy, jobKnown}
 use Rattle.job.specs.Order.{orderKnown}
 
 -- "for ordering 7" behind 5 and 10, which the method belongs to
@@ -25,3 +25,9 @@ unfoldable pub planningKnown : Job → List ℕ → Outcome (Unit {0})
 planningKnown j order = do
   checkingKnown j order
   wantsFit (capacity (j .rig)) (j .wants)
+
+-- of an order alone, for as many tests as it has entries: of 10 the number of tests, then 8
+unfoldable pub orderAloneKnown : List ℕ → Outcome (Unit {0})
+orderAloneKnown order = do
+  testsKnown (length order)
+  orderKnown (length order) order

@@ -7,7 +7,7 @@ ghost use Rattle.job.specs.Refusal.{number, figure, examinedOutcome};
 ghost use Rattle.job.specs.Words.{jobOf};
 ghost use Rattle.job.specs.Handed.{between, numbersKnown, wantsKnown, wantsFit, jobKnownBy, countsKnown};
 ghost use Rattle.job.specs.Order.{orderKnown};
-ghost use Rattle.job.specs.Calls.{orderingKnown, checkingKnown, planningKnown};
+ghost use Rattle.job.specs.Calls.{orderingKnown, checkingKnown, planningKnown, orderAloneKnown};
 
 // "Places in the drive 1 to 64. Curves 1 to 64, numbered from 0. Tests 1 to 256, numbered from 0."
 pub const MOST_PLACES: usize = 64;
@@ -260,4 +260,14 @@ pub fn examine_planning(rig: Rig, wants: &[u64], order: &[u16]) -> Examined
         return Examined::Refused(r);
     }
     examine_sizes(rig.places, wants)
+}
+
+// Of an order alone, for as many tests as it has entries: 10, 8.
+pub fn examine_order_alone(order: &[u16]) -> Examined
+    ensures { λ r. ⌜ examinedOutcome r ≡ orderAloneKnown (was order) ⌝ }
+{
+    if MOST_TESTS < order.len() {
+        return Examined::Refused(Refusal::BadArgument(2));
+    }
+    examine_order(order.len(), order)
 }

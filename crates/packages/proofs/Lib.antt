@@ -2,8 +2,9 @@
 --     Written  what a list holds of which the first entries were written
 --     Listed   the tests in list order
 --     Rounds   the rounds end, and each test comes once
---     Entered  tests that are written to a list where they fit
+--     Entered  numbers that are written to a list where they fit
 --     Lists    lists that are changed in place
+--     Counts   lists of counts and of sizes
 --     Rows     the closest pair, row by row
 --     Renew    the rating of each row, kept over a join
 --     Ratings  the closest pair by the ratings
@@ -15,6 +16,7 @@ pub mod Listed
 pub mod Rounds
 pub mod Entered
 pub mod Lists
+pub mod Counts
 pub mod Rows
 pub mod Renew
 pub mod Ratings

@@ -100,7 +100,7 @@ module _ (fits : ℕ → Bool) (cs : List ℕ) where
       n,
       k,
       record {
-        result = pair-take fits cs n k i j (score cs i j) (t .result) row refl d;
+        result = pair-take fits cs n k i j (t .result) row d;
         own = λ z. let o = b .own z in record { in-order = o .0; within = o .1; union-fits = o .2 };
         most = at-most (score cs n k) (omega arith) (omega arith);
         earlier-first = λ r c l. omega (arith, t .most r c l);
@@ -111,7 +111,7 @@ module _ (fits : ℕ → Bool) (cs : List ℕ) where
       i,
       j,
       record {
-        result = pair-stay fits cs n k i j (score cs i j) (t .result) row refl (omega arith);
+        result = pair-stay fits cs n k i j (t .result) row (omega arith);
         own = t .own;
         most = at-most (score cs i j) (omega arith) (omega arith);
         earlier-first = t .earlier-first;

@@ -1,5 +1,5 @@
 -- The closest pair by the ratings: it is that of the highest score, where its partner is known. A partner that is looked for anew makes the ratings lighter.
-use mathlib.Core.Path.{_≡_, refl, sym, ap, _∙_}
+use mathlib.Core.Path.{_≡_, sym, ap, _∙_}
 use mathlib.Core.Bool.{Bool}
 use mathlib.Core.List.{List, [], _∷_}
 use Prim.Native.Nat.{ℕ, zero, suc, _+_, _-_, _/_, _%_, _≤_, _<_}
@@ -23,8 +23,8 @@ module _ (fits : ℕ → Bool) (cs rs : List ℕ) (rated : (k : ℕ) → k < len
 
   more : (s i a b q : ℕ) → bestPair fits cs i ≡ chosen a b → score cs a b < s → rowTo fits cs i (length cs) ≡ chosen i q → score cs i q < s
       → Dec (score cs a b < score cs i q) → Low s (suc i)
-  more s i a b q e l r m (yes d) = (i, q, pair-take fits cs i q a b (score cs a b) e r refl d, m)
-  more s i a b q e l r m (no d) = (a, b, pair-stay fits cs i q a b (score cs a b) e r refl (omega arith), l)
+  more s i a b q e l r m (yes d) = (i, q, pair-take fits cs i q a b e r d, m)
+  more s i a b q e l r m (no d) = (a, b, pair-stay fits cs i q a b e r (omega arith), l)
 
   low : (s : ℕ) → 0 < s → (i : ℕ) → i ≤ length cs → ((k : ℕ) → k < i → getD rs k 0 / 256 < s) → Low s i
   low s z zero l h = (0, 0, pair-start fits cs, omega (arith, score-none cs 0))
@@ -56,13 +56,13 @@ module _ (fits : ℕ → Bool) (cs rs : List ℕ) (rated : (k : ℕ) → k < len
     rest zero l =
         let p = low (getD rs f 0 / 256) positive f (omega arith) earliest in
         let e : f + 1 ≡ suc f = omega arith in
-        rw e (pair-take fits cs f (getD rs f 0 % 256) (p .0) (p .1) (score cs (p .0) (p .1)) (p .2) row refl (omega (arith, p .3, count)))
+        rw e (pair-take fits cs f (getD rs f 0 % 256) (p .0) (p .1) (p .2) row (omega (arith, p .3, count)))
     rest (suc d) l =
         let x = f + suc d in
         let e : f + suc (suc d) ≡ suc x = omega arith in
         let q = row-found fits cs x (omega arith) in
         rw e
-        (pair-stay fits cs x (q .0) f (getD rs f 0 % 256) (score cs f (getD rs f 0 % 256)) (rest d (omega arith)) (q .1) refl
+        (pair-stay fits cs x (q .0) f (getD rs f 0 % 256) (rest d (omega arith)) (q .1)
         (omega (arith, rated-score fits cs x (getD rs x 0) (omega arith) (rated x (omega arith)) (q .0) (q .1), most x, count)))
 
     pub rated-pair : bestPair fits cs (length cs) ≡ chosen f (getD rs f 0 % 256)

@@ -1,13 +1,12 @@
 -- The rating of each row, kept over a join: what is best by comparison is what the row's scan finds, and what a join changes of it.
 use mathlib.Core.Path.{_≡_, refl, sym, ap, _∙_, subst}
-use mathlib.Core.Bool.{Bool, true, false, cond, false≢true}
+use mathlib.Core.Bool.{Bool, true, false, false≢true}
 use mathlib.Core.List.{List, _++_}
 use Prim.Native.Nat.{ℕ, zero, suc, _+_, _-_, _/_, _%_, _≤_, _<_}
 use native.Mathlib.Omega.{arith}
 use native.Mathlib.Decide.{ℕ-discrete, decLt}
 use lib.ListN.{length, getD, take, drop, set, length-set, List·getD-append}
 use lib.Seq.{take-append-le, getD-take, getD-drop, getD-append-add, getD-set-same, getD-set-other, length-take-le}
-use lib.Dec.{ltb}
 use borrow.Author.Tests.{lt-ltb, le-ltb, eq-eqb, ne-eqb}
 use Rattle.bitset.specs.Set.{_∪_}
 use Rattle.lists.specs.Choice.{Found, nobody, found}
@@ -25,6 +24,19 @@ pub record Best (fits : ℕ → Bool) (cs : List ℕ) (k n p : ℕ) : Type 0 whe
 module _ (fits : ℕ → Bool) (cs : List ℕ) (k : ℕ) where
   abbrev Row : ℕ → Type 0
   Row n = (q : ℕ) × (rowTo fits cs k n ≡ chosen k q) × Best fits cs k n q
+
+  -- one package more, which does not fit or is no better
+  best-keep : (j q : ℕ) → Best fits cs k j q → (fits (getD cs k 0 ∪ getD cs j 0) ≡ true → score cs k j ≤ score cs k q) → Best fits cs k (j + 1) q
+  best-keep j q b h =
+      record {
+        own = λ z. (b .own z .0, omega (arith, b .own z .1), b .own z .2);
+        most = λ i m n g. below i (ℕ-discrete i j) m n g;
+        first = b .first;
+      }
+    where
+      below : (i : ℕ) → Dec (i ≡ j) → k < i → i < j + 1 → fits (getD cs k 0 ∪ getD cs i 0) ≡ true → score cs k i ≤ score cs k q
+      below i (yes d) m n g = omega (arith, ap (score cs k) d, h (ap (λ (x : ℕ). fits (getD cs k 0 ∪ getD cs x 0)) (sym d) ∙ g))
+      below i (no d) m n g = b .most i m (omega arith) g
 
   -- one package more
   row-turn : (j q : ℕ) → k < j → rowTo fits cs k j ≡ chosen k q → Best fits cs k j q → (t : Bool) → fits (getD cs k 0 ∪ getD cs j 0) ≡ t
@@ -44,32 +56,9 @@ module _ (fits : ℕ → Bool) (cs : List ℕ) (k : ℕ) where
       below i (yes d) m n g = omega (arith, ap (score cs k) d)
       below i (no d) m n g = omega (arith, b .most i m (omega arith) g)
   row-turn j q l e b true f (no h) =
-      let s = score-some cs k j (omega arith) in (
-        q,
-        row-keep fits cs k j q (score cs k q) e refl (omega (arith, s)),
-        record {
-          own = λ z. (b .own z .0, omega (arith, b .own z .1), b .own z .2);
-          most = λ i m n g. below i (ℕ-discrete i j) m n g;
-          first = b .first;
-        },
-      )
-    where
-      below : (i : ℕ) → Dec (i ≡ j) → k < i → i < j + 1 → fits (getD cs k 0 ∪ getD cs i 0) ≡ true → score cs k i ≤ score cs k q
-      below i (yes d) m n g = omega (arith, ap (score cs k) d)
-      below i (no d) m n g = b .most i m (omega arith) g
-  row-turn j q l e b false f d = (
-    q,
-    row-pass fits cs k j q (score cs k q) e f,
-    record {
-      own = λ z. (b .own z .0, omega (arith, b .own z .1), b .own z .2);
-      most = λ i m n g. below i (ℕ-discrete i j) m n g;
-      first = b .first;
-    },
-  )
-    where
-      below : (i : ℕ) → Dec (i ≡ j) → k < i → i < j + 1 → fits (getD cs k 0 ∪ getD cs i 0) ≡ true → score cs k i ≤ score cs k q
-      below i (yes d) m n g = absurd (false≢true (sym f ∙ ap (λ (x : ℕ). fits (getD cs k 0 ∪ getD cs x 0)) (sym d) ∙ g))
-      below i (no d) m n g = b .most i m (omega arith) g
+      let s = score-some cs k j (omega arith) in
+      (q, row-keep fits cs k j q (score cs k q) e refl (omega (arith, s)), best-keep j q b (λ g. omega arith))
+  row-turn j q l e b false f d = (q, row-pass fits cs k j q (score cs k q) e f, best-keep j q b (λ g. absurd (false≢true (sym f ∙ g))))
 
   rows : (d : ℕ) → Row (k + 1 + d)
   rows zero =
@@ -123,58 +112,60 @@ module _ (fits : ℕ → Bool) (cs : List ℕ) (k : ℕ) where
 -- ---- a join of the packages i and j: ds are the curves after it
 
 -- the place before the join of the package that is now at x, and the place now of the one that was at p
-abbrev pub oldPlace : ℕ → ℕ → ℕ
-oldPlace j x = cond (ltb x j) x (suc x)
+pub oldPlace : ℕ → ℕ → ℕ
+oldPlace j x = x + (1 - (j - x))
 
-abbrev pub newPlace : ℕ → ℕ → ℕ
-newPlace j p = cond (ltb j p) (p - 1) p
+pub newPlace : ℕ → ℕ → ℕ
+newPlace j p = p - (1 - (suc j - p))
 
 pub old-low : (j x : ℕ) → x < j → oldPlace j x ≡ x
-old-low j x h = rw (lt-ltb x j h) refl
+unfolding oldPlace
+old-low j x h = omega arith
 
-pub old-high : (j x : ℕ) → j ≤ x → oldPlace j x ≡ suc x
-old-high j x h = rw (le-ltb x j h) refl
+old-high : (j x : ℕ) → j ≤ x → oldPlace j x ≡ suc x
+unfolding oldPlace
+old-high j x h = omega arith
+
+old-within : (j x n : ℕ) → x < n → j ≤ n → (x ≤ oldPlace j x) × (oldPlace j x < suc n)
+unfolding oldPlace
+old-within j x n l m = (omega arith, omega arith)
+
+old-same : (j x i : ℕ) → i < j → oldPlace j x ≡ i → x ≡ i
+unfolding oldPlace
+old-same j x i h e = omega arith
 
 new-low : (j p : ℕ) → p ≤ j → newPlace j p ≡ p
-new-low j p h = rw (le-ltb j p h) refl
+unfolding newPlace
+new-low j p h = omega arith
 
 new-high : (j p : ℕ) → j < p → newPlace j p ≡ p - 1
-new-high j p h = rw (lt-ltb j p h) refl
+unfolding newPlace
+new-high j p h = omega arith
 
-pub old-within : (j x n : ℕ) → x < n → j ≤ n → oldPlace j x < suc n
-old-within j x n l m = go (decLt x j)
-  where
-    go : Dec (x < j) → oldPlace j x < suc n
-    go (yes a) = omega (arith, old-low j x a)
-    go (no a) = omega (arith, old-high j x (omega arith))
+new-within : (j p n : ℕ) → (p ≡ j → ⊥) → j ≤ n → p < suc n → newPlace j p < n
+unfolding newPlace
+new-within j p n h l m = omega arith
+
+new-pos : (j p : ℕ) → 0 < newPlace j p → 0 < p
+unfolding newPlace
+new-pos j p h = omega arith
+
+pos-new : (j p : ℕ) → 0 < j → 0 < p → 0 < newPlace j p
+unfolding newPlace
+pos-new j p h l = omega arith
 
 -- places keep their sequence
 old-less : (j x y : ℕ) → x < y → oldPlace j x < oldPlace j y
-old-less j x y h = go (decLt x j) (decLt y j)
-  where
-    go : Dec (x < j) → Dec (y < j) → oldPlace j x < oldPlace j y
-    go (yes a) (yes b) = omega (arith, old-low j x a, old-low j y b)
-    go (yes a) (no b) = omega (arith, old-low j x a, old-high j y (omega arith))
-    go (no a) (yes b) = absurd (omega arith)
-    go (no a) (no b) = omega (arith, old-high j x (omega arith), old-high j y (omega arith))
+unfolding oldPlace
+old-less j x y h = omega arith
 
 old-new : (j p : ℕ) → (p ≡ j → ⊥) → oldPlace j (newPlace j p) ≡ p
-old-new j p h = go (decLt j p)
-  where
-    go : Dec (j < p) → oldPlace j (newPlace j p) ≡ p
-    go (yes a) = ap (oldPlace j) (new-high j p a) ∙ old-high j (p - 1) (omega arith) ∙ up (omega arith)
-      where
-        up : 0 < p → suc (p - 1) ≡ p
-        up l = omega arith
-    go (no a) = ap (oldPlace j) (new-low j p (omega arith)) ∙ old-low j p (omega arith)
+unfolding oldPlace newPlace
+old-new j p h = omega arith
 
 new-above : (j k p : ℕ) → (p ≡ j → ⊥) → oldPlace j k < p → k < newPlace j p
-new-above j k p h l = go (decLt k (newPlace j p)) (ℕ-discrete k (newPlace j p))
-  where
-    go : Dec (k < newPlace j p) → Dec (k ≡ newPlace j p) → k < newPlace j p
-    go (yes a) d = a
-    go (no a) (yes d) = absurd (omega (arith, ap (oldPlace j) d, old-new j p h))
-    go (no a) (no d) = absurd (omega (arith, old-less j (newPlace j p) k (omega arith), old-new j p h))
+unfolding oldPlace newPlace
+new-above j k p h l = omega arith
 
 old-below : (j x p : ℕ) → (p ≡ j → ⊥) → x < newPlace j p → oldPlace j x < p
 old-below j x p h l = omega (arith, old-less j x (newPlace j p) l, old-new j p h)
@@ -203,11 +194,7 @@ module _ (fits : ℕ → Bool) (cs ds : List ℕ) (i j : ℕ) (before : i < j) (
 
   -- all but the joined package are as they were
   others : (x : ℕ) → (x ≡ i → ⊥) → getD ds x 0 ≡ getD cs (oldPlace j x) 0
-  others x h = entry-at x ∙ getD-set-other cs i (oldPlace j x) (getD cs i 0 ∪ getD cs j 0) 0 (λ e. h (go (decLt x j) e))
-    where
-      go : Dec (x < j) → oldPlace j x ≡ i → x ≡ i
-      go (yes l) e = omega (arith, old-low j x l, e)
-      go (no l) e = absurd (omega (arith, old-high j x (omega arith), e))
+  others x h = entry-at x ∙ getD-set-other cs i (oldPlace j x) (getD cs i 0 ∪ getD cs j 0) 0 (λ e. h (old-same j x i before e))
 
   module _ (k : ℕ) (other : k ≡ i → ⊥) where
     score-is : (x : ℕ) → (x ≡ i → ⊥) → 0 < x → score ds k x ≡ score cs (oldPlace j k) (oldPlace j x)
@@ -219,13 +206,6 @@ module _ (fits : ℕ → Bool) (cs ds : List ℕ) (i j : ℕ) (before : i < j) (
     fits-is x h = ap (λ (a : ℕ). fits (a ∪ getD ds x 0)) (others k other) ∙ ap (λ (b : ℕ). fits (getD cs (oldPlace j k) 0 ∪ b)) (others x h)
 
     module _ (p : ℕ) (best : Best fits cs (oldPlace j k) (length cs) p) (stays : p ≡ j → ⊥) (apart : 0 < p → p ≡ i → ⊥) where
-      new-pos : 0 < newPlace j p → 0 < p
-      new-pos h = go (decLt j p)
-        where
-          go : Dec (j < p) → 0 < p
-          go (yes l) = omega arith
-          go (no l) = omega (arith, new-low j p (omega arith))
-
       not-joined : 0 < p → newPlace j p ≡ i → ⊥
       not-joined l e = apart l (sym (old-new j p stays) ∙ ap (oldPlace j) e ∙ old-low j i before)
 
@@ -235,23 +215,15 @@ module _ (fits : ℕ → Bool) (cs ds : List ℕ) (i j : ℕ) (before : i < j) (
           go : Dec (p ≡ 0) → score ds k (newPlace j p) ≡ score cs (oldPlace j k) p
           go (yes e) = ap (score ds k) (new-low j p (omega arith) ∙ e) ∙ score-none ds k ∙ sym (ap (score cs (oldPlace j k)) e ∙ score-none cs (oldPlace j k))
           go (no e) =
-              score-is (newPlace j p) (not-joined (omega arith)) (pos (decLt j p)) ∙ ap (score cs (oldPlace j k)) (old-new j p stays)
-            where
-              pos : Dec (j < p) → 0 < newPlace j p
-              pos (yes l) = omega (arith, new-high j p l)
-              pos (no l) = omega (arith, new-low j p (omega arith))
+              score-is (newPlace j p) (not-joined (omega arith)) (pos-new j p (omega arith) (omega arith)) ∙ ap (score cs (oldPlace j k)) (old-new j p stays)
 
       own-new : 0 < newPlace j p → (k < newPlace j p) × (newPlace j p < length ds) × (fits (getD ds k 0 ∪ getD ds (newPlace j p) 0) ≡ true)
       own-new h =
-          let o = best .own (new-pos h) in (
+          let o = best .own (new-pos j p h) in (
             new-above j k p stays (o .0),
-            go (decLt j p) (o .1),
-            fits-is (newPlace j p) (not-joined (new-pos h)) ∙ ap (λ (x : ℕ). fits (getD cs (oldPlace j k) 0 ∪ getD cs x 0)) (old-new j p stays) ∙ o .2,
+            new-within j p (length ds) stays within (omega (arith, o .1)),
+            fits-is (newPlace j p) (not-joined (new-pos j p h)) ∙ ap (λ (x : ℕ). fits (getD cs (oldPlace j k) 0 ∪ getD cs x 0)) (old-new j p stays) ∙ o .2,
           )
-        where
-          go : Dec (j < p) → p < length cs → newPlace j p < length ds
-          go (yes l) m = omega (arith, new-high j p l)
-          go (no l) m = omega (arith, new-low j p (omega arith))
 
       most-new : (x : ℕ) → (x ≡ i → ⊥) → k < x → x < length ds → fits (getD ds k 0 ∪ getD ds x 0) ≡ true → score ds k x ≤ score ds k (newPlace j p)
       most-new x h l m f =
@@ -432,22 +404,15 @@ module _ (fits : ℕ → Bool) (cs ds rs xs ys zs : List ℕ) (i j own : ℕ) (b
   other-at : (k : ℕ) → k < length ds → (oldPlace j k ≡ i → ⊥) → getD xs k 0 ≡ getD rs (oldPlace j k) 0
   other-at k h n = placed k h ∙ getD-set-other rs i (oldPlace j k) own 0 n
 
-  above : (k : ℕ) → k ≤ oldPlace j k
-  above k = go (decLt k j)
-    where
-      go : Dec (k < j) → k ≤ oldPlace j k
-      go (yes a) = omega (arith, old-low j k a)
-      go (no a) = omega (arith, old-high j k (omega arith))
-
   behind : (k : ℕ) → k < length ds → i < k → Rated fits ds k (getD zs k 0)
   behind k h l =
       let r = getD rs (oldPlace j k) 0 in
-      let up = above k in
       let there = old-within j k (length ds) h within in
       let w = was (oldPlace j k) (omega (arith, there)) in
       rated-stays fits cs ds i j before long within made k h (λ e. omega arith) r (getD zs k 0) w
-      (kept-moved i j r (getD zs k 0) before (λ z e. omega (arith, e, up, rated-best fits cs (oldPlace j k) r (omega (arith, there)) w z .own z .0))
-      (back k l (omega (arith, still, as-long)) ∙ ap (movedUp j) (rest k (omega arith) ∙ other-at k h (λ e. omega (arith, e, up)))))
+      (kept-moved i j r (getD zs k 0) before
+      (λ z e. omega (arith, e, there, rated-best fits cs (oldPlace j k) r (omega (arith, there)) w z .own z .0))
+      (back k l (omega (arith, still, as-long)) ∙ ap (movedUp j) (rest k (omega arith) ∙ other-at k h (λ e. omega (arith, e, there)))))
       (λ m f. absurd (omega arith))
 
   pub all-rated : (k : ℕ) → k < length ds → Rated fits ds k (getD zs k 0)
@@ -471,14 +436,3 @@ pub front-rated : (fits : ℕ → Bool) (cs ys zs : List ℕ) (n : ℕ) → n �
     → (k : ℕ) → k < length cs → Rated fits cs k (getD (take n (ys ++ zs)) k 0)
 front-rated fits cs ys zs n a b h k l =
     subst (Rated fits cs k) (sym (ap (λ (m : List ℕ). getD m k 0) (take-append-le n ys zs a) ∙ getD-take n ys k 0 (omega arith))) (h k l)
-
--- the same where the curves were lent too, and the first n entries count
-pub fronts-rated : (fits : ℕ → Bool) (us vs ys zs : List ℕ) (n m : ℕ) → m ≡ n → n ≤ length us → n ≤ length ys
-    → ((k : ℕ) → k < length (take m us) → Rated fits (take m us) k (getD ys k 0))
-    → (k : ℕ) → k < length (take n (us ++ vs)) → Rated fits (take n (us ++ vs)) k (getD (take n (ys ++ zs)) k 0)
-fronts-rated fits us vs ys zs n m e a b h k l =
-    let f = take-append-le n us vs a in
-    let low : k < n = omega (arith, ap length f, length-take-le n us a) in
-    subst (λ (cs : List ℕ). Rated fits cs k (getD (take n (ys ++ zs)) k 0)) (sym f)
-    (subst (Rated fits (take n us) k) (sym (ap (λ (q : List ℕ). getD q k 0) (take-append-le n ys zs b) ∙ getD-take n ys k 0 low))
-    (subst (λ (x : ℕ). Rated fits (take x us) k (getD ys k 0)) e (h k (omega (arith, e, length-take-le m us (omega arith))))))

@@ -5,7 +5,6 @@ use mathlib.Core.List.{List}
 use Prim.Native.Nat.{ℕ, zero, suc, _+_, _^_, _≤_, _<_}
 use native.Mathlib.Omega.{arith}
 use native.Mathlib.Numerals.{add-one}
-use native.Mathlib.Decide.{decLt}
 use lib.ListN.{length, getD}
 use lib.Dec.{ltb}
 use borrow.Author.Tests.{lt-ltb, le-ltb, ltb-true, ltb-false}
@@ -154,57 +153,48 @@ module _ (fits : ℕ → Bool) (cs : List ℕ) (i : ℕ) where
 
 -- ---- the rows together
 
-module _ (fits : ℕ → Bool) (cs : List ℕ) (i j f s most : ℕ) (so-far : bestPair fits cs i ≡ chosen f s) (row : rowTo fits cs i (length cs) ≡ chosen i j) where
+module _ (fits : ℕ → Bool) (cs : List ℕ) (i j f s : ℕ) (so-far : bestPair fits cs i ≡ chosen f s) (row : rowTo fits cs i (length cs) ≡ chosen i j) where
   both : bestPair fits cs (suc i) ≡ merge (closer cs) (chosen f s) (chosen i j)
   unfolding bestPair
   both =
       best-after (eligible fits cs) (shared cs) (λ j. at i j) (length cs) (bestPair fits cs i)
       ∙ ap (λ (b : Found Pair). merge (closer cs) b (rowTo fits cs i (length cs))) so-far ∙ ap (merge (closer cs) (chosen f s)) row
 
-  pub pair-none : j ≡ 0 → bestPair fits cs (suc i) ≡ chosen f s
-  pair-none z = both ∙ go j z
-    where
-      go : (j : ℕ) → j ≡ 0 → merge (closer cs) (chosen f s) (chosen i j) ≡ chosen f s
-      go zero z = unfold merge keep in refl
-      go (suc j) z = absurd (omega (arith, z))
-
-  pub pair-more : 0 < j → most ≡ score cs f s → most < 1 + shared cs (at i j) → bestPair fits cs (suc i) ≡ chosen i j
-  pair-more l e h = both ∙ ap (merge (closer cs) (chosen f s)) (chosen-some i j l) ∙ go s e ∙ sym (chosen-some i j l)
-    where
-      go : (s : ℕ) → most ≡ score cs f s → merge (closer cs) (chosen f s) (found (at i j)) ≡ found (at i j)
-      go zero e = unfold merge keep in refl
-      go (suc s) e =
-          ap (λ (b : Found Pair). merge (closer cs) b (found (at i j))) (chosen-some f (suc s) (omega arith))
-          ∙ (unfold merge in
-          taken true (closer cs (at i j) (at f (suc s))) (at i j) (at f (suc s)) refl
-          (lt-ltb (shared cs (at f (suc s))) (shared cs (at i j)) (omega (arith, e, score-some cs f (suc s) (omega arith)))))
-
-  pub pair-keep : 0 < j → most ≡ score cs f s → 1 + shared cs (at i j) ≤ most → bestPair fits cs (suc i) ≡ chosen f s
-  pair-keep l e h = both ∙ ap (merge (closer cs) (chosen f s)) (chosen-some i j l) ∙ go s e
-    where
-      go : (s : ℕ) → most ≡ score cs f s → merge (closer cs) (chosen f s) (found (at i j)) ≡ chosen f s
-      go zero e = unfold score in absurd (omega (arith, e))
-      go (suc s) e =
-          let same : merge (closer cs) (found (at f (suc s))) (found (at i j)) ≡ found (at f (suc s)) =
-          unfold merge in
-          stays true (closer cs (at i j) (at f (suc s))) (at i j) (at f (suc s))
-          (le-ltb (shared cs (at f (suc s))) (shared cs (at i j)) (omega (arith, e, score-some cs f (suc s) (omega arith)))) in
-          ap (λ (b : Found Pair). merge (closer cs) b (found (at i j))) (chosen-some f (suc s) (omega arith)) ∙ same ∙ sym (chosen-some f (suc s) (omega arith))
+  merged : (s j : ℕ) → merge (closer cs) (chosen f (suc s)) (chosen i (suc j))
+      ≡ keep (closer cs (at i (suc j)) (at f (suc s))) (at i (suc j)) (found (at f (suc s)))
+  unfolding merge
+  merged s j =
+      ap (λ (b : Found Pair). merge (closer cs) b (chosen i (suc j))) (chosen-some f (suc s) (omega arith))
+      ∙ ap (merge (closer cs) (found (at f (suc s)))) (chosen-some i (suc j) (omega arith))
 
   -- the row's best takes the place where its score is higher
-  pub pair-take : most ≡ score cs f s → most < score cs i j → bestPair fits cs (suc i) ≡ chosen i j
-  pair-take e h = go (decLt 0 j)
+  pub pair-take : score cs f s < score cs i j → bestPair fits cs (suc i) ≡ chosen i j
+  pair-take h = both ∙ go s j h
     where
-      go : Dec (0 < j) → bestPair fits cs (suc i) ≡ chosen i j
-      go (yes l) = pair-more l e (omega (arith, score-some cs i j l))
-      go (no l) = let z : j ≡ 0 = omega arith in absurd (omega (arith, ap (score cs i) z, score-none cs i))
+      go : (s j : ℕ) → score cs f s < score cs i j → merge (closer cs) (chosen f s) (chosen i j) ≡ chosen i j
+      go s zero h = absurd (omega (arith, h, score-none cs i))
+      go zero (suc j) h = ap (λ (b : Found Pair). merge (closer cs) b (chosen i (suc j))) (chosen-none f) ∙ merge-none (closer cs) (chosen i (suc j))
+      go (suc s) (suc j) h =
+          unfold keep in
+          merged s j
+          ∙ ap (λ (t : Bool). keep t (at i (suc j)) (found (at f (suc s))))
+          (lt-ltb (shared cs (at f (suc s))) (shared cs (at i (suc j)))
+          (omega (arith, h, score-some cs f (suc s) (omega arith), score-some cs i (suc j) (omega arith))))
+          ∙ sym (chosen-some i (suc j) (omega arith))
 
-  pub pair-stay : most ≡ score cs f s → score cs i j ≤ most → bestPair fits cs (suc i) ≡ chosen f s
-  pair-stay e h = go (decLt 0 j)
+  pub pair-stay : score cs i j ≤ score cs f s → bestPair fits cs (suc i) ≡ chosen f s
+  pair-stay h = both ∙ go s j h
     where
-      go : Dec (0 < j) → bestPair fits cs (suc i) ≡ chosen f s
-      go (yes l) = pair-keep l e (omega (arith, score-some cs i j l))
-      go (no l) = pair-none (omega arith)
+      go : (s j : ℕ) → score cs i j ≤ score cs f s → merge (closer cs) (chosen f s) (chosen i j) ≡ chosen f s
+      go s zero h = unfold merge in ap (merge (closer cs) (chosen f s)) (chosen-none i)
+      go zero (suc j) h = absurd (omega (arith, h, score-none cs f, score-some cs i (suc j) (omega arith)))
+      go (suc s) (suc j) h =
+          unfold keep in
+          merged s j
+          ∙ ap (λ (t : Bool). keep t (at i (suc j)) (found (at f (suc s))))
+          (le-ltb (shared cs (at f (suc s))) (shared cs (at i (suc j)))
+          (omega (arith, h, score-some cs f (suc s) (omega arith), score-some cs i (suc j) (omega arith))))
+          ∙ sym (chosen-some f (suc s) (omega arith))
 
 -- at the start nothing is found
 pub pair-start : (fits : ℕ → Bool) (cs : List ℕ) → bestPair fits cs 0 ≡ chosen 0 0

@@ -19,6 +19,7 @@ use Rattle.packages.specs.Packages.{flat, Pair, curvesOf, eligible, clos
 use Rattle.packages.specs.Contracts.{at, sumOf, joinedEntry, joinedCurves, fitsBy, joinBy, roundOf, Laid, within}
 use Rattle.packages.proofs.Rounds.{Good, InOrder, flipped-any, pair-good, length-joined, closest-good, singles, packages-long}
 use Rattle.packages.proofs.Lists.{sum-lengths}
+use Rattle.packages.proofs.Counts.{map-take, map-entries}
 use Rattle.packages.proofs.Listed.{length-upTo}
 use Rattle.packages.proofs.Rows.{chosen, chosen-some, chosen-none}
 
@@ -75,31 +76,11 @@ unfolding flat
 flat-append [] qs = refl
 flat-append (p ∷ ps) qs = ap (λ (l : List ℕ). p ++ l) (flat-append ps qs) ∙ sym (append-assoc p (flat ps) (flat qs))
 
-module _ {A B : Type 0} (f : A → B) where
-  pub map-take : (n : ℕ) (l : List A) → map f (take n l) ≡ take n (map f l)
-  map-take zero l = refl
-  map-take (suc n) [] = refl
-  map-take (suc n) (x ∷ l) = ap (λ (r : List B). f x ∷ r) (map-take n l)
-
-  pub map-drop : (n : ℕ) (l : List A) → map f (drop n l) ≡ drop n (map f l)
-  map-drop zero l = refl
-  map-drop (suc n) [] = refl
-  map-drop (suc n) (x ∷ l) = map-drop n l
-
-  map-set : (l : List A) (i : ℕ) (x : A) → map f (set l i x) ≡ set (map f l) i (f x)
-  map-set [] i x = refl
-  map-set (y ∷ l) zero x = refl
-  map-set (y ∷ l) (suc i) x = ap (λ (r : List B). f y ∷ r) (map-set l i x)
-
 -- a number for each package, after a join
 pub map-joined : (f : List ℕ → ℕ) (join : List ℕ → List ℕ → List ℕ) (ps : List (List ℕ)) (i j v : ℕ) → v ≡ f (join (getD ps i []) (getD ps j []))
     → map f (joined join ps (at i j)) ≡ joinedEntry (map f ps) i j v
 unfolding joined without
-map-joined f join ps i j v e =
-    let qs = set ps i (join (getD ps i []) (getD ps j [])) in
-    let same : map f qs ≡ set (map f ps) i v = map-set f ps i (join (getD ps i []) (getD ps j [])) ∙ ap (set (map f ps) i) (sym e) in
-    map-append f (take j qs) (drop (suc j) qs) ∙ ap (λ (l : List ℕ). l ++ map f (drop (suc j) qs)) (map-take f j qs ∙ ap (take j) same)
-    ∙ ap (λ (l : List ℕ). take j (set (map f ps) i v) ++ l) (map-drop f (suc j) qs ∙ ap (drop (suc j)) same)
+map-joined f join ps i j v e = map-entries f ps i j (join (getD ps i []) (getD ps j [])) ∙ ap (joinedEntry (map f ps) i j) (sym e)
 
 -- ps taken apart at the places i and j
 pub record Split (ps : List (List ℕ)) (i j : ℕ) : Type 0 where
@@ -172,12 +153,10 @@ module _ (ps : List (List ℕ)) (i j : ℕ) (s : Split ps i j) where
   flat-joined join =
       ap flat (joined-parts join) ∙ flat-append (s .pre) (join one two ∷ (s .mid ++ s .post)) ∙ ap (λ (l : List ℕ). flat (s .pre) ++ (join one two ++ l)) (flat-append (s .mid) (s .post))
 
--- the first entries of a list that was lent as far as n and came back as ys
-pub prefix-back : (xs ys r : List ℕ) (n : ℕ) → n ≤ length xs → length ys ≡ length (take n xs) → take (length (take n xs) - 1) ys ≡ r → take (n - 1) (ys ++ drop n xs) ≡ r
-prefix-back xs ys r n h l e =
-    let k : length (take n xs) ≡ n = length-take-le n xs h in
-    let m : n - 1 ≡ length (take n xs) - 1 = omega (arith, k) in
-    take-append-le (n - 1) ys (drop n xs) (omega (arith, l, k)) ∙ ap (λ (j : ℕ). take j ys) m ∙ e
+-- the first entries but one of a list that was lent as far as n and came back as ys
+pub prefix-back : (xs ys : List ℕ) (n m : ℕ) → m ≡ n → n ≤ length xs → length ys ≡ length (take n xs) → take (n - 1) (ys ++ drop n xs) ≡ take (m - 1) ys
+prefix-back xs ys n m e h l =
+    take-append-le (n - 1) ys (drop n xs) (omega (arith, l, length-take-le n xs h)) ∙ ap (λ (k : ℕ). take (k - 1) ys) (sym e)
 
 -- ---- the rounds
 

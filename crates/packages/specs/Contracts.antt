@@ -71,3 +71,7 @@ AllRated bound cs rs = (k : ℕ) → k < length cs → Rated (within bound) cs k
 -- The rating r of another package after a join with the second package j, which is no partner any more; those behind it move up by one.
 abbrev pub movedUp : ℕ → ℕ → ℕ
 movedUp j r = cond (eqb (r % 256) j) (r - r % 256) (cond (ltb j (r % 256)) (r - 1) r)
+
+-- beside the curves cs of at most 256 packages, their sizes, and a list that takes a count for each
+abbrev pub Sized : List ℕ → List ℕ → List ℕ → Type 0
+Sized cs sizes counts = (length cs ≤ 256) × (length cs ≤ length counts) × (sizes ≡ map size cs)

@@ -20,6 +20,7 @@ unfoldable pub upTo : ℕ → List ℕ
 upTo zero = []
 upTo (suc n) = upTo n ++ (n ∷ [])
 
--- what a list holds afterwards to which tests are written: their numbers, if they are at most 256 and the list takes them; else nothing new
+-- what a list holds afterwards to which numbers are written: tests, or one number for each of them, if they are at most 256 and the list takes them; else
+-- nothing new
 unfoldable pub entered : List ℕ → List ℕ → List ℕ
 entered new old = leaves (mapped (λ _. new) (_>>_ (testsKnown (length new)) (room (length old) (length new)))) old

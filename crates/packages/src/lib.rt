@@ -1,7 +1,7 @@
 // Method 3 of "Orders": packages with both rounds, heads, tails and flipping. The packages lie one behind the other in a list of tests. Beside it stand the
-// length and the curves of each package, and its rating: 256 times its score, plus its partner. The partner is the package behind it that would be the best
-// second one of a pair with it, and the score is one more than the number of curves that the two have in common. A partner of 0 is none, or not known yet:
-// then no package behind it gives a higher score.
+// length of each package, its curves, how many these are, and its rating: 256 times its score, plus its partner. The partner is the package behind it that
+// would be the best second one of a pair with it, and the score is one more than the number of curves that the two have in common. A partner of 0 is none, or
+// not known yet: then no package behind it gives a higher score. What a package has in common with others is counted for all of them at once.
 ghost use mathlib.Core.Path.{_≡_};
 ghost use mathlib.Core.Bool.{cond};
 ghost use mathlib.Core.List.{List, _++_, map, reverse};
@@ -9,11 +9,13 @@ ghost use Prim.Native.Nat.{ℕ, suc, _+_, _-_, _/_, _%_, _≤_, _<_};
 ghost use lib.ListN.{length, getD, take, drop};
 ghost use lib.Dec.{ltb};
 ghost use Rattle.lists.specs.Lent.{was, after};
+ghost use Rattle.bitset.specs.Set.{_∪_, size};
 ghost use Rattle.job.specs.Refusal.{overwritten};
 ghost use Rattle.lists.specs.Choice.{nobody, keep, bestOf};
 ghost use Rattle.packages.specs.Tests.{common, upTo, entered};
-ghost use Rattle.packages.specs.Packages.{eligible, closer, bestPair, curvesOf, joined, head, tail, flipped, packages};
-ghost use Rattle.packages.specs.Contracts.{at, sumOf, turned, joinedEntry, joinedCurves, joinBy, roundOf, Laid, within, Rated, AllRated, movedUp};
+ghost use Rattle.packages.specs.Packages.{shared, eligible, closer, bestPair, curvesOf, joined, head, tail, flipped, packages};
+ghost use Rattle.packages.specs.Contracts.{at, sumOf, turned, joinedEntry, joinedCurves, joinBy, roundOf, Laid};
+ghost use Rattle.packages.specs.Contracts.{within, Rated, AllRated, movedUp, Sized};
 
 // Two places in the list of packages; no pair where the second is 0.
 pub struct PackagePair {
@@ -205,38 +207,92 @@ fn join_entry(xs: &mut [u64], first: usize, second: usize, value: u64)
     }
 }
 
+// Writes how many curves a set has in common with each of the others.
+fn write_common(set: u64, others: &[u64], counts: &mut [u16])
+    requires { ⌜ length (now others) ≤ length (now counts) ⌝ }
+    ensures { λ _. ⌜ after counts ≡ overwritten (map (common set) (was others)) (was counts) ⌝ }
+{
+    let mut j: usize = 0;
+    while j < others.len() {
+        counts[j] = u64::count_ones(set & others[j]) as u16;
+        j += 1;
+    }
+}
+
+// How many curves a set has in common with each of at most 256 others: written to the beginning of `counts`, where they fit.
+pub fn count_common(set: u64, others: &[u64], counts: &mut [u16])
+    ensures { λ _. ⌜ after counts ≡ entered (map (common set) (was others)) (was counts) ⌝ }
+{
+    if 256 < others.len() {
+        return;
+    }
+    if counts.len() < others.len() {
+        return;
+    }
+    write_common(set, others, counts);
+}
+
+// What the package k has in common with itself and with each package behind it, each count in that package's place.
+fn count_behind(curves: &[u64], counts: &mut [u16], k: usize)
+    requires { ⌜ (k < length (now curves)) × (length (now curves) ≤ length (now counts)) ⌝ }
+    ensures { λ _. ⌜ ((j : ℕ) → k ≤ j → j < length (was curves) → getD (after counts) j 0 ≡ common (getD (was curves) k 0) (getD (was curves) j 0)) ⌝ }
+{
+    write_common(curves[k], &curves[k..], &mut counts[k..]);
+}
+
+// The size of a union, by the sizes of the two sets and of what they have in common.
+fn together(a: u64, b: u64, both: u16) -> usize
+    requires { ⌜ (a ≤ 64) × (b ≤ 64) × (both ≤ a) ⌝ }
+    ensures { λ r. ⌜ ((x y : ℕ) → a ≡ size x → b ≡ size y → both ≡ common x y → r ≡ size (x ∪ y)) ⌝ }
+{
+    (a + b - both as u64) as usize
+}
+
 // The rating of a package, whose partner gives "the pair with most common curves; ties to .. the earlier second package". 0 where no union is at most the
 // bound.
-fn best_partner(bound: usize, curves: &[u64], first: usize) -> u64
-    requires { ⌜ (first < length (now curves)) × (length (now curves) ≤ 256) ⌝ }
+fn best_partner(
+    bound: usize,
+    curves: &[u64],
+    sizes: &[u64],
+    counts: &mut [u16],
+    first: usize,
+) -> u64
+    requires { ⌜ (first < length (now curves)) × Sized (now curves) (now sizes) (now counts) ⌝ }
     ensures partner { λ r. ⌜ bestOf (eligible (within bound) (was curves)) (closer (was curves)) (at first) (length (was curves)) nobody
         ≡ keep (ltb 0 (r % 256)) (at first (r % 256)) nobody ⌝ }
     ensures score { λ r. ⌜ r / 256 ≡ cond (ltb 0 (r % 256)) (1 + common (getD (was curves) first 0) (getD (was curves) (r % 256) 0)) 0 ⌝ }
 {
+    count_behind(curves, counts, first);
     let mut second: usize = 0;
-    let mut most: usize = 0;
+    let mut most: u16 = 0;
     let mut j = first + 1;
     while j < curves.len() {
-        let common = 1 + shared(curves[first], curves[j]);
-        if most < common {
-            if bitset::size(bitset::union(curves[first], curves[j])) <= bound {
+        let score = 1 + counts[j];
+        if most < score {
+            if together(sizes[first], sizes[j], counts[j]) <= bound {
                 second = j;
-                most = common;
+                most = score;
             }
         }
         j += 1;
     }
-    (most * 256 + second) as u64
+    most as u64 * 256 + second as u64
 }
 
 // The rating of each package.
-fn best_partners(bound: usize, curves: &[u64], ratings: &mut [u64])
-    requires { ⌜ (length (now ratings) ≡ length (now curves)) × (length (now curves) ≤ 256) ⌝ }
+fn best_partners(
+    bound: usize,
+    curves: &[u64],
+    sizes: &[u64],
+    counts: &mut [u16],
+    ratings: &mut [u64],
+)
+    requires { ⌜ (length (now ratings) ≡ length (now curves)) × Sized (now curves) (now sizes) (now counts) ⌝ }
     ensures { λ _. ⌜ AllRated bound (was curves) (after ratings) ⌝ }
 {
     let mut k: usize = 0;
     while k < curves.len() {
-        ratings[k] = best_partner(bound, curves, k);
+        ratings[k] = best_partner(bound, curves, sizes, counts, k);
         k += 1;
     }
 }
@@ -262,8 +318,14 @@ fn highest(ratings: &[u64]) -> usize
 
 // The pair with most common curves, "ties to the earlier first, then the earlier second package": the package with the highest score, and its partner. Where
 // that is not known it is looked for anew.
-fn closest(bound: usize, curves: &[u64], ratings: &mut [u64]) -> PackagePair
-    requires { ⌜ (length (now ratings) ≡ length (now curves)) × (length (now curves) ≤ 256) ⌝ }
+fn closest(
+    bound: usize,
+    curves: &[u64],
+    sizes: &[u64],
+    counts: &mut [u16],
+    ratings: &mut [u64],
+) -> PackagePair
+    requires { ⌜ (length (now ratings) ≡ length (now curves)) × Sized (now curves) (now sizes) (now counts) ⌝ }
     requires { ⌜ AllRated bound (now curves) (now ratings) ⌝ }
     ensures pair { λ r. ⌜ bestPair (within bound) (was curves) (length (was curves)) ≡ keep (ltb 0 (r .second)) (at (r .first) (r .second)) nobody ⌝ }
     ensures rated { λ _. ⌜ AllRated bound (was curves) (after ratings) ⌝ }
@@ -278,7 +340,7 @@ fn closest(bound: usize, curves: &[u64], ratings: &mut [u64]) -> PackagePair
         if rating == 0 {
             return PackagePair { first, second };
         }
-        ratings[first] = best_partner(bound, curves, first);
+        ratings[first] = best_partner(bound, curves, sizes, counts, first);
     }
 }
 
@@ -307,30 +369,23 @@ fn renew_behind(ratings: &mut [u64], first: usize, second: usize)
     }
 }
 
-// The rating of a package before the joined one. That may be its partner, where it fits: with a higher score than before, or with the same as a partner
-// behind it.
-fn renewed(
-    bound: usize,
-    curves: &[u64],
-    first: usize,
-    second: usize,
-    row: usize,
-    rating: u64,
-) -> u64
-    requires { ⌜ (first < second) × (second ≤ length (now curves)) × (row < first) × (length (now curves) ≤ 256) ⌝ }
-    ensures { λ r. ⌜ ((cs : List ℕ) → length cs ≡ suc (length (was curves))
-        → was curves ≡ joinedCurves cs first second
-        → Rated (within bound) cs row rating → Rated (within bound) (was curves) row r) ⌝ }
+// The rating of a package before the joined one, by what the two have in common. The joined one may be its partner, where it fits: with a higher score than
+// before, or with the same as a partner behind it.
+fn renewed(fits: bool, both: u16, first: usize, second: usize, rating: u64) -> u64
+    requires { ⌜ (first < second) × (first < 256) ⌝ }
+    ensures { λ r. ⌜ ((bound row : ℕ) (cs ds : List ℕ) → row < first → second ≤ length ds → length cs ≡ suc (length ds)
+        → ds ≡ joinedCurves cs first second → fits ≡ within bound (getD ds row 0 ∪ getD ds first 0) → both ≡ shared ds (at row first)
+        → Rated (within bound) cs row rating → Rated (within bound) ds row r) ⌝ }
 {
     let kept = if (rating % 256) as usize == first {
         rating - rating % 256
     } else {
         moved(second, rating)
     };
-    if bound < bitset::size(bitset::union(curves[row], curves[first])) {
+    if !fits {
         return kept;
     }
-    let count = (1 + shared(curves[row], curves[first])) as u64;
+    let count = 1 + both as u64;
     let joined = count * 256 + first as u64;
     if kept / 256 < count {
         return joined;
@@ -346,45 +401,99 @@ fn renewed(
 }
 
 // The ratings of the packages before the joined one.
-fn renew_before(bound: usize, curves: &[u64], ratings: &mut [u64], first: usize, second: usize)
-    requires { ⌜ (first < second) × (second ≤ length (now curves)) × (length (now ratings) ≡ suc (length (now curves))) × (length (now curves) ≤ 256) ⌝ }
+fn renew_before(
+    bound: usize,
+    curves: &[u64],
+    sizes: &[u64],
+    counts: &mut [u16],
+    ratings: &mut [u64],
+    first: usize,
+    second: usize,
+)
+    requires { ⌜ (first < second) × (second ≤ length (now curves)) × (length (now ratings) ≡ suc (length (now curves))) ⌝ }
+    requires { ⌜ Sized (now curves) (now sizes) (now counts) ⌝ }
     ensures before { λ _. ⌜ ((cs : List ℕ) → length cs ≡ suc (length (was curves))
         → was curves ≡ joinedCurves cs first second
         → (k : ℕ) → k < first → Rated (within bound) cs k (getD (was ratings) k 0)
         → Rated (within bound) (was curves) k (getD (after ratings) k 0)) ⌝ }
     ensures behind { λ _. ⌜ ((k : ℕ) → first ≤ k → getD (after ratings) k 0 ≡ getD (was ratings) k 0) ⌝ }
 {
+    write_common(curves[first], &curves[..first], counts);
     let mut row: usize = 0;
     while row < first {
-        ratings[row] = renewed(bound, curves, first, second, row, ratings[row]);
+        let both = counts[row];
+        let fits = together(sizes[row], sizes[first], both) <= bound;
+        ratings[row] = renewed(fits, both, first, second, ratings[row]);
         row += 1;
     }
 }
 
 // The rating of each package after the join.
-fn renew_ratings(bound: usize, curves: &[u64], ratings: &mut [u64], first: usize, second: usize)
-    requires { ⌜ (first < second) × (second ≤ length (now curves)) × (length (now ratings) ≡ suc (length (now curves))) × (length (now curves) ≤ 256) ⌝ }
+fn renew_ratings(
+    bound: usize,
+    curves: &[u64],
+    sizes: &[u64],
+    counts: &mut [u16],
+    ratings: &mut [u64],
+    first: usize,
+    second: usize,
+)
+    requires { ⌜ (first < second) × (second ≤ length (now curves)) × (length (now ratings) ≡ suc (length (now curves))) ⌝ }
+    requires { ⌜ Sized (now curves) (now sizes) (now counts) ⌝ }
     ensures { λ _. ⌜ ((cs : List ℕ) → length cs ≡ suc (length (was curves))
         → was curves ≡ joinedCurves cs first second
         → AllRated bound cs (was ratings) → AllRated bound (was curves) (after ratings)) ⌝ }
 {
-    let own = best_partner(bound, curves, first);
+    let own = best_partner(bound, curves, sizes, counts, first);
     join_entry(ratings, first, second, own);
-    renew_before(bound, curves, ratings, first, second);
+    renew_before(bound, curves, sizes, counts, ratings, first, second);
     renew_behind(ratings, first, second);
 }
 
-// Joins the curves of two packages; the ratings after it.
-fn join_curves(bound: usize, curves: &mut [u64], ratings: &mut [u64], first: usize, second: usize)
-    requires { ⌜ (first < second) × (second < length (now curves)) × (length (now ratings) ≡ length (now curves)) × (length (now curves) ≤ 256) ⌝ }
+// Joins the curves of two packages; the sizes and the ratings after it.
+fn join_curves(
+    bound: usize,
+    curves: &mut [u64],
+    sizes: &mut [u64],
+    counts: &mut [u16],
+    ratings: &mut [u64],
+    first: usize,
+    second: usize,
+)
+    requires { ⌜ (first < second) × (second < length (now curves)) × (length (now ratings) ≡ length (now curves)) ⌝ }
+    requires { ⌜ Sized (now curves) (now sizes) (now counts) ⌝ }
     requires { ⌜ AllRated bound (now curves) (now ratings) ⌝ }
     ensures sets { λ _. ⌜ take (length (was curves) - 1) (after curves) ≡ joinedCurves (was curves) first second ⌝ }
+    ensures sized { λ _. ⌜ take (length (was curves) - 1) (after sizes) ≡ map size (take (length (was curves) - 1) (after curves)) ⌝ }
     ensures rated { λ _. ⌜ AllRated bound (take (length (was curves) - 1) (after curves)) (after ratings) ⌝ }
 {
     let left = curves.len() - 1;
     let joined = bitset::union(curves[first], curves[second]);
     join_entry(curves, first, second, joined);
-    renew_ratings(bound, &curves[..left], ratings, first, second);
+    join_entry(sizes, first, second, bitset::size(joined) as u64);
+    renew_ratings(
+        bound,
+        &curves[..left],
+        &sizes[..left],
+        counts,
+        ratings,
+        first,
+        second,
+    );
+}
+
+// The sizes of the packages' curves.
+fn sizes_of(curves: &[u64]) -> [u64; 256]
+    requires { ⌜ length (now curves) ≤ 256 ⌝ }
+    ensures { λ r. ⌜ (length r ≡ 256) × (take (length (was curves)) r ≡ map size (was curves)) ⌝ }
+{
+    let mut sizes = [0u64; 256];
+    let mut k: usize = 0;
+    while k < curves.len() {
+        sizes[k] = bitset::size(curves[k]) as u64;
+        k += 1;
+    }
+    sizes
 }
 
 // The wants as the curves of the first packages.
@@ -481,10 +590,24 @@ fn join_all(
 {
     let bound = round_bound(flipping, places);
     let mut left = lengths.len();
+    let mut sizes = sizes_of(curves);
+    let mut counts = [0u16; 256];
     let mut ratings = [0u64; 256];
-    best_partners(bound, curves, &mut ratings[..left]);
+    best_partners(
+        bound,
+        curves,
+        &sizes[..left],
+        &mut counts,
+        &mut ratings[..left],
+    );
     loop {
-        let pair = closest(bound, &curves[..left], &mut ratings[..left]);
+        let pair = closest(
+            bound,
+            &curves[..left],
+            &sizes[..left],
+            &mut counts,
+            &mut ratings[..left],
+        );
         let first = pair.first;
         let second = pair.second;
         if second == 0 {
@@ -502,6 +625,8 @@ fn join_all(
         join_curves(
             bound,
             &mut curves[..left],
+            &mut sizes[..left],
+            &mut counts,
             &mut ratings[..left],
             first,
             second,

@@ -12,7 +12,7 @@ use Rattle.job.specs.Words.{Job}
 use Rattle.planning.specs.Plan.{Plan, steps}
 use Rattle.planning.specs.Planning.{checking}
 use Rattle.plan_bytes.specs.PlanBytes.{Placed, stepBytes, stepsBytes, planBytes, readPlanBytes, planSteps, writePlan}
-use Rattle.plan_bytes.proofs.Writing.{one, step-le, writable}
+use Rattle.plan_bytes.proofs.Writing.{one, step-le, passed-writable}
 use Rattle.plan_bytes.proofs.ReadPlan.{plan-count}
 use Rattle.plan_bytes.proofs.PlanRoundTrip.{plan-bytes-read}
 
@@ -25,7 +25,7 @@ bytes-le (t ∷ ts) (d ∷ ds) (l ∷ ls) = omega (arith, bytes-le ts ds ls, ste
 
 -- A PLAN THAT PASSES THE CHECK is written in at most 5,120 bytes
 pub passed-length : (j : Job) (order : List ℕ) (p : Plan) (m : ℕ) → checking j order p ≡ done m → length (planBytes order (p .drops) (p .loads)) ≤ 5120
-passed-length j order p m e = omega (arith, bytes-le order (p .drops) (p .loads), writable j order p m e .few)
+passed-length j order p m e = omega (arith, bytes-le order (p .drops) (p .loads), passed-writable j order p m e .few)
 
 pub written-length : (j : Job) (order : List ℕ) (p : Plan) (lent : ℕ) (bytes : List ℕ) → writePlan j order p lent ≡ done bytes → length bytes ≤ 5120
 unfolding writePlan

@@ -8,17 +8,22 @@ use lib.ListN.{length, getD, take, drop, set, length-append, drop-of-length-le}
 use lib.Seq.{sets, length-sets, drop-cons}
 use borrow.Author.Tests.{lt-leb}
 use Rattle.lists.proofs.Overwritten.{sets-front}
-use Rattle.job.specs.Refusal.{done, refused, _>>=_, _>>_, demand, room}
+use Rattle.job.specs.Refusal.{Outcome, done, refused, _>>=_, _>>_, room}
 use Rattle.job_bytes.specs.SetBytes.{stands, setBytes}
-use Rattle.job.proofs.Laws.{done-both, done-room}
+use Rattle.job.proofs.Laws.{demand-refused, both-done, done-both, done-room}
+use Rattle.job.proofs.Examination.{refused-both, few-tests, tests-few}
 use Rattle.job_bytes.proofs.Encoding.{set-le, next-over}
 use Rattle.job.specs.Words.{Job}
+use Rattle.job.specs.Handed.{testsKnown}
+use Rattle.job.specs.Calls.{orderAloneKnown}
 use Rattle.planning.specs.Plan.{Plan, Step, steps}
-use Rattle.planning.specs.Planning.{checking}
-use Rattle.job.proofs.OrderExact.{own-tests}
-use Rattle.planning.proofs.CheckExact.{passed}
+use Rattle.planning.specs.Planning.{setsKnown, checking}
+use Rattle.job.proofs.OrderExact.{order-passes, passed-order, own-tests}
+use Rattle.planning.proofs.CheckExact.{Passes, passed}
+use Rattle.planning.proofs.Sequence.{sets-known, sets-long}
 use Rattle.job.proofs.Orders.{order-length}
 use Rattle.plan_bytes.specs.PlanBytes.{setField, stepBytes, stepsBytes, planBytes, writePlan}
+use Rattle.plan_bytes.specs.Contracts.{fitting, writeSteps}
 
 -- ---- a set
 
@@ -91,39 +96,82 @@ module _ (new l out : List ℕ) (n : ℕ) (count : n ≡ length new) (stored : o
   pub own-front : take n out ≡ new
   own-front = ap (take n) stored ∙ sets-front new l n (sym count) (omega arith)
 
--- ---- what is answered and left
-module _ (j : Job) (order : List ℕ) (p : Plan) (lent : ℕ) where
-  abbrev bytes : List ℕ
-  bytes = planBytes order (p .drops) (p .loads)
+-- ---- bytes and a buffer
+module _ (bytes : List ℕ) (lent : ℕ) where
+  pub too-short : lent < length bytes → fitting bytes lent ≡ refused 9 (length bytes)
+  unfolding room
+  too-short h = refused-both _ _ 9 _ (demand-refused _ 9 _ (lt-leb (length bytes) lent h))
 
-  pub unchecked : (k i : ℕ) → checking j order p ≡ refused k i → writePlan j order p lent ≡ refused k i
+  pub long-enough : length bytes ≤ lent → fitting bytes lent ≡ done bytes
+  long-enough h = done-both _ _ (done-room lent (length bytes) h)
+
+-- ---- what is written of a plan
+module _ (j : Job) (order : List ℕ) (p : Plan) where
+  pub unchecked : (k i : ℕ) → checking j order p ≡ refused k i → (lent : ℕ) → writePlan j order p lent ≡ refused k i
   unfolding writePlan _>>=_
-  unchecked k i e = rw e refl
+  unchecked k i e lent = rw e refl
 
-  module _ (m : ℕ) (e : checking j order p ≡ done m) where
-    pub too-short : lent < length bytes → writePlan j order p lent ≡ refused 9 (length bytes)
-    unfolding writePlan _>>=_ _>>_ room demand
-    too-short h = rw (e, lt-leb (length bytes) lent h) refl
+  pub plan-fitting : (m : ℕ) → checking j order p ≡ done m → (lent : ℕ) → writePlan j order p lent ≡ fitting (planBytes order (p .drops) (p .loads)) lent
+  unfolding writePlan _>>=_
+  plan-fitting m e lent = rw e refl
 
-    pub long-enough : length bytes ≤ lent → writePlan j order p lent ≡ done bytes
-    unfolding writePlan _>>=_
-    long-enough h = rw e (done-both _ _ (done-room lent (length bytes) h))
+-- ---- and of lists alone
+module _ (order : List ℕ) (p : Plan) where
+  -- an entry of each list of sets for each step
+  abbrev pub setsFor : Outcome (Unit {0})
+  setsFor = setsKnown (length order) (length (p .drops)) (length (p .loads))
 
--- what passed the check is a list of steps: a test below 256, a drop set and a load set for each test, at most 256 of them
+  pub no-order : (k i : ℕ) → orderAloneKnown order ≡ refused k i → (lent : ℕ) → writeSteps order p lent ≡ refused k i
+  unfolding writeSteps
+  no-order k i e lent = refused-both _ _ k i e
+
+  module _ (known : orderAloneKnown order ≡ done tt) where
+    pub no-sets : (k i : ℕ) → setsFor ≡ refused k i → (lent : ℕ) → writeSteps order p lent ≡ refused k i
+    unfolding writeSteps
+    no-sets k i e lent = done-both _ _ known ∙ refused-both _ _ k i e
+
+    pub steps-fitting : setsFor ≡ done tt → (lent : ℕ) → writeSteps order p lent ≡ fitting (planBytes order (p .drops) (p .loads)) lent
+    unfolding writeSteps
+    steps-fitting e lent = done-both _ _ known ∙ done-both _ _ e
+
+-- what passed these examinations is a list of steps: a test below 256, a drop set and a load set for each test, at most 256 of them
 pub record Writable (order : List ℕ) (p : Plan) : Type 0 where
   pub tests : (i : ℕ) → i < length order → getD order i 0 < 256
   pub few : length order ≤ 256
   pub drop-sets : length (p .drops) ≡ length order
   pub load-sets : length (p .loads) ≡ length order
 
-pub writable : (j : Job) (order : List ℕ) (p : Plan) (m : ℕ) → checking j order p ≡ done m → Writable order p
-writable j order p m e =
-    let ok = passed j order p m e in
-    let n = order-length (length (j .wants)) order (ok .is-order) in
-    let b = ok .is-job .tests-bounds in
+pub writable : (order : List ℕ) (p : Plan) → orderAloneKnown order ≡ done tt → setsFor order p ≡ done tt → Writable order p
+unfolding orderAloneKnown
+writable order p known sets =
+    let a = both-done (testsKnown (length order)) _ tt known in
+    let few = tests-few (length order) (a .0) in
+    let l = sets-long _ _ _ sets in
     record {
-      tests = λ i h. omega (arith, own-tests (length (j .wants)) order (ok .is-order) i h);
-      few = omega arith;
-      drop-sets = ok .drop-sets ∙ sym n;
-      load-sets = ok .load-sets ∙ sym n;
+      tests = λ i h. omega (arith, own-tests (length order) order (passed-order _ order (a .1)) i h);
+      few = few;
+      drop-sets = l .0;
+      load-sets = l .1;
     }
+
+-- ---- a plan that passes the check
+module _ (j : Job) (order : List ℕ) (p : Plan) (m : ℕ) (e : checking j order p ≡ done m) where
+  ok : Passes j order p
+  ok = passed j order p m e
+
+  n : length order ≡ length (j .wants)
+  n = order-length (length (j .wants)) order (ok .is-order)
+
+  own-order : orderAloneKnown order ≡ done tt
+  unfolding orderAloneKnown
+  own-order = rw n (done-both _ _ (few-tests _ (ok .is-job .tests-bounds .1)) ∙ order-passes _ order (ok .is-order))
+
+  own-sets : setsFor order p ≡ done tt
+  own-sets = sets-known _ _ _ (ok .drop-sets ∙ sym n) (ok .load-sets ∙ sym n)
+
+  pub passed-writable : Writable order p
+  passed-writable = writable order p own-order own-sets
+
+  -- A PLAN THAT PASSES THE CHECK IS WRITTEN THE SAME WITHOUT IT
+  pub passed-written : (lent : ℕ) → writePlan j order p lent ≡ writeSteps order p lent
+  passed-written lent = plan-fitting j order p m e lent ∙ sym (steps-fitting order p own-order own-sets lent)

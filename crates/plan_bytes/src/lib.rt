@@ -9,20 +9,22 @@ ghost use Rattle.job_bytes.specs.SetBytes.{stands, readGroups};
 ghost use Rattle.job.specs.Refusal.{done, mapped, examinedOutcome, countOutcome, leaves};
 ghost use Rattle.job.specs.Words.{jobOf};
 ghost use Rattle.planning.specs.Plan.{planOf};
-ghost use Rattle.plan_bytes.specs.PlanBytes.{setField, stepBytes, planBytes, writePlanAnswer, writePlanBuffer, testsOf, planIn};
-ghost use Rattle.plan_bytes.specs.PlanBytes.{readSet, readStep, readPlanBytes, planSteps, readPlanAnswer, readPlanOrder, readPlanLists};
+ghost use Rattle.plan_bytes.specs.PlanBytes.{setField, stepBytes, planBytes, writePlanAnswer, writePlanBuffer};
+ghost use Rattle.plan_bytes.specs.PlanBytes.{testsOf, planIn, readSet, readStep, readPlanBytes, planSteps, readPlanAnswer, readPlanOrder, readPlanLists};
 ghost use Rattle.plan_bytes.specs.PlanBytes.{fetched, partOf, stepPart, stepAt};
-ghost use Rattle.plan_bytes.specs.Contracts.{setOutcome, stepOutcome};
+ghost use Rattle.plan_bytes.specs.Contracts.{setOutcome, stepOutcome, fitting, writeStepsAnswer, writeStepsBuffer};
 use job::Counted;
 use job::Examined;
 use job::Refusal;
 use job::Rig;
 use job::examine_counts;
+use job::examine_order_alone;
 use job_bytes::set_bytes::GroupRead;
 use job_bytes::set_bytes::put_front;
 use job_bytes::set_bytes::put_set_at;
 use job_bytes::set_bytes::read_due;
 use planning::check_plan;
+use planning::examine_sets;
 
 // What stands where a set is due.
 enum SetRead {
@@ -342,6 +344,24 @@ fn put_plan(order: &[u16], drops: &[u64], loads: &[u64], out: &mut [u8]) -> usiz
 // The bytes that a plan takes at most: 1 + 9 + 9 + 1 for each step.
 const MOST_BYTES: usize = 20 * job::MOST_TESTS;
 
+// Writes the bytes of the steps to `out`, if they fit, and answers their count.
+fn write_fitting(order: &[u16], drops: &[u64], loads: &[u64], out: &mut [u8]) -> Counted
+    requires tests { ⌜ ((i : ℕ) → i < length (now order) → getD (now order) i 0 < 256) ⌝ }
+    requires sets { ⌜ (length (now drops) ≡ length (now order)) × (length (now loads) ≡ length (now order)) ⌝ }
+    requires few { ⌜ length (now order) ≤ 256 ⌝ }
+    ensures answer { λ r. ⌜ countOutcome r ≡ mapped length (fitting (planBytes (was order) (was drops) (was loads)) (length (was out))) ⌝ }
+    ensures bytes { λ _. ⌜ after out ≡ leaves (fitting (planBytes (was order) (was drops) (was loads)) (length (was out))) (was out) ⌝ }
+{
+    // "Nothing lent changes under a refusal": the bytes go to a buffer of our own, and are copied once their number is known to fit
+    let mut bytes = [0u8; MOST_BYTES];
+    let need = put_plan(order, drops, loads, &mut bytes);
+    if out.len() < need {
+        return Counted::Refused(Refusal::BufferTooSmall(need));
+    }
+    put_front(&bytes[..need], out);
+    Counted::Count(need)
+}
+
 // Writes a plan that passes the check as plan bytes, and answers their count: "writing a plan 8, 12, 9", after 5 and 10.
 pub fn write_plan(
     rig: Rig,
@@ -357,12 +377,19 @@ pub fn write_plan(
     if let Counted::Refused(r) = check_plan(rig, wants, order, drops, loads) {
         return Counted::Refused(r);
     }
-    // "Nothing lent changes under a refusal": the bytes go to a buffer of our own, and are copied once their number is known to fit
-    let mut bytes = [0u8; MOST_BYTES];
-    let need = put_plan(order, drops, loads, &mut bytes);
-    if out.len() < need {
-        return Counted::Refused(Refusal::BufferTooSmall(need));
+    write_fitting(order, drops, loads, out)
+}
+
+// Writes the steps of lists that were made here, without the check, and answers the count of their bytes: 10, 8, 12 and 9 of the lists alone.
+pub fn write_steps(order: &[u16], drops: &[u64], loads: &[u64], out: &mut [u8]) -> Counted
+    ensures answer { λ r. ⌜ countOutcome r ≡ writeStepsAnswer (was order) (planOf (was drops) (was loads)) (was out) ⌝ }
+    ensures bytes { λ _. ⌜ after out ≡ writeStepsBuffer (was order) (planOf (was drops) (was loads)) (was out) ⌝ }
+{
+    if let Examined::Refused(r) = examine_order_alone(order) {
+        return Counted::Refused(r);
     }
-    put_front(&bytes[..need], out);
-    Counted::Count(need)
+    if let Examined::Refused(r) = examine_sets(order.len(), drops.len(), loads.len()) {
+        return Counted::Refused(r);
+    }
+    write_fitting(order, drops, loads, out)
 }

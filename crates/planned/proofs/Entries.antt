@@ -1,4 +1,4 @@
--- The first entries of the lists that the stages filled: what was read, its order and its plan.
+-- The first entries of the lists that the stages filled: the order and the plan of what was read.
 use mathlib.Core.Path.{_≡_, refl, sym, ap, _∙_, subst}
 use mathlib.Core.List.{List}
 use Prim.Native.Nat.{ℕ, _≤_}
@@ -7,7 +7,6 @@ use lib.ListN.{length, take, length-map}
 use Rattle.job.specs.declared.Head.{Head}
 use Rattle.job.specs.declared.Refusal.{Refusal}
 use Rattle.job.specs.Refusal.{Outcome, done, refused, number, figure, _>>=_, _>>_, mapped, leaves}
-use Rattle.job.specs.Words.{jobOf}
 use Rattle.job.proofs.Laws.{done-same, bind-done, mapped-done, mapped-refused, leaves-done, done-room}
 use Rattle.job_bytes.specs.JobBytes.{Request, jobIn, readBytes}
 use Rattle.job_bytes.proofs.SetRoundTrip.{Bytes}
@@ -26,12 +25,10 @@ use Rattle.planned.proofs.Stages.{order-long}
 
 pub record First (p : Planned) (l : Lists) : Type 0 where
   pub read : ReadJob (p .request)
-  pub wants : take (p .request .head .tests) (l .wants) ≡ p .request .wants
   pub order : take (p .request .head .tests) (l .order) ≡ p .order
   pub drops : take (p .request .head .tests) (l .plan .drops) ≡ p .plan .drops
   pub loads : take (p .request .head .tests) (l .plan .loads) ≡ p .plan .loads
   -- an entry for each test
-  pub wants-long : length (p .request .wants) ≡ p .request .head .tests
   pub order-long : length (p .order) ≡ p .request .head .tests
   pub drops-long : length (p .plan .drops) ≡ p .request .head .tests
   pub loads-long : length (p .plan .loads) ≡ p .request .head .tests
@@ -45,10 +42,8 @@ pub record Given (bs : List ℕ) (h : Head) (m : ℕ) (new : Lists) : Type 0 whe
   pub few : h .tests ≤ 256
   pub places : h .rig .places ≤ 64
   pub method : h .method ≤ 3
-  pub job : jobOf (h .rig) (take (h .tests) (new .wants)) ≡ jobIn (planned .request)
   pub order : take (h .tests) (new .order) ≡ planned .order
   pub plan : first (h .tests) (new .plan) ≡ planned .plan
-  pub wants-long : length (take (h .tests) (new .wants)) ≡ h .tests
   pub order-long : length (take (h .tests) (new .order)) ≡ h .tests
   pub drops-long : length (take (h .tests) (new .plan .drops)) ≡ h .tests
   pub loads-long : length (take (h .tests) (new .plan .loads)) ≡ h .tests
@@ -80,11 +75,9 @@ module _ (bs : List ℕ) (all : Bytes bs) where
         let ll = length-map sets (λ s. s .loads) ∙ lp in
         record {
           read = r;
-          wants = ap (take n) (leaves-done (λ q. q .wants) (readBytes bs) q (old .wants) read) ∙ front (q .wants) (old .wants) n (r .tests);
           order = ap (λ (o : Outcome (List ℕ)). take n (leaves o (old .order))) os-left ∙ front os (old .order) n lo;
           drops = ap (take n) (leaves-done (λ p. p .plan .drops) (planJob bs) here (old .plan .drops) is) ∙ front (dropsOf sets) (old .plan .drops) n ld;
           loads = ap (take n) (leaves-done (λ p. p .plan .loads) (planJob bs) here (old .plan .loads) is) ∙ front (loadsOf sets) (old .plan .loads) n ll;
-          wants-long = r .tests;
           order-long = lo;
           drops-long = ld;
           loads-long = ll;
@@ -119,10 +112,8 @@ module _ (bs : List ℕ) (all : Bytes bs) where
           few = omega (arith, f .read .tests, f .read .is-job .tests-bounds .1);
           places = f .read .is-job .places-bounds .1;
           method = f .read .method;
-          job = rw (f .wants) refl;
           order = f .order;
           plan = rw (f .drops, f .loads) refl;
-          wants-long = ap length (f .wants) ∙ f .wants-long;
           order-long = ap length (f .order) ∙ f .order-long;
           drops-long = ap length (f .drops) ∙ f .drops-long;
           loads-long = ap length (f .loads) ∙ f .loads-long;

@@ -10,17 +10,21 @@ use Rattle.job.specs.declared.Refusal.{Refusal}
 use Rattle.job.specs.declared.Counted.{Counted}
 use Rattle.job.specs.Refusal.{Outcome, done, refused, countOutcome, _>>=_, _>>_, mapped, demand, room, leaves}
 use Rattle.job.specs.Words.{Job, capacity}
-use Rattle.job.specs.Calls.{orderingKnown}
+use Rattle.job.specs.Handed.{jobKnownBy}
+use Rattle.job.specs.Calls.{orderingKnown, planningKnown}
 use Rattle.job.proofs.Laws.{both-done, done-room, mapped-done, mapped-refused, done-mapped, refused-mapped, refused≢done, done-same, count-done, count-refused}
+use Rattle.job.proofs.JobExact.{job-by-exact}
 use Rattle.job_bytes.specs.JobBytes.{Request, jobIn, readBytes}
 use Rattle.lists.proofs.Overwritten.{front}
 use Rattle.ordering.specs.Methods.{orderBy}
 use Rattle.ordering.specs.Ordering.{ordering, orderAnswer, orderList}
+use Rattle.ordering.proofs.Complete.{order-complete}
 use Rattle.ordering.proofs.Ordered.{order-entries}
 use Rattle.drive.specs.declared.Sets.{Sets}
 use Rattle.drive.specs.Steps.{curveCount}
 use Rattle.planning.specs.Plan.{Plan, handed, entries}
 use Rattle.planning.specs.Planning.{planning, planAnswer, planLists}
+use Rattle.planning.proofs.Sequence.{exact-known, planning-known}
 use Rattle.planned.specs.declared.JobPlanned.{JobPlanned}
 use Rattle.planned.specs.Planned.{Planned, orderRequest, planInOrder, orderAndPlan, planJob}
 use Rattle.planned.specs.Contracts.{Told, told, plannedOutcome}
@@ -50,17 +54,30 @@ module _ (q : Request) (tests : length (q .wants) ≡ q .head .tests) where
 
   -- ---- ordering
 
-  -- what ordering gives is the method's order, with an entry for each test
-  pub order-long : (os : List ℕ) → orderRequest q ≡ done os → length os ≡ n
+  abbrev order : List ℕ
+  order = orderBy (q .head .method) (capacity (j .rig)) (q .wants)
+
+  -- what ordering gives is the method's order, behind its examinations
+  by-method : (os : List ℕ) → orderRequest q ≡ done os → (orderingKnown (q .head .method) j ≡ done tt) × (order ≡ os)
   unfolding orderRequest ordering _>>=_
-  order-long os e =
-      let a = both-done (orderingKnown (q .head .method) j) _ os e in
-      ap length (sym (go (room n (length (q .wants))) (a .1))) ∙ order-entries (q .head .method) (capacity (j .rig)) (q .wants) ∙ tests
+  by-method os e = let a = both-done (orderingKnown (q .head .method) j) _ os e in (a .0, go (room n (length (q .wants))) (a .1))
     where
-      go : (r : Outcome (Unit {0})) → _>>=_ r (λ ready. done (orderBy (q .head .method) (capacity (j .rig)) (q .wants))) ≡ done os
-          → orderBy (q .head .method) (capacity (j .rig)) (q .wants) ≡ os
+      go : (r : Outcome (Unit {0})) → _>>=_ r (λ ready. done order) ≡ done os → order ≡ os
       go (done tt) e = done-same e
       go (refused k i) e = absurd (refused≢done e)
+
+  -- it has an entry for each test
+  pub order-long : (os : List ℕ) → orderRequest q ≡ done os → length os ≡ n
+  order-long os e = ap length (sym (by-method os e .1)) ∙ order-entries (q .head .method) (capacity (j .rig)) (q .wants) ∙ tests
+
+  -- and nothing is left that planning could refuse
+  pub order-known : (os : List ℕ) → orderRequest q ≡ done os → planningKnown j os ≡ done tt
+  unfolding orderingKnown
+  order-known os e =
+      let g = by-method os e in
+      let b = both-done (jobKnownBy (q .head .method) j) _ tt (g .0) in
+      let is = job-by-exact j (q .head .method) .0 (b .0) in
+      rw (sym (g .1)) (planning-known j order (exact-known j order (is .0) (order-complete (q .head .method) (capacity (j .rig)) (q .wants))) ∙ b .1)
 
   module _ (O : List ℕ) (long : n ≤ length O) where
     there : ordering (q .head .method) j (length O) ≡ orderRequest q

@@ -6,70 +6,121 @@ use native.Mathlib.Omega.{arith}
 use lib.Pow.{pow-pos}
 use lib.ListN.{length, getD, take, length-map}
 use lib.Seq.{sets}
-use Rattle.job.specs.Refusal.{Outcome, done, refused, mapped, overwritten}
-use Rattle.job.specs.Words.{Job, capacity}
+use borrow.Author.Tests.{lt-leb}
+use Rattle.job.specs.Refusal.{Outcome, done, refused, _>>=_, _>>_, mapped, demand, room, overwritten}
+use Rattle.job.specs.Words.{Job, capacity, IsJob, IsOrder}
+use Rattle.job.specs.Handed.{testsKnown}
 use Rattle.job.specs.Calls.{planningKnown}
-use Rattle.job.proofs.Laws.{leaves-done, leaves-refused}
+use Rattle.job.proofs.Laws.{done-both, done-room, leaves-done, leaves-refused}
+use Rattle.job.proofs.Examination.{few-tests}
+use Rattle.job.proofs.Orders.{order-length}
 use Rattle.job.proofs.OrderExact.{own-tests}
 use Rattle.lists.proofs.Overwritten.{front, sets-whole}
 use Rattle.drive.specs.declared.Sets.{Sets}
 use Rattle.drive.specs.Steps.{dropsOf, loadsOf, curveCount, loadCount}
 use Rattle.drive.specs.Plan.{furthest, planFrom}
+use Rattle.drive.proofs.Moves.{length-plan}
 use Rattle.drive.proofs.Width.{plan-width}
 use Rattle.planning.specs.Plan.{Plan, planOf, entries, inOrder}
 use Rattle.planning.specs.Planning.{ourPlan, planning, planAnswer, planLists}
 use Rattle.planning.specs.Demand3.{Demand3}
+use Rattle.planning.specs.Contracts.{planTests, testsAnswer, testsLists}
 use Rattle.planning.proofs.Turns.{length-inOrder, wants-at}
-use Rattle.planning.proofs.Sequence.{known-exact, planning-parts, plan-done}
-use Rattle.planning.proofs.Demand3.{demand3, plan-length}
+use Rattle.planning.proofs.Sequence.{known-exact, planning-parts, plan-refused}
+use Rattle.planning.proofs.Demand3.{demand3}
+
+-- ---- without examinations
+
+module _ (places : ℕ) (wants order : List ℕ) (lent : Plan) where
+  abbrev n : ℕ
+  n = length order
+
+  abbrev plan : List Sets
+  plan = planFrom (furthest 64) places 0 (inOrder wants order)
+
+  -- the contract of planning without examinations, for an answer and what the lent lists hold afterwards
+  abbrev Tests : Outcome ℕ → Plan → Type 0
+  Tests answer lists = (answer ≡ testsAnswer places wants order lent) × (lists ≡ testsLists places wants order lent)
+
+  refused-tests : (k i : ℕ) → planTests places wants order lent ≡ refused k i → Tests (refused k i) lent
+  unfolding testsAnswer testsLists mapped
+  refused-tests k i e = (rw e refl, sym (rw (leaves-refused dropsOf _ k i (lent .drops) e, leaves-refused loadsOf _ k i (lent .loads) e) refl))
+
+  pub too-many : 256 < n → Tests (refused 10 2) lent
+  too-many h = refused-tests 10 2 (unfold planTests testsKnown demand _>>_ in rw (lt-leb n 256 h) refl)
+
+  module _ (few : n ≤ 256) where
+    pub too-short : entries lent < n → Tests (refused 9 n) lent
+    too-short h = refused-tests 9 n (unfold planTests room demand _>>=_ in (done-both _ _ (few-tests n few) ∙ rw (lt-leb n (entries lent) h) refl))
+
+    pub tests-done : n ≤ entries lent → planTests places wants order lent ≡ done plan
+    unfolding planTests _>>=_
+    tests-done h = done-both _ _ (few-tests n few) ∙ rw (done-room (entries lent) n h) refl
+
+    -- what was written for steps that want ws, and counted in the first entries of the loads
+    pub planned : n ≤ entries lent → (ws : List ℕ) (count : ℕ) (ds ls : List ℕ) → ws ≡ inOrder wants order
+        → ds ≡ sets (lent .drops) 0 (dropsOf (planFrom (furthest 64) places 0 ws)) → ls ≡ sets (lent .loads) 0 (loadsOf (planFrom (furthest 64) places 0 ws))
+        → count ≡ curveCount (take n ls) → Tests (done count) (planOf ds ls)
+    unfolding testsAnswer testsLists mapped
+    planned h ws count ds ls e d l c =
+        let p = tests-done h in
+        let long : length plan ≡ n = length-plan (furthest 64) places 0 (inOrder wants order) ∙ length-inOrder wants order in
+        let nd : length (dropsOf plan) ≡ n = length-map plan (λ s. s .drops) ∙ long in
+        let nl : length (loadsOf plan) ≡ n = length-map plan (λ s. s .loads) ∙ long in
+        let wd : ds ≡ overwritten (dropsOf plan) (lent .drops) = rw e at d ∙ sets-whole (dropsOf plan) (lent .drops) (omega arith) in
+        let wl : ls ≡ overwritten (loadsOf plan) (lent .loads) = rw e at l ∙ sets-whole (loadsOf plan) (lent .loads) (omega arith) in
+        let wc : count ≡ loadCount plan = c ∙ ap (λ (x : List ℕ). curveCount (take n x)) wl ∙ ap curveCount (front (loadsOf plan) (lent .loads) n nl) in
+        (rw (wc, p) refl, rw (wd, wl, ← (leaves-done dropsOf _ plan (lent .drops) p), ← (leaves-done loadsOf _ plan (lent .loads) p)) refl)
+
+-- ---- behind the examinations
 
 module _ (j : Job) (order : List ℕ) (lent : Plan) where
   -- the contract of planning, for an answer and what the lent lists hold afterwards
-  abbrev pub Contract : Outcome ℕ → Plan → Type 0
+  abbrev Contract : Outcome ℕ → Plan → Type 0
   Contract answer lists = (answer ≡ planAnswer j order lent) × ((lists ≡ planLists j order lent) × Demand3 j order answer lists)
 
   contract : (answer : Outcome ℕ) (lists : Plan) → answer ≡ planAnswer j order lent → lists ≡ planLists j order lent → Contract answer lists
   contract answer lists a l = (a, (l, rw (a, l) (demand3 j order lent)))
 
-  pub refused-contract : (k i : ℕ) → planning j order (entries lent) ≡ refused k i → Contract (refused k i) lent
+  pub refused-contract : (k i : ℕ) → planningKnown j order ≡ refused k i → Contract (refused k i) lent
   unfolding planAnswer planLists mapped
-  refused-contract k i e = contract (refused k i) lent (rw e refl) (sym (rw (leaves-refused dropsOf _ k i (lent .drops) e, leaves-refused loadsOf _ k i (lent .loads) e) refl))
+  refused-contract k i e =
+      let r = plan-refused j order (entries lent) k i e in
+      contract (refused k i) lent (rw r refl) (sym (rw (leaves-refused dropsOf _ k i (lent .drops) r, leaves-refused loadsOf _ k i (lent .loads) r) refl))
 
   module _ (known : planningKnown j order ≡ done tt) where
-    abbrev n : ℕ
-    n = length (j .wants)
-
     abbrev steps : List ℕ
     steps = inOrder (j .wants) order
 
-    abbrev plan : List Sets
-    plan = ourPlan j order
+    exact : IsJob j × IsOrder (length (j .wants)) order
+    exact = known-exact j order (planning-parts j order known .0)
+
+    as-long : length order ≡ length (j .wants)
+    as-long = order-length (length (j .wants)) order (exact .1)
 
     step-curves : (i : ℕ) → i < length steps → getD steps i 0 < 2 ^ j .rig .curves
     step-curves i h =
-        let k = known-exact j order (planning-parts j order known .0) in
         let l : i < length order = omega (arith, length-inOrder (j .wants) order) in
-        rw (wants-at (j .wants) order i l) (k .0 .own-curves (getD order i 0) (own-tests n order (k .1) i l))
+        rw (wants-at (j .wants) order i l) (exact .0 .own-curves (getD order i 0) (own-tests (length (j .wants)) order (exact .1) i l))
 
-    -- the plan that is made for steps that want ws is ours
-    our-plan : (ws : List ℕ) → ws ≡ steps → planFrom (furthest 64) (capacity (j .rig)) 0 ws ≡ plan
+    -- the plan without examinations is ours
+    ours : planFrom (furthest 64) (capacity (j .rig)) 0 steps ≡ ourPlan j order
     unfolding ourPlan
-    our-plan ws e =
-        rw e (plan-width (j .rig .curves) 64 (known-exact j order (planning-parts j order known .0) .0 .curves-bounds .1) (capacity (j .rig)) 0 steps (pow-pos (j .rig .curves)) step-curves)
+    ours = plan-width (j .rig .curves) 64 (exact .0 .curves-bounds .1) (capacity (j .rig)) 0 steps (pow-pos (j .rig .curves)) step-curves
 
-    -- ---- the whole: what was written for steps that want ws, and counted in the first entries of the loads
-    pub steps-contract : n ≤ entries lent → (ws : List ℕ) (count : ℕ) (ds ls : List ℕ) → ws ≡ steps
-        → ds ≡ sets (lent .drops) 0 (dropsOf (planFrom (furthest 64) (capacity (j .rig)) 0 ws))
-        → ls ≡ sets (lent .loads) 0 (loadsOf (planFrom (furthest 64) (capacity (j .rig)) 0 ws)) → count ≡ curveCount (take n ls) → Contract (done count) (planOf ds ls)
-    unfolding planAnswer planLists mapped
-    steps-contract h ws count ds ls e d l c =
-        let p = plan-done j order (entries lent) known h in
-        let long : length plan ≡ n = plan-length j order (entries lent) plan p in
-        let nd : length (dropsOf plan) ≡ n = length-map plan (λ s. s .drops) ∙ long in
-        let nl : length (loadsOf plan) ≡ n = length-map plan (λ s. s .loads) ∙ long in
-        let wd : ds ≡ overwritten (dropsOf plan) (lent .drops) =
-        d ∙ ap (λ (q : List Sets). sets (lent .drops) 0 (dropsOf q)) (our-plan ws e) ∙ sets-whole (dropsOf plan) (lent .drops) (omega arith) in
-        let wl : ls ≡ overwritten (loadsOf plan) (lent .loads) =
-        l ∙ ap (λ (q : List Sets). sets (lent .loads) 0 (loadsOf q)) (our-plan ws e) ∙ sets-whole (loadsOf plan) (lent .loads) (omega arith) in
-        let wc : count ≡ loadCount plan = c ∙ ap (λ (x : List ℕ). curveCount (take n x)) wl ∙ ap curveCount (front (loadsOf plan) (lent .loads) n nl) in
-        contract (done count) (planOf ds ls) (rw (wc, p) refl) (rw (wd, wl, ← (leaves-done dropsOf _ plan (lent .drops) p), ← (leaves-done loadsOf _ plan (lent .loads) p)) refl)
+    as-tests : planTests (capacity (j .rig)) (j .wants) order lent ≡ planning j order (entries lent)
+    unfolding planning planTests
+    as-tests = rw (as-long, ours) (done-both _ _ (few-tests (length (j .wants)) (exact .0 .tests-bounds .1)) ∙ sym (done-both _ _ known))
+
+    -- both plan the same
+    pub tests-answer : testsAnswer (capacity (j .rig)) (j .wants) order lent ≡ planAnswer j order lent
+    unfolding planAnswer testsAnswer
+    tests-answer = rw as-tests refl
+
+    pub tests-lists : testsLists (capacity (j .rig)) (j .wants) order lent ≡ planLists j order lent
+    unfolding planLists testsLists
+    tests-lists = rw as-tests refl
+
+    pub tests-contract : (answer : Outcome ℕ) (lists : Plan) → answer ≡ testsAnswer (capacity (j .rig)) (j .wants) order lent
+        → lists ≡ testsLists (capacity (j .rig)) (j .wants) order lent → Contract answer lists
+    tests-contract answer lists a l = contract answer lists (a ∙ tests-answer) (l ∙ tests-lists)

@@ -1,12 +1,12 @@
 -- Planning and checking, examination by examination: which refusal the examinations so far come to, and what is known behind them.
 use mathlib.Core.Path.{_≡_, refl, _∙_}
 use mathlib.Core.List.{List}
-use Prim.Native.Nat.{ℕ, _≤_, _<_, min}
+use Prim.Native.Nat.{ℕ, _≤_, min}
 use lib.Dec.{eqb}
 use lib.ListN.{length, take}
 use lib.Seq.{sets}
-use borrow.Author.Tests.{eqb-true, eq-eqb, ne-eqb, lt-leb}
-use Rattle.job.specs.Refusal.{done, refused, _>>=_, _>>_, demand, room}
+use borrow.Author.Tests.{eqb-true, eq-eqb, ne-eqb}
+use Rattle.job.specs.Refusal.{done, refused, _>>=_, _>>_, demand}
 use Rattle.job.specs.Words.{Job, capacity, IsJob, IsOrder}
 use Rattle.job.specs.Handed.{allCurves, wantsFit, jobKnown}
 use Rattle.job.specs.Calls.{checkingKnown, planningKnown}
@@ -102,10 +102,6 @@ module _ (j : Job) (order : List ℕ) (lent : ℕ) where
   plan-refused k i e = refused-both _ _ k i e
 
   module _ (known : planningKnown j order ≡ done tt) where
-    pub plan-short : lent < length (j .wants) → planning j order lent ≡ refused 9 (length (j .wants))
-    unfolding planning room demand _>>=_
-    plan-short h = done-both _ _ known ∙ rw (lt-leb (length (j .wants)) lent h) refl
-
     pub plan-done : length (j .wants) ≤ lent → planning j order lent ≡ done (ourPlan j order)
     unfolding planning _>>=_
     plan-done h = done-both _ _ known ∙ rw (done-room lent (length (j .wants)) h) refl

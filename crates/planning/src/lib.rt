@@ -15,6 +15,7 @@ ghost use Rattle.drive.specs.Steps.{curveCount};
 ghost use Rattle.planning.specs.Plan.{planOf, inOrder};
 ghost use Rattle.planning.specs.Planning.{planAnswer, planLists, setsKnown, checking};
 ghost use Rattle.planning.specs.Demand3.{Demand3};
+ghost use Rattle.planning.specs.Contracts.{testsAnswer, testsLists};
 
 // The smaller of two numbers.
 fn smaller(a: usize, b: usize) -> usize
@@ -24,7 +25,7 @@ fn smaller(a: usize, b: usize) -> usize
 }
 
 // 12: "first missing or surplus position of the drops or loads, the smaller", of the lengths of three lists.
-fn examine_sets(tests: usize, drops: usize, loads: usize) -> Examined
+pub fn examine_sets(tests: usize, drops: usize, loads: usize) -> Examined
     ensures { λ r. ⌜ examinedOutcome r ≡ setsKnown tests drops loads ⌝ }
 {
     if drops == tests {
@@ -81,17 +82,22 @@ pub fn check_plan(rig: Rig, wants: &[u64], order: &[u16], drops: &[u64], loads: 
     }
 }
 
-// Our plan for one job and one order of its tests, into the first entries of the drops and loads lent; answers the load count. "planning 8, 7, 9", after 5 and
-// 10.
-pub fn plan(rig: Rig, wants: &[u64], order: &[u16], drops: &mut [u64], loads: &mut [u64]) -> Counted
-    ensures answer { λ r. ⌜ countOutcome r ≡ planAnswer (jobOf rig (was wants)) (was order) (planOf (was drops) (was loads)) ⌝ }
-    ensures lists { λ _. ⌜ planOf (after drops) (after loads) ≡ planLists (jobOf rig (was wants)) (was order) (planOf (was drops) (was loads)) ⌝ }
-    ensures demand3 { λ r. ⌜ Demand3 (jobOf rig (was wants)) (was order) (countOutcome r) (planOf (after drops) (after loads)) ⌝ }
+// Our plan for wants and an order that were examined before, into the first entries of the drops and loads lent; answers the load count. 10 for more than 256
+// tests, and 9.
+pub fn plan_tests(
+    places: usize,
+    wants: &[u64],
+    order: &[u16],
+    drops: &mut [u64],
+    loads: &mut [u64],
+) -> Counted
+    ensures answer { λ r. ⌜ countOutcome r ≡ testsAnswer places (was wants) (was order) (planOf (was drops) (was loads)) ⌝ }
+    ensures lists { λ _. ⌜ planOf (after drops) (after loads) ≡ testsLists places (was wants) (was order) (planOf (was drops) (was loads)) ⌝ }
 {
-    if let Examined::Refused(r) = job::examine_planning(rig, wants, order) {
-        return Counted::Refused(r);
+    let tests = order.len();
+    if job::MOST_TESTS < tests {
+        return Counted::Refused(Refusal::BadArgument(2));
     }
-    let tests = wants.len();
     if drops.len() < tests {
         return Counted::Refused(Refusal::BufferTooSmall(tests));
     }
@@ -101,6 +107,18 @@ pub fn plan(rig: Rig, wants: &[u64], order: &[u16], drops: &mut [u64], loads: &m
     let mut steps = [0u64; job::MOST_TESTS];
     in_order(wants, order, &mut steps);
     // "The drive is empty before step 0."
-    drive::plan_steps(rig.places, 0, &steps[..tests], drops, loads);
+    drive::plan_steps(places, 0, &steps[..tests], drops, loads);
     Counted::Count(count_curves(&loads[..tests]))
+}
+
+// Our plan for one job and one order of its tests. "planning 8, 7, 9", after 5 and 10.
+pub fn plan(rig: Rig, wants: &[u64], order: &[u16], drops: &mut [u64], loads: &mut [u64]) -> Counted
+    ensures answer { λ r. ⌜ countOutcome r ≡ planAnswer (jobOf rig (was wants)) (was order) (planOf (was drops) (was loads)) ⌝ }
+    ensures lists { λ _. ⌜ planOf (after drops) (after loads) ≡ planLists (jobOf rig (was wants)) (was order) (planOf (was drops) (was loads)) ⌝ }
+    ensures demand3 { λ r. ⌜ Demand3 (jobOf rig (was wants)) (was order) (countOutcome r) (planOf (after drops) (after loads)) ⌝ }
+{
+    if let Examined::Refused(r) = job::examine_planning(rig, wants, order) {
+        return Counted::Refused(r);
+    }
+    plan_tests(rig.places, wants, order, drops, loads)
 }

@@ -32,29 +32,27 @@ given c =
     (bytes (c .before .before .before .before .before .before .before .before .before .before .before .before .before)) _ _ (r .ensures .0) (omega arith) _
     _ _ (c .before .head .given .1) (r .ensures .1)
 
-array-share-prefix-wants : tie.Need-array-share-prefix-wants
-array-share-prefix-wants c = omega (arith, given c .few, c .before .before .before .before .before .before .before .plan-job .kept .1 .0)
-
-slice-aggregate-write-plan : tie.Need-slice-aggregate-write-plan
-slice-aggregate-write-plan c = sym (given (c .before) .wants-long)
-
 array-share-prefix-order : tie.Need-array-share-prefix-order
-array-share-prefix-order c = omega (arith, given (c .before) .few, c .before .before .before .before .before .before .before .before .plan-job .kept .1 .1 .0)
+array-share-prefix-order c = omega (arith, given c .few, c .before .before .before .before .before .before .before .plan-job .kept .1 .1 .0)
 
-slice-aggregate-write-plan-2 : tie.Need-slice-aggregate-write-plan-2
-slice-aggregate-write-plan-2 c = sym (given (c .before .before) .order-long)
+slice-aggregate-write-steps : tie.Need-slice-aggregate-write-steps
+slice-aggregate-write-steps c = sym (given (c .before) .order-long)
 
 array-share-prefix-drops : tie.Need-array-share-prefix-drops
-array-share-prefix-drops c = omega (arith, given (c .before .before) .few, c .before .before .before .before .before .before .before .before .before .plan-job .kept .1 .1 .1 .0)
+array-share-prefix-drops c =
+    let k = c .before in
+    omega (arith, given k .few, k .before .before .before .before .before .before .before .plan-job .kept .1 .1 .1 .0)
 
-slice-aggregate-write-plan-3 : tie.Need-slice-aggregate-write-plan-3
-slice-aggregate-write-plan-3 c = sym (given (c .before .before .before) .drops-long)
+slice-aggregate-write-steps-2 : tie.Need-slice-aggregate-write-steps-2
+slice-aggregate-write-steps-2 c = sym (given (c .before .before) .drops-long)
 
 array-share-prefix-loads : tie.Need-array-share-prefix-loads
-array-share-prefix-loads c = omega (arith, given (c .before .before .before) .few, c .before .before .before .before .before .before .before .before .before .before .plan-job .kept .1 .1 .1 .1 .0)
+array-share-prefix-loads c =
+    let k = c .before .before in
+    omega (arith, given k .few, k .before .before .before .before .before .before .before .plan-job .kept .1 .1 .1 .1 .0)
 
-slice-aggregate-write-plan-4 : tie.Need-slice-aggregate-write-plan-4
-slice-aggregate-write-plan-4 c = sym (given (c .before .before .before .before) .loads-long)
+slice-aggregate-write-steps-3 : tie.Need-slice-aggregate-write-steps-3
+slice-aggregate-write-steps-3 c = sym (given (c .before .before .before) .loads-long)
 
 returns : tie.Need-returns
 unfolding countOutcome
@@ -67,14 +65,15 @@ returns c =
 
 returns-2 : tie.Need-returns-2
 returns-2 c =
-    let a = c .before .before .before .before .before .before .before .before .before .before .before .before .before .before .before .before .before .before .before .before .before .before .args in
-    let g = given (c .before .before .before .before .before .before .before .before) in
-    let w = c .before .before .write-plan .ensures in
-    call-given (now (a .job)) (now (a .plan)) (g .planned) _ _ _ (g .is) (g .job) (g .order) (g .plan) _ _ (w .0) (w .1)
+    let k = c .before .before .before .before .before .before .before in
+    let b = k .before .before .before .before .before .before .before .before .before .before .before .before .before in
+    let a = b .before .args in
+    let g = given k in
+    let w = c .before .before .write-steps .ensures in
+    call-given (now (a .job)) (now (a .plan)) (bytes b) (g .planned) _ _ (g .is) (g .order) (g .plan) _ _ (w .0) (w .1)
 
 pub job-to-plan-spec : {M : Type 1} → statement M
 job-to-plan-spec =
     tie.close (tie.spec (λ c. search needs) (λ c. search needs) (λ c. search needs) (λ c. search needs) (λ c κs. search needs) (λ c. search needs)
-    (λ c. search needs) array-share-prefix-wants slice-aggregate-write-plan array-share-prefix-order slice-aggregate-write-plan-2
-    array-share-prefix-drops slice-aggregate-write-plan-3 array-share-prefix-loads slice-aggregate-write-plan-4 (λ c κs. search needs) returns
-    (λ c. search needs) returns-2)
+    (λ c. search needs) array-share-prefix-order slice-aggregate-write-steps array-share-prefix-drops slice-aggregate-write-steps-2
+    array-share-prefix-loads slice-aggregate-write-steps-3 (λ c κs. search needs) returns (λ c. search needs) returns-2)

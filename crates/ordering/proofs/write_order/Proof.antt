@@ -6,7 +6,11 @@ use native.Mathlib.Omega.{arith}
 use lib.ListN.{length}
 use denote.Ref.{now}
 use Rattle.job.specs.Refusal.{overwritten}
-use Rattle.packages.proofs.Entered.{listed-all, packages-all}
+use Rattle.packages.specs.Tests.{upTo}
+use Rattle.packages.specs.Packages.{packages}
+use Rattle.packages.proofs.Listed.{length-upTo}
+use Rattle.packages.proofs.Rounds.{packages-long}
+use Rattle.packages.proofs.Entered.{entered-all}
 use Rattle.ordering.proofs.Ordered.{by-0, by-1, by-2, by-3}
 use borrow.Author.Needs.{needs}
 use Rattle.ordering.proofs.write_order.Statement.{statement}
@@ -18,8 +22,9 @@ over old l m e = ap (λ r. overwritten r old) (sym e)
 returns : tie.Need-returns
 returns c =
     let a = c .before .before .before .before .before .before .before .args in
-    c .before .before .listed-order .ensures ∙ listed-all (length (now (a .wants))) (now (a .order)) (omega arith) (omega arith)
-    ∙ over (now (a .order)) _ _ (by-0 (a .places) (now (a .wants)) (a .method) (omega arith))
+    let ws = now (a .wants) in
+    c .before .before .listed-order .ensures ∙ entered-all (upTo (length ws)) (now (a .order)) _ (length-upTo (length ws)) (omega arith) (omega arith)
+    ∙ over (now (a .order)) _ _ (by-0 (a .places) ws (a .method) (omega arith))
 
 returns-2 : tie.Need-returns-2
 returns-2 c =
@@ -35,7 +40,8 @@ returns-4 : tie.Need-returns-4
 returns-4 c =
     let a = c .before .before .before .before .before .before .before .before .before .args in
     let ws = now (a .wants) in
-    c .before .before .package-order .ensures ∙ packages-all (a .places) ws (now (a .order)) (omega arith) (omega arith)
+    c .before .before .package-order .ensures
+    ∙ entered-all (packages (a .places) ws) (now (a .order)) _ (packages-long (a .places) ws) (omega arith) (omega arith)
     ∙ over (now (a .order)) _ _ (by-3 (a .places) ws (a .method) (λ e. omega arith) (λ e. omega arith) (λ e. omega arith))
 
 pub write-order-spec : {M : Type 1} → statement M

@@ -1,84 +1,111 @@
--- `packages::best_partner` meets its contract. Invariant: the second is the best of those before j, 0 for none, and most is one more than what it has in common with the first.
+-- `packages::best_partner` meets its contract. Invariant: the second is the best of those before j, 0 for none, and most is one more than what it has in common
+-- with the first.
 use mathlib.Core.Path.{_≡_, sym, ap, _∙_}
-use mathlib.Core.Bool.{Bool, true, false}
+use mathlib.Core.Bool.{true, false}
 use mathlib.Core.Logic.{⊎-elim}
 use Prim.Native.Nat.{ℕ, _≤_, _<_, _-_, _+_, _*_, _/_, _%_}
 use native.Mathlib.Omega.{arith}
-use lib.Dec.{leb}
 use lib.ListN.{length, getD}
 use borrow.Author.Needs.{needs}
 use borrow.Author.Tests.{le-leb, lt-leb}
 use denote.Ref.{now}
 use Rattle.bitset.specs.Set.{_∪_, size}
 use Rattle.packages.specs.Packages.{shared}
+use Rattle.packages.specs.Contracts.{at, within}
 use Rattle.packages.proofs.Rows as rows
+use Rattle.packages.proofs.Counts.{sizes-long, size-at, together-asks}
 use Rattle.packages.proofs.best_partner.Statement.{statement}
 use Rattle.packages.proofs.best_partner.Tie as tie
 
 abbrev Inv-loop : tie.InvT-loop
-Inv-loop bound curves first second₀ most₀ j₀ second most j = record {
+Inv-loop bound curves sizes counts first second₀ most₀ j₀ second most j = record {
   turns : first < j;
-  within : j ≤ length curves;
-  row : rows.rowTo (λ u. leb (size u) bound) curves first j ≡ rows.chosen first second;
+  inside : j ≤ length curves;
+  row : rows.rowTo (within bound) curves first j ≡ rows.chosen first second;
   count : most ≡ rows.score curves first second;
   few : most ≤ 65;
   low : second < j;
 }
 
 abbrev μ-loop : tie.MeasureT-loop
-μ-loop bound curves first second₀ most₀ j₀ second most j = length curves - j
+μ-loop bound curves sizes counts first second₀ most₀ j₀ second most j = length curves - j
 
 loop-holds : tie.Need-loop-holds Inv-loop μ-loop
 loop-holds c =
-    let a = c .before .args in
+    let a = c .before .before .before .before .before .before .before .args in
     record {
       turns = omega arith;
-      within = omega arith;
-      row = rows.row-start (λ u. leb (size u) (a .bound)) (now (a .curves)) (a .first);
+      inside = omega (arith, c .before .before .before .before .before .before .before .pre .0);
+      row = rows.row-start (within (a .bound)) (now (a .curves)) (a .first);
       count = sym (rows.score-none (now (a .curves)) (a .first));
       few = omega arith;
       low = omega arith;
     }
 
-add-common : tie.Need-add-common Inv-loop μ-loop
-add-common c =
-    let k = c .before .before .before .before .before .before in
-    let few = rows.few-shared (getD (now (k .args .curves)) (k .args .first) 0) _ (c .shared .result) (c .before .shared-slice-known3 .given (k .args .first) .fits) (c .shared .ensures) in
-    omega arith
+-- what the two have in common, and the sizes
+counted : (c : tie.In-loop Inv-loop μ-loop) → let q = c .before in let a = q .before .before .before .before .before .before .before .before .args in
+    getD (q .before .before .before .count-behind .last .1 .0) (q .loop .j) 0 ≡ shared (now (a .curves)) (at (a .first) (q .loop .j))
+counted c = c .before .before .before .before .count-behind .ensures (c .before .loop .j) (omega (arith, c .before .loop .inv .turns)) (omega arith)
+
+asks : (c : tie.In-loop Inv-loop μ-loop) → let q = c .before in let a = q .before .before .before .before .before .before .before .before .args in
+    (getD (now (a .sizes)) (a .first) 0 ≤ 64) × (getD (now (a .sizes)) (q .loop .j) 0 ≤ 64)
+    × (getD (q .before .before .before .count-behind .last .1 .0) (q .loop .j) 0 ≤ getD (now (a .sizes)) (a .first) 0)
+asks c =
+    let q = c .before in
+    let k = q .before .before .before .before .before .before .before in
+    let a = k .before .args in
+    together-asks (now (a .curves)) (now (a .sizes)) (k .before .pre .1 .2) (λ i. k .shared-slice-known .given i .fits) (a .first) (q .loop .j) _ (counted c)
+
+add-score : tie.Need-add-score Inv-loop μ-loop
+add-score c = let h = asks (c .before) in omega (arith, h .0, h .2)
+
+shared-slice-read-together : tie.Need-shared-slice-read-together Inv-loop μ-loop
+shared-slice-read-together c =
+    let s = c .before .before .before .before .before .before .before .before .before .before .before .before in
+    omega (arith, sizes-long (now (s .args .curves)) (now (s .args .sizes)) (s .pre .1 .2), s .pre .0)
+
+shared-slice-read-together-2 : tie.Need-shared-slice-read-together-2 Inv-loop μ-loop
+shared-slice-read-together-2 c =
+    let s = c .before .before .before .before .before .before .before .before .before .before .before .before .before in
+    omega (arith, sizes-long (now (s .args .curves)) (now (s .args .sizes)) (s .pre .1 .2), c .before .before .before .before .before .loop .inv .inside)
+
+together-requires : tie.Need-together-requires Inv-loop μ-loop
+together-requires c κs = asks (c .before .before .before .before .before)
 
 loop-again : tie.Need-loop-again Inv-loop μ-loop
 loop-again c =
-    let k = c .before .before .before .before .before in
-    let a = k .before .before .args in
+    let q = c .before .before .before in
+    let s = q .before .before .before .before .before .before .before .before in
+    let a = s .args in
     let cs = now (a .curves) in
-    let fits : ℕ → Bool = λ u. leb (size u) (a .bound) in
+    let fits = within (a .bound) in
     let i = a .first in
-    let j = k .loop .j in
-    let s = k .loop .second in
-    let v = k .loop .inv in
-    let e = c .before .shared .ensures in
-    let few = rows.few-shared (getD cs i 0) (getD cs j 0) (c .before .shared .result) (c .before .before .shared-slice-known3 .given i .fits) e in
+    let j = q .loop .j in
+    let v = q .loop .inv in
+    let e = counted (c .before .before) in
+    let h = asks (c .before .before) in
+    let ours = size-at cs (now (a .sizes)) (s .pre .1 .2) in
     ⊎-elim
     (λ w.
-    let f : leb (size (getD cs i 0 ∪ getD cs j 0)) (a .bound) ≡ true =
-    le-leb (size (getD cs i 0 ∪ getD cs j 0)) (a .bound) (omega (arith, w .5 .taken, w .4 .ensures, ap size (w .3 .ensures))) in
+    let f : fits (getD cs i 0 ∪ getD cs j 0) ≡ true =
+    le-leb (size (getD cs i 0 ∪ getD cs j 0)) (a .bound) (omega (arith, w .5 .taken, w .4 .ensures (getD cs i 0) (getD cs j 0) (ours i) (ours j) e)) in
     record {
       turns = omega arith;
-      within = omega arith;
-      row = rw (w .6) (rows.row-take fits cs i j s (k .loop .most) (v .row) (v .turns) (v .count) (omega (arith, e, w .0 .taken)) f);
+      inside = omega arith;
+      row = rw (w .6) (rows.row-take fits cs i j (q .loop .second) (q .loop .most) (v .row) (v .turns) (v .count) (omega (arith, e, w .0 .taken)) f);
       count = rw (w .6, w .7) (ap (λ (n : ℕ). 1 + n) e ∙ sym (rows.score-some cs i j (omega arith)));
-      few = omega (arith, w .7, few);
+      few = omega (arith, w .7, h .0, h .2);
       low = omega (arith, w .6);
     })
     (λ o.
     ⊎-elim
     (λ w.
-    let f : leb (size (getD cs i 0 ∪ getD cs j 0)) (a .bound) ≡ false =
-    lt-leb (size (getD cs i 0 ∪ getD cs j 0)) (a .bound) (omega (arith, w .5 .left, w .4 .ensures, ap size (w .3 .ensures))) in
+    let f : fits (getD cs i 0 ∪ getD cs j 0) ≡ false =
+    lt-leb (size (getD cs i 0 ∪ getD cs j 0)) (a .bound) (omega (arith, w .5 .left, w .4 .ensures (getD cs i 0) (getD cs j 0) (ours i) (ours j) e)) in
     record {
       turns = omega arith;
-      within = omega arith;
-      row = rw (w .6) (rows.row-pass fits cs i j s (k .loop .most) (v .row) f);
+      inside = omega arith;
+      row = rw (w .6) (rows.row-pass fits cs i j (q .loop .second) (q .loop .most) (v .row) f);
       count = rw (w .6, w .7) (v .count);
       few = omega (arith, w .7, v .few);
       low = omega (arith, w .6, v .low);
@@ -86,14 +113,17 @@ loop-again c =
     (λ w.
     record {
       turns = omega arith;
-      within = omega arith;
-      row = rw (w .1) (rows.row-keep fits cs i j s (k .loop .most) (v .row) (v .count) (omega (arith, e, w .0 .left)));
+      inside = omega arith;
+      row = rw (w .1) (rows.row-keep fits cs i j (q .loop .second) (q .loop .most) (v .row) (v .count) (omega (arith, e, w .0 .left)));
       count = rw (w .1, w .2) (v .count);
       few = omega (arith, w .2, v .few);
       low = omega (arith, w .1, v .low);
     })
     o)
     (c .if1 .came)
+
+cast-result : tie.Need-cast-result Inv-loop μ-loop
+cast-result c = omega (arith, c .before .loop .inv .few)
 
 mul-result : tie.Need-mul-result Inv-loop μ-loop
 mul-result c = omega (arith, c .before .loop .inv .few)
@@ -103,17 +133,20 @@ add-result c = omega (arith, c .before .loop .inv .few, c .before .loop .inv .lo
 
 returns : tie.Need-returns Inv-loop μ-loop
 returns c =
-    let k = c .before in
-    let a = k .before .before .args in
-    let v = k .loop .inv in
-    let e : length (now (a .curves)) ≡ k .loop .j = omega arith in
-    let low : k .loop .second < 256 = omega (arith, v .low, v .within, k .before .before .pre) in
-    let p : (k .loop .most * 256 + k .loop .second) % 256 ≡ k .loop .second = omega (arith, low) in
-    let d : (k .loop .most * 256 + k .loop .second) / 256 ≡ k .loop .most = omega (arith, low) in
-    (rw e (v .row) ∙ ap (rows.chosen (a .first)) (sym p), d ∙ v .count ∙ ap (rows.score (now (a .curves)) (a .first)) (sym p) ∙ sym (rows.score-as (now (a .curves)) (a .first) _))
+    let q = c .before in
+    let s = q .before .before .before .before .before .before .before .before in
+    let a = s .args in
+    let v = q .loop .inv in
+    let e : length (now (a .curves)) ≡ q .loop .j = omega arith in
+    let low : q .loop .second < 256 = omega (arith, v .low, v .inside, s .pre .1) in
+    let p : (q .loop .most * 256 + q .loop .second) % 256 ≡ q .loop .second = omega (arith, low) in
+    let d : (q .loop .most * 256 + q .loop .second) / 256 ≡ q .loop .most = omega (arith, low) in (
+      rw e (v .row) ∙ ap (rows.chosen (a .first)) (sym p),
+      d ∙ v .count ∙ ap (rows.score (now (a .curves)) (a .first)) (sym p) ∙ sym (rows.score-as (now (a .curves)) (a .first) _),
+    )
 
 pub best-partner-spec : {M : Type 1} → statement M
 best-partner-spec =
-    tie.close (tie.spec Inv-loop μ-loop (λ c. search needs) loop-holds (λ c. search needs) (λ c. search needs) (λ c. search needs) (λ c. search needs)
-    (λ c κs. search needs) add-common (λ c. search needs) (λ c. search needs) (λ c. search needs) (λ c. search needs) (λ c κs. search needs)
-    (λ c κs. search needs) (λ c. search needs) (λ c. search needs) loop-again mul-result add-result returns)
+    tie.close (tie.spec Inv-loop μ-loop (λ c κs. search needs) (λ c. search needs) loop-holds (λ c. search needs) (λ c. search needs) add-score
+    (λ c. search needs) shared-slice-read-together (λ c. search needs) shared-slice-read-together-2 (λ c. search needs) (λ c. search needs) together-requires
+    (λ c. search needs) (λ c. search needs) loop-again cast-result mul-result add-result (λ c. search needs) returns)

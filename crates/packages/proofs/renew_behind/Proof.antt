@@ -25,10 +25,11 @@ abbrev μ-loop : tie.MeasureT-loop
 μ-loop ratings₀ first second row₀ ratings row = length ratings₀ - row
 
 -- one rating more
-turned : (rs old : List ℕ) (i k second r : ℕ) → i < length rs → r ≡ movedUp second (getD old i 0) → Dec (k ≡ i) → ((k ≡ i → ⊥) → getD rs k 0 ≡ movedUp second (getD old k 0))
-    → getD (set rs i r) k 0 ≡ movedUp second (getD old k 0)
-turned rs old i k second r l e (yes d) h = ap (λ (n : ℕ). getD (set rs i r) n 0) d ∙ getD-set-same rs i r 0 l ∙ e ∙ ap (λ (n : ℕ). movedUp second (getD old n 0)) (sym d)
-turned rs old i k second r l e (no d) h = getD-set-other rs i k r 0 d ∙ h d
+turned : (f : ℕ → ℕ) (rs old : List ℕ) (i k r : ℕ) → i < length rs → r ≡ f (getD old i 0) → Dec (k ≡ i)
+    → ((k ≡ i → ⊥) → getD rs k 0 ≡ f (getD old k 0)) → getD (set rs i r) k 0 ≡ f (getD old k 0)
+turned f rs old i k r l e (yes d) h =
+    ap (λ (n : ℕ). getD (set rs i r) n 0) d ∙ getD-set-same rs i r 0 l ∙ e ∙ ap (λ (n : ℕ). f (getD old n 0)) (sym d)
+turned f rs old i k r l e (no d) h = getD-set-other rs i k r 0 d ∙ h d
 
 loop-holds : tie.Need-loop-holds Inv-loop μ-loop
 loop-holds c = record { turns = omega arith; long = refl; done = λ k a b. absurd (omega arith); rest = λ k l. refl; before = λ k l. refl }
@@ -40,11 +41,12 @@ loop-again c =
     let rs = q .loop .ratings in
     let i = q .loop .row in
     let v = q .loop .inv in
-    let made : c .moved .result ≡ movedUp (a .second) (getD (now (a .ratings)) i 0) = c .moved .ensures ∙ ap (movedUp (a .second)) (v .rest i (omega arith)) in
+    let f = movedUp (a .second) in
+    let made : c .moved .result ≡ f (getD (now (a .ratings)) i 0) = c .moved .ensures ∙ ap f (v .rest i (omega arith)) in
     record {
       turns = omega arith;
       long = simp length-set (v .long);
-      done = λ k l m. turned rs (now (a .ratings)) i k (a .second) (c .moved .result) (omega (arith, v .long)) made (ℕ-discrete k i) (λ e. v .done k l (omega arith));
+      done = λ k l m. turned f rs (now (a .ratings)) i k _ (omega (arith, v .long)) made (ℕ-discrete k i) (λ e. v .done k l (omega arith));
       rest = λ k l. getD-set-other rs i k _ 0 (λ e. omega arith) ∙ v .rest k (omega arith);
       before = λ k l. getD-set-other rs i k _ 0 (λ e. omega arith) ∙ v .before k l;
     }

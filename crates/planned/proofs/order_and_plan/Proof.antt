@@ -9,8 +9,9 @@ use Rattle.job.specs.Refusal.{done, countOutcome, mapped, leaves}
 use Rattle.job.proofs.Laws.{count-refused, count-done}
 use Rattle.job_bytes.specs.JobBytes.{Request}
 use Rattle.planning.specs.Plan.{planOf, entries}
+use Rattle.planning.proofs.Planned.{tests-answer, tests-lists}
 use Rattle.planned.specs.Planned.{orderRequest}
-use Rattle.planned.proofs.Stages.{order-left, order-refused, order-given, plan-answer, plan-left, not-ordered, ordered}
+use Rattle.planned.proofs.Stages.{order-known, order-left, order-refused, order-given, plan-answer, plan-left, not-ordered, ordered}
 use Rattle.planned.proofs.order_and_plan.Statement.{statement}
 use Rattle.planned.proofs.order_and_plan.Tie as tie
 
@@ -39,8 +40,8 @@ given c =
     order-given (record { head = a .head; wants = now (a .wants) }) (s .pre .0 .1) (now (a .order)) (omega (arith, s .pre .0 .0, s .pre .1 .0)) _ _
     (count-done _ _ _ (t .ensures .0) (c .enum-told .given .1)) (t .ensures .1)
 
-slice-aggregate-plan : tie.Need-slice-aggregate-plan
-slice-aggregate-plan c = sym (given (c .before) .1)
+slice-aggregate-plan-tests : tie.Need-slice-aggregate-plan-tests
+slice-aggregate-plan-tests c = sym (given (c .before) .1)
 
 returns-2 : tie.Need-returns-2
 returns-2 c =
@@ -52,12 +53,13 @@ returns-2 c =
     let g = given (c .before .before .before .before .before .before .before .before) in
     let o = ordered q (s .pre .0 .1) _ (g .0) in
     let long : a .head .tests ≤ entries lent = omega (arith, s .pre .0 .0, s .pre .1 .1, s .pre .1 .2) in
-    let p = c .before .before .before .before .plan .ensures in (
-      rw o (p .0 ∙ plan-answer q (s .pre .0 .1) _ lent long),
-      (t .ensures .1 ∙ order-left q (s .pre .0 .1) (now (a .order)) (omega (arith, s .pre .0 .0, s .pre .1 .0)), rw o (p .1 .0 ∙ plan-left q (s .pre .0 .1) _ lent long)),
+    let k = order-known q (s .pre .0 .1) _ (g .0) in
+    let p = c .before .before .before .before .plan-tests .ensures in (
+      rw o (p .0 ∙ tests-answer _ _ lent k ∙ plan-answer q (s .pre .0 .1) _ lent long),
+      (t .ensures .1 ∙ order-left q (s .pre .0 .1) (now (a .order)) (omega (arith, s .pre .0 .0, s .pre .1 .0)), rw o (p .1 ∙ tests-lists _ _ lent k ∙ plan-left q (s .pre .0 .1) _ lent long)),
     )
 
 pub order-and-plan-spec : {M : Type 1} → statement M
 order-and-plan-spec =
     tie.close (tie.spec (λ c κs. search needs) (λ c. search needs) (λ c. search needs) returns (λ c. search needs) (λ c. search needs)
-    slice-aggregate-plan (λ c κs. search needs) (λ c. search needs) (λ c. search needs) (λ c. search needs) returns-2)
+    slice-aggregate-plan-tests (λ c κs. search needs) (λ c. search needs) (λ c. search needs) (λ c. search needs) returns-2)

@@ -7,6 +7,9 @@
 //! C program for a job, and those of the others as ratios to it. Of each job the fastest of all rounds
 //! counts, so that other work on the machine does not. Lists of fewer tests come in more different
 //! jobs, so that no list is learnt by heart by the processor.
+//!
+//! Two more tables have the stages of the call, each timed by itself, of the library and of the C
+//! program.
 
 use differential::fast;
 use differential::generate;
@@ -124,13 +127,17 @@ fn no_call(_: &[u8], _: &mut [u8]) -> u64 {
     0
 }
 
-/// The mean time of a job for each call, in nanoseconds.
-fn measure(calls: &[(&str, Call)], jobs: &[Vec<u8>], rounds: usize) -> Vec<f64> {
-    let mut plan = vec![0; PLAN];
-    let clock = (0..1_000)
-        .map(|_| time(no_call, &[], &mut plan))
+/// What the clock itself takes, in nanoseconds.
+fn clock_time() -> u64 {
+    (0..1_000)
+        .map(|_| time(no_call, &[], &mut []))
         .min()
-        .unwrap();
+        .unwrap()
+}
+
+/// The mean time of a job for each call, in nanoseconds.
+fn measure(calls: &[(&str, Call)], jobs: &[Vec<u8>], rounds: usize, clock: u64) -> Vec<f64> {
+    let mut plan = vec![0; PLAN];
     let mut least = vec![vec![u64::MAX; jobs.len()]; calls.len()];
     for round in 0..rounds {
         for (j, job) in jobs.iter().enumerate() {
@@ -145,6 +152,130 @@ fn measure(calls: &[(&str, Call)], jobs: &[Vec<u8>], rounds: usize) -> Vec<f64> 
         .iter()
         .map(|times| times.iter().sum::<u64>() as f64 / jobs.len() as f64)
         .collect()
+}
+
+/// The stages of a job, in nanoseconds: the fastest of all rounds. With method 0 but for the orders.
+#[cfg(feature = "product")]
+#[derive(Clone, Copy)]
+struct Stages {
+    call: u64,
+    read: u64,
+    orders: [u64; 4],
+    /// The library's planning; of the C program, planning and writing.
+    plan: u64,
+}
+
+#[cfg(feature = "product")]
+const UNTIMED: Stages = Stages {
+    call: u64::MAX,
+    read: u64::MAX,
+    orders: [u64::MAX; 4],
+    plan: u64::MAX,
+};
+
+/// Notes the time of a stage, where it is less than before.
+#[cfg(feature = "product")]
+fn note<T>(least: &mut u64, clock: u64, stage: impl FnOnce() -> T) {
+    let start = Instant::now();
+    black_box(stage());
+    let spent = start.elapsed().as_nanos() as u64;
+    *least = (*least).min(spent.saturating_sub(clock));
+}
+
+#[cfg(feature = "product")]
+fn time_library(kind: &Kind, jobs: &[&[u8]; 4], clock: u64, least: &mut Stages) {
+    let (mut wants, mut order) = ([0u64; 256], [0u16; 256]);
+    let (mut drops, mut loads) = ([0u64; 256], [0u64; 256]);
+    let mut plan = [0u8; PLAN];
+    note(&mut least.call, clock, || {
+        product::call(black_box(jobs[0]), &mut plan)
+    });
+    let mut tests = 0;
+    note(&mut least.read, clock, || {
+        tests = product::read_job(black_box(jobs[0]), &mut wants).tests;
+    });
+    let wants = &wants[..tests];
+    for method in [1, 2, 3, 0] {
+        note(&mut least.orders[method], clock, || {
+            product::order_tests(kind.places, CURVES, method, black_box(wants), &mut order)
+        });
+    }
+    note(&mut least.plan, clock, || {
+        product::plan_order(
+            kind.places,
+            CURVES,
+            wants,
+            black_box(&order[..tests]),
+            &mut drops,
+            &mut loads,
+        )
+    });
+}
+
+#[cfg(feature = "product")]
+fn time_c_program(jobs: &[&[u8]; 4], clock: u64, least: &mut Stages) {
+    let mut plan = [0u8; PLAN];
+    let mut stages = fast::Stages::new();
+    note(&mut least.call, clock, || {
+        fast::call(black_box(jobs[0]), &mut plan)
+    });
+    for method in [1, 2, 3, 0] {
+        note(&mut least.read, clock, || {
+            stages.read(black_box(jobs[method]))
+        });
+        note(&mut least.orders[method], clock, || stages.order());
+    }
+    note(&mut least.plan, clock, || stages.steps());
+}
+
+/// The table of the stages: a row for each kind of list, with so many tests.
+#[cfg(feature = "product")]
+fn print_stages(tests: usize, rounds: usize, clock: u64) {
+    println!(
+        "\n| places | wants | reading | planning | writing | C: reading | planning and writing \
+         | ordering 0 | 1 | 2 | 3 | C: ordering 1 | 2 | 3 |\n|---|---|{}",
+        "---|".repeat(12)
+    );
+    for kind in kinds() {
+        let lists: Vec<Vec<Vec<u8>>> = (0..4).map(|method| kind.jobs(method, tests)).collect();
+        let count = lists[0].len();
+        let mut least = vec![[UNTIMED; 2]; count];
+        for _ in 0..rounds {
+            for (j, least) in least.iter_mut().enumerate() {
+                let jobs = [0, 1, 2, 3].map(|method| lists[method][j].as_slice());
+                time_library(&kind, &jobs, clock, &mut least[0]);
+                time_c_program(&jobs, clock, &mut least[1]);
+            }
+        }
+        let mean = |value: &dyn Fn(&[Stages; 2]) -> u64| {
+            let sum: u64 = least.iter().map(value).sum();
+            format!("{:.2}", sum as f64 / count as f64 / 1_000.0)
+        };
+        let cells = [
+            mean(&|s| s[0].read),
+            mean(&|s| s[0].plan),
+            // what is left of the call
+            mean(&|s| {
+                let known = s[0].read + s[0].orders[0] + s[0].plan;
+                s[0].call.saturating_sub(known)
+            }),
+            mean(&|s| s[1].read),
+            mean(&|s| s[1].plan),
+            mean(&|s| s[0].orders[0]),
+            mean(&|s| s[0].orders[1]),
+            mean(&|s| s[0].orders[2]),
+            mean(&|s| s[0].orders[3]),
+            mean(&|s| s[1].orders[1]),
+            mean(&|s| s[1].orders[2]),
+            mean(&|s| s[1].orders[3]),
+        ];
+        println!(
+            "| {} | {} | {} |",
+            kind.places,
+            kind.wants(),
+            cells.join(" | ")
+        );
+    }
 }
 
 /// The processor's name, where the system tells it.
@@ -196,6 +327,7 @@ fn main() {
     print!("\n|---|---|---|");
     println!("{}", "---|".repeat(calls.len() * TESTS.len()));
 
+    let clock = clock_time();
     let mut worst = vec![vec![Worst::default(); calls.len()]; 4];
     for (method, worst) in worst.iter_mut().enumerate() {
         for kind in kinds() {
@@ -205,7 +337,7 @@ fn main() {
                 for job in &jobs {
                     agree(&calls, job);
                 }
-                let times = measure(&calls, &jobs, rounds);
+                let times = measure(&calls, &jobs, rounds, clock);
                 cells[0].push(format!("{:.1}", times[0] / 1_000.0));
                 for c in 1..calls.len() {
                     let ratio = times[c] / times[0];
@@ -237,5 +369,10 @@ fn main() {
             print!(" {:.2} | {} |", worst.ratio, worst.place);
         }
         println!();
+    }
+
+    #[cfg(feature = "product")]
+    for tests in [256, 16] {
+        print_stages(tests, rounds, clock);
     }
 }
