@@ -93,10 +93,12 @@ unfolding trailingZeros
 drop-step zero s p h = omega arith
 drop-step (suc W) s p h = at (drop-step W (s / 2)) (s % 2) refl
   where
-    at : (0 < s / 2 → s / 2 < 2 ^ W → (s / 2) ∩ (s / 2 - 1) ≡ s / 2 - 2 ^ trailingZeros W (s / 2)) → (d : ℕ) → s % 2 ≡ d → s ∩ (s - 1) ≡ s - 2 ^ under d (trailingZeros W (s / 2))
+    at : (0 < s / 2 → s / 2 < 2 ^ W → (s / 2) ∩ (s / 2 - 1) ≡ s / 2 - 2 ^ trailingZeros W (s / 2)) → (d : ℕ) → s % 2 ≡ d
+        → s ∩ (s - 1) ≡ s - 2 ^ under d (trailingZeros W (s / 2))
     at ih zero e =
         let half : (s - 1) / 2 ≡ s / 2 - 1 = omega arith in
-        let twice : s ∩ (s - 1) ≡ s - 2 ^ suc (trailingZeros W (s / 2)) = omega (arith, and-step s (s - 1), ap (λ (x : ℕ). (s / 2) ∩ x) half, ih (omega arith) (omega arith)) in
+        let twice : s ∩ (s - 1) ≡ s - 2 ^ suc (trailingZeros W (s / 2)) =
+        omega (arith, and-step s (s - 1), ap (λ (x : ℕ). (s / 2) ∩ x) half, ih (omega arith) (omega arith)) in
         twice
     at ih (suc d) e =
         let half : (s - 1) / 2 ≡ s / 2 = omega arith in

@@ -144,7 +144,8 @@ module _ (bs old : List ℕ) (x : Counted) (given : countOutcome x ≡ mapped le
 
   -- it fits in 64 bits
   pub refusal-bounds : Bytes bs → (r : Refusal) → x ≡ Counted.Refused r → (number r ≤ 9) × (figure r ≤ 5120)
-  refusal-bounds all r e = let b = refuses CallRefusal (jobToPlan bs (length old)) (number r) (figure r) (call-refuses bs all (length old)) (refusal r e) in (below (b .0), b .1)
+  refusal-bounds all r e = let b =
+      refuses CallRefusal (jobToPlan bs (length old)) (number r) (figure r) (call-refuses bs all (length old)) (refusal r e) in (below (b .0), b .1)
     where
       below : {k : ℕ} → ((1 ≤ k) × (k ≤ 7)) ⊎ (k ≡ 9) → k ≤ 9
       below (inl b) = omega (arith, b .1)

@@ -26,7 +26,8 @@ bytesOf q = planBytes (orderOf q) (handed (setsOf q) .drops) (handed (setsOf q) 
 
 -- ---- the whole, of bytes that read
 module _ (bs : List ℕ) (q : Request) (all : Bytes bs) (read : readBytes bs ≡ done q) where
-  pub call-written : wantsFit (capacity (q .head .rig)) (q .wants) ≡ done tt → (lent : ℕ) → jobToPlan bs lent ≡ _>>_ (room lent (length (bytesOf q))) (done (bytesOf q))
+  pub call-written : wantsFit (capacity (q .head .rig)) (q .wants) ≡ done tt → (lent : ℕ)
+      → jobToPlan bs lent ≡ _>>_ (room lent (length (bytesOf q))) (done (bytesOf q))
   unfolding jobToPlan written writePlan _>>=_
   call-written f lent = rw (job-planned bs q all read f, checked q (read-exact bs q all read) f) refl
 

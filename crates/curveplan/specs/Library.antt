@@ -28,7 +28,8 @@ pub record WrittenPlan (bs plan : List ℕ) : Type 0 where
   pub in-order : testsOf steps ≡ orderBy (request .head .method) (capacity (request .head .rig)) (request .wants)
   pub count : ℕ
   pub passes : checking (jobIn request) (orderBy (request .head .method) (capacity (request .head .rig)) (request .wants)) (planIn steps) ≡ done count
-  pub least : (other : Plan) (m : ℕ) → checking (jobIn request) (orderBy (request .head .method) (capacity (request .head .rig)) (request .wants)) other ≡ done m
+  pub least : (other : Plan) (m : ℕ)
+      → checking (jobIn request) (orderBy (request .head .method) (capacity (request .head .rig)) (request .wants)) other ≡ done m
       → count ≤ curveCount (other .loads)
 
 pub record Library : Type 0 where

@@ -141,12 +141,14 @@ module _ (n : ℕ) where
       -- our plan passes the check
       pub furthest-passes : (i : ℕ) → checkFrom capacity (below n) i h (movesOf ws plan) ≡ Ends (heldAfter h plan)
       furthest-passes i =
-          rw (sets-of ws plan (length-plan (furthest n) capacity h ws)) at (check-exact capacity (below n) i h (movesOf ws plan) .1 (our-steps (below n) (furthest n) good capacity h ws start fit))
+          rw (sets-of ws plan (length-plan (furthest n) capacity h ws)) at
+          (check-exact capacity (below n) i h (movesOf ws plan) .1 (our-steps (below n) (furthest n) good capacity h ws start fit))
 
       -- its load count is the least
       pub furthest-least : Least capacity (below n) h ws (loadCount plan)
       furthest-least = count-least (below n) (furthest n) good capacity h ws start fit
 
     -- no moves that keep the rules have fewer loads than our plan for their wants
-    pub furthest-is-fewest : {ms : List Move} → AllKept capacity (below n) h ms → loadCount (planFrom (furthest n) capacity h (wantsOf ms)) ≤ loadCount (setsOf ms)
+    pub furthest-is-fewest : {ms : List Move} → AllKept capacity (below n) h ms
+        → loadCount (planFrom (furthest n) capacity h (wantsOf ms)) ≤ loadCount (setsOf ms)
     furthest-is-fewest k = fewest (below n) (furthest n) good capacity start k

@@ -31,13 +31,15 @@ pub data AllKept (capacity all : ℕ) : ℕ → List Move → Type 0 where
   none : {h : ℕ} → AllKept capacity all h []
   step : {h : ℕ} {m : Move} {ms : List Move} → Kept capacity all h m → AllKept capacity all (moved h (m .sets)) ms → AllKept capacity all h (m ∷ ms)
 
-pub first-kept : {capacity all h : ℕ} {m : Move} {ms : List Move} → AllKept capacity all h (m ∷ ms) → Kept capacity all h m × AllKept capacity all (moved h (m .sets)) ms
+pub first-kept : {capacity all h : ℕ} {m : Move} {ms : List Move} → AllKept capacity all h (m ∷ ms)
+    → Kept capacity all h m × AllKept capacity all (moved h (m .sets)) ms
 first-kept (step ok r) = (ok, r)
 
 -- step k breaks a rule, and the steps before it keep the rules
 pub data FirstFault (capacity all : ℕ) : ℕ → List Move → ℕ → Type 0 where
   here : {h : ℕ} {m : Move} {ms : List Move} → (Kept capacity all h m → ⊥) → FirstFault capacity all h (m ∷ ms) 0
-  later : {h : ℕ} {m : Move} {ms : List Move} {k : ℕ} → Kept capacity all h m → FirstFault capacity all (moved h (m .sets)) ms k → FirstFault capacity all h (m ∷ ms) (suc k)
+  later : {h : ℕ} {m : Move} {ms : List Move} {k : ℕ} → Kept capacity all h m → FirstFault capacity all (moved h (m .sets)) ms k
+      → FirstFault capacity all h (m ∷ ms) (suc k)
 
 -- what is held after a step is of s, where all that was held is, and all that is loaded
 pub moved-≼ : (h : ℕ) (x : Sets) (s : ℕ) → h ≼ s → x .loads ≼ s → moved h x ≼ s

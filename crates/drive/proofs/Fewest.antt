@@ -2,12 +2,12 @@
 --
 -- The idea. Let U k be all that the next k steps want together. Ours holds g after x loads, another plan holds b after y loads. For EVERY k
 --     x + |b ∩ U k| ≤ y + |g ∩ U k|
--- (`ahead`): what the other holds of the near future more than we do, it has paid for. At k = 0 that is x ≤ y, and at the start, where both hold the same, it is
--- plain. One step: the other plan goes from b to b', which has what is wanted, w; before our drops we hold g ∪ w, and counting bit by bit carries `ahead` at k + 1
--- over to the later steps' k (`loaded`). Now our victims leave. For each k, either none of them is in U k, and nothing changes; or one is, and then, as it was
--- chosen, all that stays is in U k: so of U k we hold w's part and as much more as the capacity allows, which is as much as the other can hold (`dropped`). All that
--- is used of the choice is that: for each k, if a victim is in U k then so are all that stay (`Picked`, `Chosen`).
--- No plans are exchanged, and none is asked to load late or to keep what it needs; any holding, also one above the capacity, may come first.
+-- (`ahead`): what the other holds of the near future more than we do, it has paid for. At k = 0 that is x ≤ y, and at the start, where both hold the same, it
+-- is plain. One step: the other plan goes from b to b', which has what is wanted, w; before our drops we hold g ∪ w, and counting bit by bit carries `ahead`
+-- at k + 1 over to the later steps' k (`loaded`). Now our victims leave. For each k, either none of them is in U k, and nothing changes; or one is, and then,
+-- as it was chosen, all that stays is in U k: so of U k we hold w's part and as much more as the capacity allows, which is as much as the other can hold
+-- (`dropped`). All that is used of the choice is that: for each k, if a victim is in U k then so are all that stay (`Picked`, `Chosen`). No plans are
+-- exchanged, and none is asked to load late or to keep what it needs; any holding, also one above the capacity, may come first.
 use mathlib.Core.Path.{_≡_, refl}
 use mathlib.Core.List.{List, [], _∷_}
 use mathlib.Core.Logic.{_⊎_, inl, inr, ⊎-elim}
@@ -114,7 +114,12 @@ module _ (e cs r v : ℕ) (ws : List ℕ) (picked : Picked cs ws v) (rest : Chos
   chosen-one =
       record {
         among = λ c. simp bitwise (omega (arith, single-≼ v cs (picked .member) c, simp bitwise at (rest .among c)));
-        count = omega (arith, rest .count, size-single v, sizes-eq (2 ^ v ∪ r ∷ []) (2 ^ v ∷ r ∷ []) (λ c. simp bitwise (omega (arith, simp bitwise at (rest .among c)))));
+        count = omega (
+          arith,
+          rest .count,
+          size-single v,
+          sizes-eq (2 ^ v ∪ r ∷ []) (2 ^ v ∷ r ∷ []) (λ c. simp bitwise (omega (arith, simp bitwise at (rest .among c)))),
+        );
         last = λ k. go k (bit v (soon k ws)) refl (rest .last k);
       }
     where
@@ -139,13 +144,15 @@ module _ (all : ℕ) (pick : ℕ → List ℕ → Found ℕ) (good : Good all pi
       let v = g .0 in
       rw (g .1)
       (chosen-one e cs (victims pick e (cs ∖ 2 ^ v) ws) v ws (g .2)
-      (chosen e (cs ∖ 2 ^ v) ws (omega (arith, size-single v, sizes-le (cs ∷ []) (cs ∖ 2 ^ v ∷ 2 ^ v ∷ []) (λ c. simp bitwise (omega arith)))) (without-≼ cs (2 ^ v) all s)))
+      (chosen e (cs ∖ 2 ^ v) ws (omega (arith, size-single v, sizes-le (cs ∷ []) (cs ∖ 2 ^ v ∷ 2 ^ v ∷ []) (λ c. simp bitwise (omega arith))))
+      (without-≼ cs (2 ^ v) all s)))
 
   module _ (capacity : ℕ) where
     pub our-drops : (g w : ℕ) (ws : List ℕ) → size w ≤ capacity → g ≼ all → Chosen (size (g ∪ w) - capacity) (g ∖ w) ws (dropsFor pick capacity g w ws)
     unfolding dropsFor
     our-drops g w ws h s =
-        chosen (size (g ∪ w) - capacity) (g ∖ w) ws (omega (arith, sizes-le (g ∪ w ∷ []) (w ∷ g ∖ w ∷ []) (λ c. simp bitwise (omega arith)))) (without-≼ g w all s)
+        chosen (size (g ∪ w) - capacity) (g ∖ w) ws (omega (arith, sizes-le (g ∪ w ∷ []) (w ∷ g ∖ w ∷ []) (λ c. simp bitwise (omega arith))))
+        (without-≼ g w all s)
 
     -- ours are x so far and g is held, theirs y and b
     fewest-from : {ws ks : List ℕ} (g b x y : ℕ) → g ≼ all → ((k : ℕ) → x + size (b ∩ soon k ws) ≤ y + size (g ∩ soon k ws)) → Holds capacity all ws ks

@@ -65,64 +65,67 @@ grouped-start cs used groups when ws e =
     }
 
 -- the candidates `hit`, whose next use is step k, are the next group, where there are any
-module _ {cs unused m : ℕ} {groups when ws : List ℕ} (g : Grouped cs unused m groups when ws) (hit k n : ℕ) (room : m < 64) (sets : 64 ≤ length groups) (steps : 64 ≤ length when)
-    (next : (c : ℕ) → bit c hit ≡ 1 → nextUse c ws ≡ At k) (soon : (j : ℕ) → j < m → getD when j 0 < k) (none : hit ≡ 0 → n ≡ m) (more : 0 < hit → n ≡ m + 1) where
-  slot : (j : ℕ) → j < n → (j < m) ⊎ ((j ≡ m) × (0 < hit))
-  slot j h = go hit refl (decLe m j)
-    where
-      go : (s : ℕ) → hit ≡ s → Dec (m ≤ j) → (j < m) ⊎ ((j ≡ m) × (0 < hit))
-      go s e (no l) = inl (omega arith)
-      go zero e (yes l) = absurd (omega (arith, none e))
-      go (suc s) e (yes l) = let p : 0 < hit = omega arith in inr (omega (arith, more p), p)
+module _ {cs unused m : ℕ} {groups when ws : List ℕ} (g : Grouped cs unused m groups when ws) (hit k n : ℕ) (room : m < 64) (sets : 64 ≤ length groups)
+    (steps : 64 ≤ length when)
+    (next : (c : ℕ) → bit c hit ≡ 1 → nextUse c ws ≡ At k) (soon : (j : ℕ) → j < m → getD when j 0 < k) (none : hit ≡ 0 → n ≡ m) (more : 0 < hit → n ≡ m + 1)
+  where
+    slot : (j : ℕ) → j < n → (j < m) ⊎ ((j ≡ m) × (0 < hit))
+    slot j h = go hit refl (decLe m j)
+      where
+        go : (s : ℕ) → hit ≡ s → Dec (m ≤ j) → (j < m) ⊎ ((j ≡ m) × (0 < hit))
+        go s e (no l) = inl (omega arith)
+        go zero e (yes l) = absurd (omega (arith, none e))
+        go (suc s) e (yes l) = let p : 0 < hit = omega arith in inr (omega (arith, more p), p)
 
-  new-set : getD (set groups m hit) m 0 ≡ hit
-  new-set = getD-set-same groups m hit 0 (omega arith)
+    new-set : getD (set groups m hit) m 0 ≡ hit
+    new-set = getD-set-same groups m hit 0 (omega arith)
 
-  new-step : getD (set when m k) m 0 ≡ k
-  new-step = getD-set-same when m k 0 (omega arith)
+    new-step : getD (set when m k) m 0 ≡ k
+    new-step = getD-set-same when m k 0 (omega arith)
 
-  reach : m ≤ n
-  reach = go hit refl
-    where
-      go : (s : ℕ) → hit ≡ s → m ≤ n
-      go zero e = omega (arith, none e)
-      go (suc s) e = omega (arith, more (omega arith))
+    reach : m ≤ n
+    reach = go hit refl
+      where
+        go : (s : ℕ) → hit ≡ s → m ≤ n
+        go zero e = omega (arith, none e)
+        go (suc s) e = omega (arith, more (omega arith))
 
-  pub soon-next : (j : ℕ) → j < n → getD (set when m k) j 0 < k + 1
-  soon-next j h = ⊎-elim (λ l. rw (other when j m k l) (omega (arith, soon j l))) (λ l. rw (l .0, new-step) (omega arith)) (slot j h)
+    pub soon-next : (j : ℕ) → j < n → getD (set when m k) j 0 < k + 1
+    soon-next j h = ⊎-elim (λ l. rw (other when j m k l) (omega (arith, soon j l))) (λ l. rw (l .0, new-step) (omega arith)) (slot j h)
 
-  pub grouped-next : Grouped (cs ∪ hit) unused n (set groups m hit) (set when m k) ws
-  grouped-next =
-      record {
-        few = go hit refl;
-        never = λ c i. let o = g .never c i in (omega (arith, bit-∪ c cs hit, o .0), o .1);
-        used = λ j c h i. member j c i (slot j h);
-        all = λ c i u. found c i u (bit c hit) refl;
-        rising = λ i j l h. order i j l (slot j h);
-        some = λ j h. ⊎-elim (λ l. rw (other groups j m hit l) (g .some j l)) (λ l. rw (l .0, new-set) (l .1)) (slot j h);
-      }
-    where
-      go : (s : ℕ) → hit ≡ s → n ≤ 64
-      go zero e = omega (arith, none e)
-      go (suc s) e = omega (arith, more (omega arith))
+    pub grouped-next : Grouped (cs ∪ hit) unused n (set groups m hit) (set when m k) ws
+    grouped-next =
+        record {
+          few = go hit refl;
+          never = λ c i. let o = g .never c i in (omega (arith, bit-∪ c cs hit, o .0), o .1);
+          used = λ j c h i. member j c i (slot j h);
+          all = λ c i u. found c i u (bit c hit) refl;
+          rising = λ i j l h. order i j l (slot j h);
+          some = λ j h. ⊎-elim (λ l. rw (other groups j m hit l) (g .some j l)) (λ l. rw (l .0, new-set) (l .1)) (slot j h);
+        }
+      where
+        go : (s : ℕ) → hit ≡ s → n ≤ 64
+        go zero e = omega (arith, none e)
+        go (suc s) e = omega (arith, more (omega arith))
 
-      member : (j c : ℕ) → bit c (getD (set groups m hit) j 0) ≡ 1 → (j < m) ⊎ ((j ≡ m) × (0 < hit)) → (bit c (cs ∪ hit) ≡ 1) × (nextUse c ws ≡ At (getD (set when m k) j 0))
-      member j c i (inl l) =
-          let o = g .used j c l (rw (other groups j m hit l) at i) in
-          (omega (arith, bit-∪ c cs hit, o .0), o .1 ∙ ap At (sym (other when j m k l)))
-      member j c i (inr l) =
-          let h : bit c hit ≡ 1 = rw (l .0, new-set) at i in
-          (omega (arith, bit-∪ c cs hit), next c h ∙ ap At (sym (rw (l .0) new-step)))
+        member : (j c : ℕ) → bit c (getD (set groups m hit) j 0) ≡ 1 → (j < m) ⊎ ((j ≡ m) × (0 < hit))
+            → (bit c (cs ∪ hit) ≡ 1) × (nextUse c ws ≡ At (getD (set when m k) j 0))
+        member j c i (inl l) =
+            let o = g .used j c l (rw (other groups j m hit l) at i) in
+            (omega (arith, bit-∪ c cs hit, o .0), o .1 ∙ ap At (sym (other when j m k l)))
+        member j c i (inr l) =
+            let h : bit c hit ≡ 1 = rw (l .0, new-set) at i in
+            (omega (arith, bit-∪ c cs hit), next c h ∙ ap At (sym (rw (l .0) new-step)))
 
-      found : (c : ℕ) → bit c (cs ∪ hit) ≡ 1 → bit c unused ≡ 0 → (b : ℕ) → bit c hit ≡ b → (j : ℕ) × (j < n) × (bit c (getD (set groups m hit) j 0) ≡ 1)
-      found c i u zero e =
-          let o = g .all c (omega (arith, bit-∪ c cs hit)) u in
-          (o .0, omega (arith, o .1, reach), rw (other groups (o .0) m hit (o .1)) (o .2))
-      found c i u (suc b) e = (m, omega (arith, more (element c hit (omega arith))), rw new-set (omega arith))
+        found : (c : ℕ) → bit c (cs ∪ hit) ≡ 1 → bit c unused ≡ 0 → (b : ℕ) → bit c hit ≡ b → (j : ℕ) × (j < n) × (bit c (getD (set groups m hit) j 0) ≡ 1)
+        found c i u zero e =
+            let o = g .all c (omega (arith, bit-∪ c cs hit)) u in
+            (o .0, omega (arith, o .1, reach), rw (other groups (o .0) m hit (o .1)) (o .2))
+        found c i u (suc b) e = (m, omega (arith, more (element c hit (omega arith))), rw new-set (omega arith))
 
-      order : (i j : ℕ) → i < j → (j < m) ⊎ ((j ≡ m) × (0 < hit)) → getD (set when m k) i 0 < getD (set when m k) j 0
-      order i j l (inl h) = rw (other when i m k (omega arith), other when j m k h) (g .rising i j l h)
-      order i j l (inr h) = let b : i < m = omega (arith, h .0) in rw (other when i m k b, h .0, new-step) (soon i b)
+        order : (i j : ℕ) → i < j → (j < m) ⊎ ((j ≡ m) × (0 < hit)) → getD (set when m k) i 0 < getD (set when m k) j 0
+        order i j l (inl h) = rw (other when i m k (omega arith), other when j m k h) (g .rising i j l h)
+        order i j l (inr h) = let b : i < m = omega (arith, h .0) in rw (other when i m k b, h .0, new-step) (soon i b)
 
 -- ---- groups of which some candidates are chosen: none is left of those from `count` on, and some of each other
 pub record Open (found count chosen : ℕ) (groups : List ℕ) : Type 0 where
@@ -184,7 +187,8 @@ module _ {cs unused found : ℕ} {groups when ws : List ℕ} (g : Grouped cs unu
 
     -- what goes first of those never used, or else of the last group, goes first of all that are left
     pub goes-first : 0 < size (cs ∖ chosen) → (r : Candidate) → (0 < unused ∖ chosen → UsedAt Never (unused ∖ chosen) ws → GoesFirst ws (unused ∖ chosen) r)
-        → (unused ∖ chosen ≡ 0 → 0 < group (count - 1) ∖ chosen → UsedAt (At (getD when (count - 1) 0)) (group (count - 1) ∖ chosen) ws → GoesFirst ws (group (count - 1) ∖ chosen) r)
+        → (unused ∖ chosen ≡ 0 → 0 < group (count - 1) ∖ chosen → UsedAt (At (getD when (count - 1) 0)) (group (count - 1) ∖ chosen) ws
+        → GoesFirst ws (group (count - 1) ∖ chosen) r)
         → GoesFirst ws (cs ∖ chosen) r
     goes-first h r never last = go (unused ∖ chosen) refl (decLe count 0)
       where
@@ -192,7 +196,8 @@ module _ {cs unused found : ℕ} {groups when ws : List ℕ} (g : Grouped cs unu
         go zero e (yes l) = absurd (omega (arith, some-never (omega arith) h))
         go zero e (no l) =
             let w = o .within in
-            last-goes (count - 1) (omega arith) e r (last e (o .left (count - 1) (omega arith)) (λ c i. g .used (count - 1) c (omega arith) (omega (arith, bit-∖ c (group (count - 1)) chosen)) .1))
+            last-goes (count - 1) (omega arith) e r (last e (o .left (count - 1) (omega arith))
+            (λ c i. g .used (count - 1) c (omega arith) (omega (arith, bit-∖ c (group (count - 1)) chosen)) .1))
         go (suc n) e d = never-goes r (never (omega arith) (λ c i. g .never c (omega (arith, bit-∖ c unused chosen)) .1))
 
     -- v, which goes first, was chosen too, and what is left of the last group counts: r groups are left then
@@ -209,7 +214,8 @@ module _ {cs unused found : ℕ} {groups when ws : List ℕ} (g : Grouped cs unu
               let b = bit-∖ (x .0) (group l) chosen in
               let w = o .within in
               let u = g .used l (x .0) (omega arith) (omega (arith, x .1)) in
-              sooner-stays v (x .0) ws _ _ (g .used j v (omega arith) i .1) (u .1) (g .rising j l (omega arith) (omega arith)) (first (x .0) (omega (arith, u .0, x .1, bit-∖ (x .0) cs chosen)))
+              sooner-stays v (x .0) ws _ _ (g .used j v (omega arith) i .1) (u .1) (g .rising j l (omega arith) (omega arith))
+              (first (x .0) (omega (arith, u .0, x .1, bit-∖ (x .0) cs chosen)))
 
       whole : (j : ℕ) → j + 1 < count → group j ∖ (chosen ∪ 2 ^ v) ≡ group j ∖ chosen
       whole j h = same-by-bits _ _ (λ c. go c (ℕ-discrete c v))
@@ -246,7 +252,12 @@ module _ {cs unused found : ℕ} {groups when ws : List ℕ} (g : Grouped cs unu
                   omega (arith, bit-∪ c chosen (2 ^ v), bit-∖ c (group j ∖ chosen) (2 ^ v), bit-∖ c (group j) chosen, bit-empty c, ap (bit c) (rw (← q) at e))
           go (suc n) e =
               let f = more (omega arith) in
-              record { within = omega (arith, o .within); gone = λ j c l h i. passed j c (omega arith) h i; left = λ j h. last j (omega arith) (ℕ-discrete count (j + 1)) }
+              record {
+                within = omega (arith, o .within);
+                gone = λ j c l h i. passed j c (omega arith) h i;
+                left = λ j h. last j (omega arith)
+                    (ℕ-discrete count (j + 1));
+              }
             where
               last : (j : ℕ) → j < count → Dec (count ≡ j + 1) → 0 < group j ∖ (chosen ∪ 2 ^ v)
               last j h (yes q) =
@@ -279,14 +290,16 @@ module _ {cs unused found : ℕ} {groups when ws : List ℕ} (g : Grouped cs unu
     -- all of group j stays
     pub next-first : j < found → First cs left ws → First cs (left ∖ group j) ws
     next-first h f =
-        let e : left ∖ (left ∩ group j) ≡ left ∖ group j = same-by-bits _ _ (λ c. omega (arith, bit-∖ c left (left ∩ group j), bit-∖ c left (group j), bit-∩ c left (group j))) in
+        let e : left ∖ (left ∩ group j) ≡ left ∖ group j =
+        same-by-bits _ _ (λ c. omega (arith, bit-∖ c left (left ∩ group j), bit-∖ c left (group j), bit-∩ c left (group j))) in
         rw e at (less-first cs left (left ∩ group j) ws (group-stays (left ∩ group j) h (λ c. omega arith) (λ c d m n i. absurd (omega arith))) f)
 
     -- no group is left
     pub never-stays : (stay : ℕ) → found ≤ j → stay ≼ left → ((c d : ℕ) → bit c left ≡ 1 → bit c stay ≡ 0 → bit d stay ≡ 1 → c < d)
         → (c d : ℕ) → bit c left ≡ 1 → bit c stay ≡ 0 → bit d stay ≡ 1 → GoesBefore ws c d
     never-stays stay h own tie c d m n i =
-        let t = tie c d m n i in same-before c d ws Never (unneeded c m (bit c unused) refl) (unneeded d (omega (arith, own d)) (bit d unused) refl) (omega arith)
+        let t = tie c d m n i in same-before c d ws Never (unneeded c m (bit c unused) refl) (unneeded d (omega (arith, own d)) (bit d unused) refl)
+        (omega arith)
       where
         unneeded : (x : ℕ) → bit x left ≡ 1 → (b : ℕ) → bit x unused ≡ b → nextUse x ws ≡ Never
         unneeded x k zero e = let a = g .all x (omega (arith, part x)) e in absurd (omega (arith, passed (a .0) x (omega (arith, a .1)) (a .2)))

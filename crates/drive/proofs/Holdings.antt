@@ -50,7 +50,8 @@ module _ {capacity all : ℕ} where
       (rw (moved-then h k) (plan-of k r))
 
   -- AND STEPS THAT KEEP THE RULES have their holdings, which need no more loads
-  pub held-by : {h : ℕ} {ms : List Move} → h ≼ all → AllKept capacity all h ms → (ks : List ℕ) × Holds capacity all (wantsOf ms) ks × (loadsFor h ks ≤ loadCount (setsOf ms))
+  pub held-by : {h : ℕ} {ms : List Move} → h ≼ all → AllKept capacity all h ms
+      → (ks : List ℕ) × Holds capacity all (wantsOf ms) ks × (loadsFor h ks ≤ loadCount (setsOf ms))
   unfolding between curveCount
   held-by s AllKept.none = ([], none, zero-le)
   held-by s (AllKept.step {h = h} {m = m} ok rest) =

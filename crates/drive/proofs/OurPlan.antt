@@ -1,5 +1,5 @@
--- What our plan drops: the victim is a candidate of furthest next use, the lowest of several, and exactly the excess goes; all that is not wanted, where the test
--- alone exceeds the capacity.
+-- What our plan drops: the victim is a candidate of furthest next use, the lowest of several, and exactly the excess goes; all that is not wanted, where the
+-- test alone exceeds the capacity.
 use mathlib.Core.Path.{_≡_, refl, sym, ap, _∙_}
 use mathlib.Core.Logic.{_↔_}
 use mathlib.Core.Bool.{Bool, true, false, false≢true}
@@ -58,8 +58,10 @@ module _ (n cs : ℕ) (ws : List ℕ) (own : cs ≼ below n) where
           same : Dec (u ≤ v) → Dec (v ≤ u) → u ≡ v
           same (yes p) (yes q) = omega arith
           same (yes p) (no q) =
-              absurd (false≢true (sym (b .best v (below-n n cs own v (t .candidate)) (eq-eqb (bit v cs) 1 (t .candidate))) ∙ t .lowest-tie u (omega arith) (eqb-true (bit u cs) 1 (b .fair))))
-          same (no p) q = absurd (false≢true (sym (t .furthest-use u (eqb-true (bit u cs) 1 (b .fair))) ∙ b .first v (omega arith) (eq-eqb (bit v cs) 1 (t .candidate))))
+              absurd (false≢true (sym (b .best v (below-n n cs own v (t .candidate)) (eq-eqb (bit v cs) 1 (t .candidate)))
+              ∙ t .lowest-tie u (omega arith) (eqb-true (bit u cs) 1 (b .fair))))
+          same (no p) q =
+              absurd (false≢true (sym (t .furthest-use u (eqb-true (bit u cs) 1 (b .fair))) ∙ b .first v (omega arith) (eq-eqb (bit v cs) 1 (t .candidate))))
 
 -- EXACTLY THE EXCESS IS DROPPED, of held curves that the test does not want, where the test is not too large
 pub record Excess (capacity h w d : ℕ) : Type 0 where

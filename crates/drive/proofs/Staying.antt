@@ -46,7 +46,8 @@ module _ (c d : ℕ) (ws : List ℕ) where
   sooner-stays m n e f l b = false≢true (sym (rw (e, f) at (b .0)) ∙ lt-ltb m n l)
 
 -- of several with the same next use the lowest goes first
-pub first-of-same : (ws : List ℕ) (u : NextUse) (s v : ℕ) → bit v s ≡ 1 → ((c : ℕ) → bit c s ≡ 1 → v ≤ c) → UsedAt u s ws → GoesFirst ws s (record { curve = v; next = u })
+pub first-of-same : (ws : List ℕ) (u : NextUse) (s v : ℕ) → bit v s ≡ 1 → ((c : ℕ) → bit c s ≡ 1 → v ≤ c) → UsedAt u s ws
+    → GoesFirst ws s (record { curve = v; next = u })
 first-of-same ws u s v i low used = (i, (sym (used v i), λ d m. same-before v d ws u (used v i) (used d m) (low d m)))
 
 -- two curves that go before each other are one
@@ -89,12 +90,14 @@ victims-first n zero cs r ws s own part f = sym (size-none r s)
 victims-first n (suc e) cs r ws s own part f =
     let x = some r (positive r (omega arith)) in
     let g = good n cs ws (omega (arith, size-remove (x .0) cs (omega (arith, part (x .0), x .1)))) own in
-    go (g .0) (g .1) (λ v i. victims-first n e (cs ∖ 2 ^ v) (r ∖ 2 ^ v) ws (omega (arith, size-remove v r i)) (without-≼ cs (2 ^ v) (below n) own) (less v) (first-rest cs r v ws i f))
+    go (g .0) (g .1) (λ v i. victims-first n e (cs ∖ 2 ^ v) (r ∖ 2 ^ v) ws (omega (arith, size-remove v r i)) (without-≼ cs (2 ^ v) (below n) own) (less v)
+    (first-rest cs r v ws i f))
   where
     less : (v : ℕ) → r ∖ 2 ^ v ≼ cs ∖ 2 ^ v
     less v k = omega (arith, bit-∖ k cs (2 ^ v), bit-∖ k r (2 ^ v), part k)
 
-    go : (v : ℕ) → furthest n cs ws ≡ found v → ((v : ℕ) → bit v r ≡ 1 → victims (furthest n) e (cs ∖ 2 ^ v) ws ≡ r ∖ 2 ^ v) → victims (furthest n) (suc e) cs ws ≡ r
+    go : (v : ℕ) → furthest n cs ws ≡ found v → ((v : ℕ) → bit v r ≡ 1 → victims (furthest n) e (cs ∖ 2 ^ v) ws ≡ r ∖ 2 ^ v)
+        → victims (furthest n) (suc e) cs ws ≡ r
     go v p rest = let i = victim-first cs r v ws part f (omega arith) (victim-exact n cs ws own v .0 p) in one-first n e cs r v ws p i (rest v i)
 
 -- ---- parts that go first
@@ -114,7 +117,8 @@ more-first cs r v ws next f = λ c d m o n. go c d m o (omega (arith, bit-∪ d 
     go c d m o n (no h) = f c d (omega (arith, bit-∪ c r (2 ^ v), bit-other c v h)) o n
 
 -- without some that go after the others
-pub less-first : (cs r stay : ℕ) (ws : List ℕ) → ((c d : ℕ) → bit c r ≡ 1 → bit c stay ≡ 0 → bit d stay ≡ 1 → GoesBefore ws c d) → First cs r ws → First cs (r ∖ stay) ws
+pub less-first : (cs r stay : ℕ) (ws : List ℕ) → ((c d : ℕ) → bit c r ≡ 1 → bit c stay ≡ 0 → bit d stay ≡ 1 → GoesBefore ws c d) → First cs r ws
+    → First cs (r ∖ stay) ws
 less-first cs r stay ws after f = λ c d m o n. go c d m o n (bit d stay) refl
   where
     go : (c d : ℕ) → bit c (r ∖ stay) ≡ 1 → bit d cs ≡ 1 → bit d (r ∖ stay) ≡ 0 → (b : ℕ) → bit d stay ≡ b → GoesBefore ws c d

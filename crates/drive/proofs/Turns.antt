@@ -36,7 +36,8 @@ module _ (pick : ℕ → List ℕ → Found ℕ) (capacity start : ℕ) (ws drop
 
   module _ {drops loads : List ℕ} {h i : ℕ} (g : Goes drops loads h i) where
     -- the step s was carried out
-    pub goes-on : i < length ws → {s : Sets} → s ≡ next pick capacity h (getD ws i 0) (drop (i + 1) ws) → Goes (set drops i (s .drops)) (set loads i (s .loads)) (moved h s) (i + 1)
+    pub goes-on : i < length ws → {s : Sets} → s ≡ next pick capacity h (getD ws i 0) (drop (i + 1) ws)
+        → Goes (set drops i (s .drops)) (set loads i (s .loads)) (moved h s) (i + 1)
     unfolding planFrom heldAfter
     goes-on below {s} e =
         let rest = planFrom pick capacity (moved h s) (drop (i + 1) ws) in
@@ -62,7 +63,8 @@ module _ (pick : ℕ → List ℕ → Found ℕ) (capacity start : ℕ) (ws drop
         )
 
 -- what is overwritten does not matter: two lists that differ only from entry i on, in as many entries as are written
-pub sets-over : (xs l m : List ℕ) (i : ℕ) → length l ≡ length m → ((j : ℕ) → j < i → getD l j 0 ≡ getD m j 0) → ((j : ℕ) → i + length xs ≤ j → getD l j 0 ≡ getD m j 0)
+pub sets-over : (xs l m : List ℕ) (i : ℕ) → length l ≡ length m → ((j : ℕ) → j < i → getD l j 0 ≡ getD m j 0)
+    → ((j : ℕ) → i + length xs ≤ j → getD l j 0 ≡ getD m j 0)
     → sets l i xs ≡ sets m i xs
 sets-over [] l m i e before behind = ext-getD 0 l m e (λ j h. go j (decLe i j))
   where
@@ -77,7 +79,8 @@ sets-over (x ∷ xs) l m i e before behind =
     other j q same = getD-set-other l i j x 0 q ∙ same ∙ sym (getD-set-other m i j x 0 q)
 
     written : Dec (length l ≤ i) → getD (set l i x) i 0 ≡ getD (set m i x) i 0
-    written (yes p) = List·getD-eq-default (set l i x) 0 (omega (arith, length-set l i x)) ∙ sym (List·getD-eq-default (set m i x) 0 (omega (arith, length-set m i x)))
+    written (yes p) =
+        List·getD-eq-default (set l i x) 0 (omega (arith, length-set l i x)) ∙ sym (List·getD-eq-default (set m i x) 0 (omega (arith, length-set m i x)))
     written (no p) = getD-set-same l i x 0 (omega arith) ∙ sym (getD-set-same m i x 0 (omega arith))
 
     go : (j : ℕ) → j < suc i → Dec (j ≡ i) → getD (set l i x) j 0 ≡ getD (set m i x) j 0
@@ -122,7 +125,8 @@ pub use-wanted : (c s : ℕ) (ws : List ℕ) → s < length ws → bit c (getD w
 unfolding stepOf nextUse useBy
 use-wanted c s ws h b = rw (drop-cons ws s 0 h, b) (ap At (omega arith))
 
-pub use-later : (c s : ℕ) (ws : List ℕ) → s < length ws → bit c (getD ws s 0) ≡ 0 → stepOf s (nextUse c (drop s ws)) ≡ stepOf (s + 1) (nextUse c (drop (s + 1) ws))
+pub use-later : (c s : ℕ) (ws : List ℕ) → s < length ws → bit c (getD ws s 0) ≡ 0
+    → stepOf s (nextUse c (drop s ws)) ≡ stepOf (s + 1) (nextUse c (drop (s + 1) ws))
 unfolding nextUse useBy
 use-later c s ws h b = rw (add-one s, drop-cons ws s 0 h, b) (go (nextUse c (drop (suc s) ws)))
   where

@@ -15,8 +15,8 @@ orBreaks false i later = Breaks i
 
 -- with a capacity, and the curves all that there are
 module _ (capacity all : ℕ) where
-  -- "every drop is held, no load is held after the drops, every load is a curve of the job, and after the loads the drive holds the test's wants and at most its
-  -- places": with h held before
+  -- "every drop is held, no load is held after the drops, every load is a curve of the job, and after the loads the drive holds the test's wants and at most
+  -- its places": with h held before
   unfoldable pub keeps : ℕ → Move → Bool
   keeps h m =
       inside (m .sets .drops) h && eqb (m .sets .loads ∩ (h ∖ m .sets .drops)) 0 && inside (m .sets .loads) all && inside (m .want) (moved h (m .sets))

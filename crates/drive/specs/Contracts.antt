@@ -15,8 +15,8 @@ unfoldable pub together : List ℕ → ℕ
 together [] = 0
 together (w ∷ ws) = w ∪ together ws
 
--- "Every candidate curve goes with its next use, which is a later step or never": of the candidates cs, where the later steps want ws, those in `unused` are never
--- used, and the others are in `count` groups, the soonest first: the next use of those in group j is step `when j`
+-- "Every candidate curve goes with its next use, which is a later step or never": of the candidates cs, where the later steps want ws, those in `unused` are
+-- never used, and the others are in `count` groups, the soonest first: the next use of those in group j is step `when j`
 pub record Grouped (cs unused count : ℕ) (groups when ws : List ℕ) : Type 0 where
   pub few : count ≤ 64
   pub never : (c : ℕ) → bit c unused ≡ 1 → (bit c cs ≡ 1) × (nextUse c ws ≡ Never)
@@ -25,8 +25,8 @@ pub record Grouped (cs unused count : ℕ) (groups when ws : List ℕ) : Type 0 
   pub rising : (i j : ℕ) → i < j → j < count → getD when i 0 < getD when j 0
   pub some : (j : ℕ) → j < count → 0 < getD groups j 0
 
--- "each time the curve whose next use in a later step is furthest", "Ties go to the lowest curve number": c goes before d. The next use of d is not further; and
--- where d has the lower number, that of c is. (Of two different curves just one goes before the other; each goes before itself.)
+-- "each time the curve whose next use in a later step is furthest", "Ties go to the lowest curve number": c goes before d. The next use of d is not further;
+-- and where d has the lower number, that of c is. (Of two different curves just one goes before the other; each goes before itself.)
 abbrev pub GoesBefore : List ℕ → ℕ → ℕ → Type 0
 GoesBefore ws c d = (further (nextUse d ws) (nextUse c ws) ≡ false) × (d < c → further (nextUse c ws) (nextUse d ws) ≡ true)
 

@@ -1,4 +1,5 @@
--- "its next use, which is a later step or never", of the wants ws of the later steps. `At 0` is the step after the present one. `NextUse` is declared in the code.
+-- "its next use, which is a later step or never", of the wants ws of the later steps. `At 0` is the step after the present one. `NextUse` is declared in the
+-- code.
 use mathlib.Core.Bool.{Bool, true, false}
 use mathlib.Core.List.{List, [], _∷_}
 use Prim.Native.Nat.{ℕ, zero, suc}

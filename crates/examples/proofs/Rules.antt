@@ -4,7 +4,8 @@ use lib.Count.{ones}
 use Rattle.bitset.specs.Set.{inside}
 use Rattle.job.specs.Refusal.{readOutcome, countOutcome, _>>=_, _>>_, mapped, demand, room, overwritten, leaves}
 use Rattle.lists.specs.Choice.{keep, choose, bestOf}
-use Rattle.job.specs.Handed.{between, listed, each, someTests, placesKnown, curvesKnown, testsKnown, methodKnown, wantsKnown, wantsFit, numbersKnown, jobKnownBy, countsKnown}
+use Rattle.job.specs.Handed.{between, listed, each, someTests, placesKnown, curvesKnown, testsKnown, methodKnown, wantsKnown, wantsFit, numbersKnown}
+use Rattle.job.specs.Handed.{jobKnownBy, countsKnown}
 use Rattle.job.specs.Order.{orderFrom}
 use Rattle.job.specs.Calls.{orderingKnown, checkingKnown, planningKnown}
 use Rattle.job_bytes.specs.SetBytes.{groupOf, stands, groupBytes, groupMap, setBytes, byteAt, readGroup, readGroups}
@@ -12,7 +13,8 @@ use Rattle.job_bytes.specs.JobBytes.{fields, readNumber, readField, readFields,
 use Rattle.job_bytes.specs.JobBytes.{readJobWants, numberBytes, headBytes, recordBytes, jobBytes, writeJob, writeJobAnswer, writeJobBuffer}
 use Rattle.packages.specs.Tests.{upTo}
 use Rattle.packages.specs.Packages.{flat, bestPair, without, joined, onPair, curvesOf, joinAll, try, pickTry, _orMore_, longer, runFrom, flipped, packages}
-use Rattle.ordering.specs.Methods.{weight, weights, degree, appended, grown, bestUnlisted, orElse, neighbour, nextOf, cuthillMcKee, reverseCuthillMcKee, reach, spanningTree, orderBy}
+use Rattle.ordering.specs.Methods.{weight, weights, degree, appended, grown, bestUnlisted, orElse, neighbour, nextOf, cuthillMcKee, reverseCuthillMcKee}
+use Rattle.ordering.specs.Methods.{reach, spanningTree, orderBy}
 use Rattle.ordering.specs.Ordering.{ordering, orderAnswer, orderList}
 use Rattle.drive.specs.Steps.{moves, curveCount}
 use Rattle.drive.specs.Check.{orBreaks, keeps, checkFrom}
@@ -22,7 +24,8 @@ use Rattle.planning.specs.Plan.{steps, inOrder}
 use Rattle.planning.specs.Planning.{ourPlan, planning, planAnswer, planLists, setsKnown, checkedOutcome, checking}
 use Rattle.plan_bytes.specs.PlanBytes.{setField, stepBytes, stepsBytes, writePlan, writePlanAnswer, writePlanBuffer, readSet, readStep, readSteps}
 use Rattle.plan_bytes.specs.PlanBytes.{readPlanBytes, planSteps, readPlan, readPlanAnswer, readPlanOrder, readPlanLists, placedAt, fetched, partOf, stepPart}
-use Rattle.report.specs.Report.{text, highDigits, decimal, curveText, curvesText, setText, stepText, stepsText, headText, planText, printed, sheet, writeSheet, sheetAnswer, sheetBuffer}
+use Rattle.report.specs.Report.{text, highDigits, decimal, curveText, curvesText, setText, stepText, stepsText, headText, planText, printed, sheet}
+use Rattle.report.specs.Report.{writeSheet, sheetAnswer, sheetBuffer}
 use Rattle.planned.specs.Planned.{orderRequest, planInOrder, orderAndPlan, planJob}
 use Rattle.curveplan.specs.Call.{written, jobToPlan, numberOf, callAnswer, callPlan}
 

@@ -50,7 +50,8 @@ pub record Others : Type 0 where
   pub a-step-surplus : stepAt 4 4 (a-plan ++ (0x00 ∷ [])) 0 ≡ []
   pub a-step-no-curves : stepAt 0 4 a-plan 0 ≡ []
   pub a-step-257-tests : stepAt 4 257 a-plan 0 ≡ []
-  pub a-sheet : sheet a-bytes ≡ text "4 tests, 2 places, method 0\n0: test 0 drop none load 0 1\n1: test 1 drop 0 load 2\n2: test 2 drop 2 load 0\n3: test 3 drop 0 load 3\nloads 5\n"
+  pub a-sheet : sheet a-bytes
+      ≡ text "4 tests, 2 places, method 0\n0: test 0 drop none load 0 1\n1: test 1 drop 0 load 2\n2: test 2 drop 2 load 0\n3: test 3 drop 0 load 3\nloads 5\n"
   pub sheet-refused : sheet (0x05 ∷ 0x02 ∷ 0x01 ∷ 0x00 ∷ 0x01 ∷ 0x07 ∷ []) ≡ text "refused 7 at 0\n"
   -- job bytes that tell readings apart
   pub map-bits : readJob (0xf1 ∷ []) 256 ≡ refused 2 0

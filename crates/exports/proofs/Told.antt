@@ -12,7 +12,8 @@ use Rattle.job.specs.declared.Head.{Head}
 use Rattle.job.specs.declared.Rig.{Rig}
 use Rattle.job.specs.Refusal.{Outcome, done, refused, _>>_, mapped, demand, room}
 use Rattle.job.specs.Words.{Job, capacity}
-use Rattle.job.specs.Handed.{listed, someTests, placesKnown, curvesKnown, testsKnown, methodKnown, wantsKnown, wantsFit, numbersKnown, jobKnownBy, countsKnown, allCurves}
+use Rattle.job.specs.Handed.{listed, someTests, placesKnown, curvesKnown, testsKnown, methodKnown, wantsKnown, wantsFit, numbersKnown, jobKnownBy}
+use Rattle.job.specs.Handed.{countsKnown, allCurves}
 use Rattle.job.specs.Order.{orderFrom}
 use Rattle.job.specs.Calls.{orderingKnown, checkingKnown, planningKnown}
 use Rattle.job.proofs.Laws.{both, demand-true, both-done, bind-done, mapped-done, done-same, done-both, done-room}
@@ -106,14 +107,16 @@ module _ (method : ℕ) (j : Job) where
   unfolding jobKnownBy methodKnown
   job-told =
       then _ _ (numbers-told (j .rig) (length (j .wants)))
-      (λ e. refuses-both Figures _ _ (refuses-demand Figures _ 10 3 (omega arith, omega arith)) (wants-told (j .rig .curves) (j .wants) (known-bounds (j .rig) (length (j .wants)) e .1)))
+      (λ e. refuses-both Figures _ _ (refuses-demand Figures _ 10 3 (omega arith, omega arith))
+      (wants-told (j .rig .curves) (j .wants) (known-bounds (j .rig) (length (j .wants)) e .1)))
 
 -- 8 names one of the positions, or the one behind them
 order-told : (n : ℕ) (before rest : List ℕ) → n ≤ 256 → length before ≤ n → Refuses Figures (orderFrom n before rest)
 unfolding orderFrom
 order-told n before [] l m = refuses-demand Figures _ 8 (length before) (omega arith, omega arith)
 order-told n before (t ∷ ts) l m =
-    then (demand (ltb (length before) n && ltb t n && not (listed before t)) 8 (length before)) _ (refuses-demand Figures _ 8 (length before) (omega arith, omega arith))
+    then (demand (ltb (length before) n && ltb t n && not (listed before t)) 8 (length before)) _
+    (refuses-demand Figures _ 8 (length before) (omega arith, omega arith))
     (λ e.
     let a = both (ltb (length before) n && ltb t n) (not (listed before t)) (demand-true _ 8 (length before) e) in
     let b = both (ltb (length before) n) (ltb t n) (a .0) in
@@ -184,7 +187,8 @@ module _ (method : ℕ) (j : Job) (old : List ℕ) where
       bytes = jobBytes (request method j)
 
       short : jobKnownBy method j ≡ done tt → length bytes ≤ 2310
-      short e = written-short method j (length bytes) bytes (unfold writeJob in (done-both _ _ e ∙ done-both _ _ (done-room (length bytes) (length bytes) (omega arith))))
+      short e = written-short method j (length bytes) bytes
+          (unfold writeJob in (done-both _ _ e ∙ done-both _ _ (done-room (length bytes) (length bytes) (omega arith))))
 
       writing : Refuses Figures (writeJob method j (length old))
       writing = unfold writeJob in then _ _ (job-told method j) (λ e. asked (length old) (length bytes) (done bytes) (omega (arith, short e)) tt)
@@ -250,8 +254,10 @@ module _ (curves tests : ℕ) (bs order : List ℕ) (lent : Plan) where
     where
       go : (o : Outcome (List Placed)) → readPlanBytes curves tests bs ≡ o → Refuses Figures o
       go (done ss) e = tt
-      go (refused k i) e =
-          (omega (arith, refuses (λ (k i : ℕ). k ≡ 11) (readPlanBytes curves tests bs) k i (plan-eleven curves tests bs) e), omega (arith, plan-figure curves tests bs k i e))
+      go (refused k i) e = (
+        omega (arith, refuses (λ (k i : ℕ). k ≡ 11) (readPlanBytes curves tests bs) k i (plan-eleven curves tests bs) e),
+        omega (arith, plan-figure curves tests bs k i e),
+      )
 
   steps-few : (ss : List Placed) → planSteps curves tests bs ≡ done ss → (length ss ≡ tests) × (tests ≤ 256)
   unfolding planSteps

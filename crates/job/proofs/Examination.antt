@@ -84,7 +84,8 @@ module _ (method : ℕ) (job : Job) where
     by-rest h = rw (e, le-leb method 3 h) refl
 
 -- ---- an examination that a function answered
-pub examined-refused : (e : Examined) (r : Refusal) (o : Outcome (Unit {0})) → e ≡ Examined.Refused r → examinedOutcome e ≡ o → o ≡ refused (number r) (figure r)
+pub examined-refused : (e : Examined) (r : Refusal) (o : Outcome (Unit {0})) → e ≡ Examined.Refused r → examinedOutcome e ≡ o
+    → o ≡ refused (number r) (figure r)
 unfolding examinedOutcome
 examined-refused e r o p q = sym q ∙ rw p refl
 

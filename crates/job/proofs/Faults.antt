@@ -56,7 +56,8 @@ examines-next P Q k i j true o f g n h (faultless e none) = faultless e go
     go : (t : ℕ) → P t → ⊥
     go zero x = g refl x
     go (suc t) x = none t (h t .1 x)
-examines-next P Q k i j true o f g n h (faulty t e first) = faulty (suc t) (e ∙ (let z : j + t ≡ i + suc t = omega arith in ap (refused k) z)) (h t .0 (first .0), go)
+examines-next P Q k i j true o f g n h (faulty t e first) =
+    faulty (suc t) (e ∙ (let z : j + t ≡ i + suc t = omega arith in ap (refused k) z)) (h t .0 (first .0), go)
   where
     go : (q : ℕ) → q < suc t → P q → ⊥
     go zero l x = g refl x
@@ -82,14 +83,16 @@ each-exact ok k i xs = examines-exact (Fails ok xs) k i (each ok k i xs) (each-e
 -- ---- the refusals
 
 -- 7, "lowest such test": "a test wants more curves than places"
-pub too-large-exact : (places : ℕ) (wants : List ℕ) (t : ℕ) → wantsFit places wants ≡ refused 7 t ↔ First (λ s. (s < length wants) × (places < size (getD wants s 0))) t
+pub too-large-exact : (places : ℕ) (wants : List ℕ) (t : ℕ)
+    → wantsFit places wants ≡ refused 7 t ↔ First (λ s. (s < length wants) × (places < size (getD wants s 0))) t
 unfolding wantsFit
 too-large-exact places wants t =
     Iff·trans (simp zero-add at (each-exact (λ w. leb (size w) places) 7 0 wants t))
     (first-same _ _ (λ s. ((λ f. (f .0, leb-false (size (getD wants s 0)) places (f .1))), (λ f. (f .0, lt-leb (size (getD wants s 0)) places (f .1))))) t)
 
 -- 10, "4 + t: wants of test t name a foreign curve"
-pub foreign-exact : (curves : ℕ) (wants : List ℕ) (t : ℕ) → wantsKnown curves wants ≡ refused 10 (4 + t) ↔ First (λ s. (s < length wants) × (2 ^ curves ≤ getD wants s 0)) t
+pub foreign-exact : (curves : ℕ) (wants : List ℕ) (t : ℕ)
+    → wantsKnown curves wants ≡ refused 10 (4 + t) ↔ First (λ s. (s < length wants) × (2 ^ curves ≤ getD wants s 0)) t
 unfolding wantsKnown
 foreign-exact curves wants t =
     Iff·trans (each-exact (λ w. inside w (allCurves curves)) 10 4 wants t)

@@ -12,7 +12,8 @@ use lib.ListN.{length, getD}
 use borrow.Author.Tests.{ltb-true, leb-true, lt-ltb, le-leb, eqb-true, eq-eqb}
 use Rattle.bitset.specs.Set.{_∖_, inside}
 use Rattle.job.specs.Refusal.{done}
-use Rattle.job.specs.Handed.{between, allCurves, someTests, placesKnown, curvesKnown, testsKnown, methodKnown, wantsKnown, numbersKnown, jobKnown, jobKnownBy}
+use Rattle.job.specs.Handed.{between, allCurves, someTests, placesKnown, curvesKnown, testsKnown, methodKnown, wantsKnown, numbersKnown, jobKnown}
+use Rattle.job.specs.Handed.{jobKnownBy}
 use Rattle.job.specs.Words.{Job, IsJob}
 use Rattle.job.proofs.Laws.{both, and, demand-true, demand-done, both-done, done-both, each-true, true-each}
 
@@ -50,7 +51,8 @@ module _ (j : Job) where
 
     wants-done : wantsKnown (j .rig .curves) (j .wants) ≡ done tt
     unfolding wantsKnown
-    wants-done = true-each (λ w. inside w (allCurves (j .rig .curves))) 10 4 (j .wants) (λ t l. below-inside (j .rig .curves) (getD (j .wants) t 0) (is .own-curves t l))
+    wants-done =
+        true-each (λ w. inside w (allCurves (j .rig .curves))) 10 4 (j .wants) (λ t l. below-inside (j .rig .curves) (getD (j .wants) t 0) (is .own-curves t l))
 
     numbers-done : numbersKnown (j .rig) n ≡ done tt
     unfolding numbersKnown

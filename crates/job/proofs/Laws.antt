@@ -77,7 +77,8 @@ pub true-each : (ok : ℕ → Bool) (k i : ℕ) (xs : List ℕ) → ((t : ℕ) �
 unfolding each
 true-each ok k i [] h = refl
 true-each ok k i (x ∷ xs) h =
-    done-both (demand (ok x) k i) (each ok k (suc i) xs) (demand-done (ok x) k i (h 0 (omega arith))) ∙ true-each ok k (suc i) xs (λ t l. h (suc t) (omega arith))
+    done-both (demand (ok x) k i) (each ok k (suc i) xs) (demand-done (ok x) k i (h 0 (omega arith)))
+    ∙ true-each ok k (suc i) xs (λ t l. h (suc t) (omega arith))
 
 -- ---- a loop over the entries: at entry t, one turn; at the end, done
 
@@ -139,7 +140,8 @@ pub made-refused : (made : Outcome (List ℕ)) (old : List ℕ) (k i : ℕ) → 
 unfolding mapped leaves
 made-refused made old k i e = (rw e refl, rw e refl)
 
-pub made-done : (made : Outcome (List ℕ)) (old new : List ℕ) → made ≡ done new → (done (length new) ≡ mapped length made) × (overwritten new old ≡ leaves made old)
+pub made-done : (made : Outcome (List ℕ)) (old new : List ℕ) → made ≡ done new
+    → (done (length new) ≡ mapped length made) × (overwritten new old ≡ leaves made old)
 unfolding mapped leaves
 made-done made old new e = (rw e refl, rw e refl)
 

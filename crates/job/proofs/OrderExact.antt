@@ -72,7 +72,8 @@ order-exact n order = (passed-order n order, order-passes n order)
 pub order-refuses : (n : ℕ) (before rest : List ℕ) → Refuses (λ k i. k ≡ 8) (orderFrom n before rest)
 unfolding orderFrom
 order-refuses n before [] = refuses-demand (λ k i. k ≡ 8) (leb n (length before)) 8 (length before) refl
-order-refuses n before (t ∷ ts) = refuses-both (λ k i. k ≡ 8) _ _ (refuses-demand (λ k i. k ≡ 8) _ 8 (length before) refl) (order-refuses n (before ++ (t ∷ [])) ts)
+order-refuses n before (t ∷ ts) =
+    refuses-both (λ k i. k ≡ 8) _ _ (refuses-demand (λ k i. k ≡ 8) _ 8 (length before) refl) (order-refuses n (before ++ (t ∷ [])) ts)
 
 -- an order names only tests of the job, so the wants of each step are those of a test
 pub own-tests : (n : ℕ) (order : List ℕ) → IsOrder n order → (i : ℕ) → i < length order → getD order i 0 < n

@@ -17,7 +17,8 @@ use Rattle.job.specs.Order.{orderFrom}
 module _ (n : ℕ) (order : List ℕ) (i : ℕ) where
   pub order-next : i < length order
       → orderFrom n (take i order) (drop i order)
-      ≡ _>>_ (demand (ltb i n && ltb (getD order i 0) n && not (listed (take i order) (getD order i 0))) 8 i) (orderFrom n (take (i + 1) order) (drop (i + 1) order))
+      ≡ _>>_ (demand (ltb i n && ltb (getD order i 0) n && not (listed (take i order) (getD order i 0))) 8 i)
+      (orderFrom n (take (i + 1) order) (drop (i + 1) order))
   unfolding orderFrom
   order-next h =
       let l : length (take i order) ≡ i = length-take-le i order (omega arith) in

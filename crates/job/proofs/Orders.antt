@@ -71,12 +71,15 @@ one-bit s k = go (ℕ-discrete k s)
     go (no d) = rw (ne-eqb s k (λ e. d (sym e)), bit-other k s d) refl
 
 sum-one : (n s : ℕ) → s < n → sum n (λ k. digit (eqb s k)) ≡ 1
-sum-one n s h = sum-same n (λ k. digit (eqb s k)) (λ k. bit k (2 ^ s)) (λ k l. one-bit s k) ∙ sym (size-sum n (2 ^ s) (omega (arith, pow-mono h, pow-pos s))) ∙ size-single s
+sum-one n s h =
+    sum-same n (λ k. digit (eqb s k)) (λ k. bit k (2 ^ s)) (λ k l. one-bit s k) ∙ sym (size-sum n (2 ^ s) (omega (arith, pow-mono h, pow-pos s)))
+    ∙ size-single s
 
 pub sum-count : (n : ℕ) (ss : List ℕ) → ((t : ℕ) → n ≤ t → count t ss ≡ 0) → sum n (λ t. count t ss) ≡ length ss
 unfolding count
 sum-count n [] h = sum-none n (λ t. 0) (λ t l. refl)
-sum-count n (s ∷ ss) h = sum-add n (λ t. digit (eqb s t)) (λ t. count t ss) ∙ omega (arith, sum-one n s (below (decLe n s)), sum-count n ss (λ t l. omega (arith, h t l)))
+sum-count n (s ∷ ss) h =
+    sum-add n (λ t. digit (eqb s t)) (λ t. count t ss) ∙ omega (arith, sum-one n s (below (decLe n s)), sum-count n ss (λ t l. omega (arith, h t l)))
   where
     below : Dec (n ≤ s) → s < n
     below (yes l) = absurd (omega (arith, h s l, one-same s))

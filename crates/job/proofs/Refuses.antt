@@ -55,7 +55,8 @@ HandedRefusal k i = (k ≡ 5) ⊎ (k ≡ 10)
 numbers-refuse : (rig : Rig) (tests : ℕ) → Refuses HandedRefusal (numbersKnown rig tests)
 unfolding numbersKnown someTests placesKnown curvesKnown testsKnown
 numbers-refuse rig tests =
-    refuses-both HandedRefusal _ _ (refuses-demand HandedRefusal _ 5 0 (inl refl)) (refuses-both HandedRefusal _ _ (refuses-demand HandedRefusal _ 10 0 (inr refl))
+    refuses-both HandedRefusal _ _ (refuses-demand HandedRefusal _ 5 0 (inl refl))
+    (refuses-both HandedRefusal _ _ (refuses-demand HandedRefusal _ 10 0 (inr refl))
     (refuses-both HandedRefusal _ _ (refuses-demand HandedRefusal _ 10 1 (inr refl)) (refuses-demand HandedRefusal _ 10 2 (inr refl))))
 
 wants-refuse : (curves : ℕ) (wants : List ℕ) → Refuses HandedRefusal (wantsKnown curves wants)

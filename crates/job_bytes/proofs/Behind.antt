@@ -32,7 +32,8 @@ module _ (ys : List ℕ) where
   byte-same o i m (x ∷ xs) l = value x (suc i) xs (omega arith)
 
   module _ (owed empty unknown curves : ℕ) where
-    group-same : (d j i m : ℕ) (xs : List ℕ) → 1 + m ≤ length xs → Same ys m (readGroup owed empty unknown curves d j i xs) (readGroup owed empty unknown curves d j i (xs ++ ys))
+    group-same : (d j i m : ℕ) (xs : List ℕ) → 1 + m ≤ length xs
+        → Same ys m (readGroup owed empty unknown curves d j i xs) (readGroup owed empty unknown curves d j i (xs ++ ys))
     unfolding readGroup
     group-same zero j i m xs l = value 0 i xs (omega arith)
     group-same (suc d) j i m xs l = same-then m m _ (byte-same owed i m xs l) (λ b n xs l. same-test m _ empty i (same-test m _ unknown i (value _ n xs l)))
@@ -41,4 +42,5 @@ module _ (ys : List ℕ) where
         → Same ys m (readGroups owed empty unknown curves k j map s i xs) (readGroups owed empty unknown curves k j map s i (xs ++ ys))
     unfolding readGroups
     groups-same zero j map s i m xs l = value s i xs (omega arith)
-    groups-same (suc k) j map s i m xs l = same-then (k + m) m _ (group-same (bit j map) j i (k + m) xs (omega arith)) (λ g n xs l. groups-same k (suc j) map (s ∪ g) n m xs l)
+    groups-same (suc k) j map s i m xs l =
+        same-then (k + m) m _ (group-same (bit j map) j i (k + m) xs (omega arith)) (λ g n xs l. groups-same k (suc j) map (s ∪ g) n m xs l)

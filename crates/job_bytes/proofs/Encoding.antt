@@ -61,7 +61,8 @@ module _ (j n : ℕ) (h : j < 8) where
   unfolding groupBytes
   bytes-turn = rw (less j h) refl
 
-  pub stores-turn : (l : List ℕ) (i : ℕ) → sets l i (groupBytes (8 - j) n ++ (0 ∷ [])) ≡ sets (set l i (n % 256)) (i + mark (n % 256)) (groupBytes (8 - (j + 1)) (n / 256) ++ (0 ∷ []))
+  pub stores-turn : (l : List ℕ) (i : ℕ)
+      → sets l i (groupBytes (8 - j) n ++ (0 ∷ [])) ≡ sets (set l i (n % 256)) (i + mark (n % 256)) (groupBytes (8 - (j + 1)) (n / 256) ++ (0 ∷ []))
   stores-turn l i = rw bytes-turn (one-group (n % 256) l (groupBytes (8 - (j + 1)) (n / 256)) i (omega arith))
 
   pub long-turn : length (groupBytes (8 - j) n) ≡ mark (n % 256) + length (groupBytes (8 - (j + 1)) (n / 256))
@@ -115,7 +116,8 @@ next-over vs ws l i x =
 -- a store before a run of stores
 store-before : (vs l : List ℕ) (i k v : ℕ) → k < i → set (sets l i vs) k v ≡ sets (set l k v) i vs
 store-before [] l i k v h = refl
-store-before (x ∷ vs) l i k v h = store-before vs (set l i x) (suc i) k v (omega arith) ∙ ap (λ (y : List ℕ). sets y (suc i) vs) (set-comm l i k x v (omega arith))
+store-before (x ∷ vs) l i k v h =
+    store-before vs (set l i x) (suc i) k v (omega arith) ∙ ap (λ (y : List ℕ). sets y (suc i) vs) (set-comm l i k x v (omega arith))
 
 -- the map is stored last
 pub map-last : (s i : ℕ) (l : List ℕ) → set (sets l (i + 1) (groupBytes 8 s ++ (0 ∷ []))) i (groupMap 8 s) ≡ sets l i (setBytes s ++ (0 ∷ []))

@@ -25,7 +25,8 @@ use Rattle.job_bytes.proofs.Turns.{byte-there, cons-here}
 
 -- the contract of `read_due`, of a group whose bit is d; with 1 for d, that of `read_group`
 abbrev pub Answers : List ℕ → ℕ → ℕ → ℕ → ℕ → GroupRead → Type 0
-Answers bs k d j curves r = (owed empty unknown i : ℕ) → groupOutcome owed empty unknown i r ≡ mapped (λ g. g .value) (readGroup owed empty unknown (min curves 64) d j i (drop k bs))
+Answers bs k d j curves r =
+    (owed empty unknown i : ℕ) → groupOutcome owed empty unknown i r ≡ mapped (λ g. g .value) (readGroup owed empty unknown (min curves 64) d j i (drop k bs))
 
 -- no group from 8 on has a curve below 64
 pub no-such-group : (b j curves : ℕ) → 0 < b → 8 ≤ j → inside (b * 2 ^ (8 * j)) (allCurves (min curves 64)) ≡ false
@@ -91,7 +92,8 @@ module _ (bs : List ℕ) (k j curves : ℕ) where
 
     pub marked-unknown : (d : ℕ) → d ≤ 1 → d ≤ counted d → (s : ℕ) → s ≡ counted d * 2 ^ (8 * j)
         → inside s (allCurves (min curves 64)) ≡ false → Answers bs k d j curves Unknown
-    marked-unknown zero l p s v f = let t = nothing-inside s (min curves 64) (v ∙ rw (mul-zero, zero-mul)) in let z : _≡_ {A = ℕ} 0 1 = cc in absurd (omega arith)
+    marked-unknown zero l p s v f = let t = nothing-inside s (min curves 64) (v ∙ rw (mul-zero, zero-mul)) in let z : _≡_ {A = ℕ} 0 1 =
+        cc in absurd (omega arith)
     marked-unknown (suc zero) l p s v f = let e : s ≡ getD bs k 0 * 2 ^ (8 * j) = v ∙ rw mul-one in due-unknown bs k j curves h (omega arith) (rw e at f)
     marked-unknown (suc (suc d)) l p s v f = absurd (omega arith)
 
@@ -107,7 +109,8 @@ module _ (owed empty unknown curves j i k : ℕ) (bs : List ℕ) where
   unfolding readGroup _>>=_
   one-some h d = rw (byte-there owed i k bs h) refl
 
-  group-one : (d : ℕ) (g : Got ℕ) → readGroup owed empty unknown curves (suc d) j i (drop k bs) ≡ done g → (k < length bs) × (g ≡ got (g .value) (suc i) (drop (suc k) bs))
+  group-one : (d : ℕ) (g : Got ℕ) → readGroup owed empty unknown curves (suc d) j i (drop k bs) ≡ done g
+      → (k < length bs) × (g ≡ got (g .value) (suc i) (drop (suc k) bs))
   group-one d g e = go (decLe (length bs) k)
     where
       go : Dec (length bs ≤ k) → (k < length bs) × (g ≡ got (g .value) (suc i) (drop (suc k) bs))
@@ -150,7 +153,9 @@ unfolding readGroup
 unmarked curves j k bs = refl
 
 pub owed-end : (bs : List ℕ) (k d j curves : ℕ) → Answers bs k d j curves Owed → length bs ≤ k
-owed-end bs k d j curves f = go d (decLe (length bs) k) (mapped-refused (λ (g : Got ℕ). g .value) (readGroup 0 1 1 (min curves 64) d j 0 (drop k bs)) 0 0 (sym (f 0 1 1 0) ∙ owed-outcome 0))
+owed-end bs k d j curves f =
+    go d (decLe (length bs) k) (mapped-refused (λ (g : Got ℕ). g .value) (readGroup 0 1 1 (min curves 64) d j 0 (drop k bs)) 0 0
+    (sym (f 0 1 1 0) ∙ owed-outcome 0))
   where
     go : (d : ℕ) → Dec (length bs ≤ k) → readGroup 0 1 1 (min curves 64) d j 0 (drop k bs) ≡ refused 0 0 → length bs ≤ k
     go d (yes h) e = h
@@ -183,7 +188,8 @@ module _ (owed empty unknown curves map s a k j : ℕ) (bs : List ℕ) (below : 
   answer-unknown f = faulty unknown (mapped-refused (λ g. g .value) _ unknown (a + k) (sym (said Unknown f)))
 
   pub answer-curves : (x : ℕ) → k ≤ length bs → Answers bs k (bit j map) j curves (Curves x)
-      → (k + bit j map ≤ length bs) × (here ≡ readGroups owed empty unknown curves (8 - (j + 1)) (j + 1) map (s ∪ x) (a + (k + bit j map)) (drop (k + bit j map) bs))
+      → (k + bit j map ≤ length bs)
+      × (here ≡ readGroups owed empty unknown curves (8 - (j + 1)) (j + 1) map (s ∪ x) (a + (k + bit j map)) (drop (k + bit j map) bs))
   unfolding groupOutcome _>>=_
   answer-curves x l f =
       let r = readGroup owed empty unknown curves (bit j map) j (a + k) (drop k bs) in

@@ -133,7 +133,8 @@ fields-back (f ∷ fs) (v ∷ vs) acc i rest w h =
     rw (m, d, append-assoc bs (fieldsBytes fs vs) rest, field-back f i v (fieldsBytes fs vs ++ rest) (w .0) (h .0))
     (fields-back fs vs (acc ++ (v ∷ [])) (i + length bs) rest (w .1) (h .1) ∙ rw (n, append-assoc acc (v ∷ []) vs) refl)
 
-pub head-back : (h : Head) (rest : List ℕ) → AllHave fields (valuesOf h) → readHead (headBytes (valuesOf h) ++ rest) ≡ done (got h (length (headBytes (valuesOf h))) rest)
+pub head-back : (h : Head) (rest : List ℕ) → AllHave fields (valuesOf h)
+    → readHead (headBytes (valuesOf h) ++ rest) ≡ done (got h (length (headBytes (valuesOf h))) rest)
 unfolding readHead byteAt demand _>>=_ _>>_
 head-back h rest have =
     let n : 1 + length (fieldsBytes fields (valuesOf h)) ≡ suc (length (fieldsBytes fields (valuesOf h))) = omega arith in
@@ -256,8 +257,10 @@ in-range h a =
 
 pub range-in : (h : Head) → InRange h → AllHave fields (valuesOf h)
 unfolding fields
-range-in h r =
-    (has _ (h .rig .places) (λ n. r .places), (has _ (h .rig .curves) (λ n. r .curves), (has _ (h .tests) (λ n. (omega arith, r .tests)), (has _ (h .method) (λ n. (omega arith, r .method)), tt))))
+range-in h r = (
+  has _ (h .rig .places) (λ n. r .places),
+  (has _ (h .rig .curves) (λ n. r .curves), (has _ (h .tests) (λ n. (omega arith, r .tests)), (has _ (h .method) (λ n. (omega arith, r .method)), tt))),
+)
 
 pub head-range : (bs : List ℕ) (g : Got Head) → readHead bs ≡ done g → InRange (g .value)
 head-range bs g e = in-range (g .value) (head-read bs g e .have)

@@ -69,7 +69,8 @@ module _ (bs : List ℕ) where
     unfolding readField _>>=_
     field-cut l h = rw (number-cut (f .width) i l h) refl
 
-    pub field-judged : (g : Got ℕ) → readNumber (f .width) i (drop i bs) ≡ done g → readField f 1 i (drop i bs) ≡ _>>_ (demand (holds f (g .value)) 2 i) (done g)
+    pub field-judged : (g : Got ℕ) → readNumber (f .width) i (drop i bs) ≡ done g
+        → readField f 1 i (drop i bs) ≡ _>>_ (demand (holds f (g .value)) 2 i) (done g)
     unfolding holds readField _>>=_
     field-judged g e = rw e refl
 
@@ -102,7 +103,8 @@ module _ (bs : List ℕ) where
     unfolding readHead demand _>>=_ _>>_
     head-map h = rw (byte-there 1 0 0 bs some, le-ltb (getD bs 0 0) (2 ^ length fields) h) refl
 
-    pub head-fields : getD bs 0 0 < 2 ^ length fields → readHead bs ≡ _>>=_ (readFields fields (getD bs 0 0) [] 1 (drop 1 bs)) (λ r. done (got (headOf (r .value)) (r .next) (r .rest)))
+    pub head-fields : getD bs 0 0 < 2 ^ length fields
+        → readHead bs ≡ _>>=_ (readFields fields (getD bs 0 0) [] 1 (drop 1 bs)) (λ r. done (got (headOf (r .value)) (r .next) (r .rest)))
     unfolding readHead demand _>>=_ _>>_
     head-fields h = rw (byte-there 1 0 0 bs some, lt-ltb (getD bs 0 0) (2 ^ length fields) h) refl
 

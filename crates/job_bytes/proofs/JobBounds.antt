@@ -16,7 +16,8 @@ use Rattle.job.specs.Handed.{someTests}
 use Rattle.job_bytes.specs.declared.fields.Field.{Field}
 use Rattle.job_bytes.specs.SetBytes.{Got, got}
 use Rattle.job.specs.Words.{Job}
-use Rattle.job_bytes.specs.JobBytes.{Request, fields, readNumber, readField, readFields, readHead, readRecord, readRecords, atEnd, readBytes, readJob, readJobAnswer, readJobWants, writeJob}
+use Rattle.job_bytes.specs.JobBytes.{Request, fields, readNumber, readField, readFields, readHead, readRecord, readRecords, atEnd, readBytes, readJob}
+use Rattle.job_bytes.specs.JobBytes.{readJobAnswer, readJobWants, writeJob}
 use Rattle.job.proofs.Laws.{refused≢done, bind-done, mapped-done, mapped-refused}
 use Rattle.job_bytes.proofs.HeadRoundTrip.{head-range}
 use Rattle.job_bytes.proofs.Spans.{Ends, Spans, span-done, span-refused, widths, head-span, records-span}
@@ -31,7 +32,8 @@ pub data Bounded (bs : List ℕ) : Outcome Request → Type 0 where
   figure : (k f : ℕ) → f ≤ 2310 → f ≤ length bs → Bounded bs (refused k f)
 
 -- behind the records
-at-end : (bs : List ℕ) (e : ℕ) (rest : List ℕ) (j : Request) → e ≤ 2310 → e ≤ length bs → rest ≡ drop e bs → j .head .tests ≤ 256 → Bounded bs (_>>_ (atEnd 6 e rest) (done j))
+at-end : (bs : List ℕ) (e : ℕ) (rest : List ℕ) (j : Request) → e ≤ 2310 → e ≤ length bs → rest ≡ drop e bs → j .head .tests ≤ 256
+    → Bounded bs (_>>_ (atEnd 6 e rest) (done j))
 unfolding atEnd _>>_
 at-end bs e [] j m l r t = read j (omega (arith, ap length r, length-drop e bs)) t
 at-end bs e (b ∷ rest) j m l r t = figure 6 e m l
@@ -46,16 +48,19 @@ read-bounded bs = behind (readHead bs) refl (head-span bs)
     all h n (refused k f) t m s = let e = span-refused s in figure k f (omega (arith, e .0)) (e .1)
 
     tested : (h : Head) (n : ℕ) (rest : List ℕ) (b : Bool) → h .tests ≤ 256 → Ends 6 0 bs n rest
-        → Bounded bs (_>>_ (demand b 5 0) (_>>=_ (readRecords (h .rig .curves) (h .tests) [] n rest) (λ r. _>>_ (atEnd 6 (r .next) (r .rest)) (done (record { head = h; wants = r .value })))))
+        → Bounded bs (_>>_ (demand b 5 0) (_>>=_ (readRecords (h .rig .curves) (h .tests) [] n rest)
+        (λ r. _>>_ (atEnd 6 (r .next) (r .rest)) (done (record { head = h; wants = r .value })))))
     tested h n rest false t s = figure 5 0 (omega arith) (omega arith)
     tested h n rest true t s =
         subst (λ (l : List ℕ). Bounded bs (_>>=_ (readRecords (h .rig .curves) (h .tests) [] n l)
         (λ r. _>>_ (atEnd 6 (r .next) (r .rest)) (done (record { head = h; wants = r .value }))))) (sym (s .behind))
-        (all h n (readRecords (h .rig .curves) (h .tests) [] n (drop n bs)) t (omega (arith, s .most)) (records-span bs (h .rig .curves) (h .tests) [] n (s .within)))
+        (all h n (readRecords (h .rig .curves) (h .tests) [] n (drop n bs)) t (omega (arith, s .most))
+        (records-span bs (h .rig .curves) (h .tests) [] n (s .within)))
 
     behind : (o : Outcome (Got Head)) → readHead bs ≡ o → Spans 6 0 bs o
         → Bounded bs (_>>=_ o (λ h. _>>_ (someTests (h .value .tests))
-        (_>>=_ (readRecords (h .value .rig .curves) (h .value .tests) [] (h .next) (h .rest)) (λ r. _>>_ (atEnd 6 (r .next) (r .rest)) (done (record { head = h .value; wants = r .value }))))))
+        (_>>=_ (readRecords (h .value .rig .curves) (h .value .tests) [] (h .next) (h .rest))
+        (λ r. _>>_ (atEnd 6 (r .next) (r .rest)) (done (record { head = h .value; wants = r .value }))))))
     behind (refused k f) e s = let x = span-refused s in figure k f (omega (arith, x .0)) (x .1)
     behind (done g) e s =
         tested (g .value) (g .next) (g .rest) (ltb 0 (g .value .tests)) (head-range bs g e .tests) (span-done s)
@@ -79,14 +84,16 @@ pub job-figure : (bs : List ℕ) (lent k f : ℕ) → readJob bs lent ≡ refuse
 unfolding readJob room demand _>>=_ _>>_
 job-figure bs lent k f e = go (read-bounded bs) e
   where
-    short : (b : Bool) (j : Request) → j .head .tests ≤ 256 → _>>_ (demand b 9 (j .head .tests)) (done j) ≡ refused k f → (f ≤ 2310) × ((f ≤ length bs) ⊎ ((k ≡ 9) × (f ≤ 256)))
+    short : (b : Bool) (j : Request) → j .head .tests ≤ 256 → _>>_ (demand b 9 (j .head .tests)) (done j) ≡ refused k f
+        → (f ≤ 2310) × ((f ≤ length bs) ⊎ ((k ≡ 9) × (f ≤ 256)))
     short true j t e = absurd (refused≢done (sym e))
     short false j t e =
         let n : k ≡ 9 = cc in
         let m : f ≡ j .head .tests = cc in
         (omega arith, inr (n, omega arith))
 
-    go : {o : Outcome Request} → Bounded bs o → _>>=_ o (λ j. _>>_ (room lent (j .head .tests)) (done j)) ≡ refused k f → (f ≤ 2310) × ((f ≤ length bs) ⊎ ((k ≡ 9) × (f ≤ 256)))
+    go : {o : Outcome Request} → Bounded bs o → _>>=_ o (λ j. _>>_ (room lent (j .head .tests)) (done j)) ≡ refused k f
+        → (f ≤ 2310) × ((f ≤ length bs) ⊎ ((k ≡ 9) × (f ≤ 256)))
     go (read j l t) e = short (leb (j .head .tests) lent) j t e
     go (figure n i m l) e =
         let q : f ≡ i = cc in
@@ -99,18 +106,21 @@ module _ (ys : List ℕ) where
   unfolding readNumber
   number-same zero i m xs l = value 0 i xs (omega arith)
   number-same (suc w) i m xs l =
-      same-then ys (w + m) m _ (byte-same ys 1 i (w + m) xs (omega arith)) (λ b n xs l. same-then ys m m _ (number-same w n m xs l) (λ r n xs l. value _ n xs l))
+      same-then ys (w + m) m _ (byte-same ys 1 i (w + m) xs (omega arith))
+      (λ b n xs l. same-then ys m m _ (number-same w n m xs l) (λ r n xs l. value _ n xs l))
 
   field-same : (f : Field) (d i m : ℕ) (xs : List ℕ) → f .width + m ≤ length xs → Same ys m (readField f d i xs) (readField f d i (xs ++ ys))
   unfolding readField
   field-same f zero i m xs l = value (f .absent) i xs (omega arith)
   field-same f (suc d) i m xs l = same-then ys m m _ (number-same (f .width) i m xs l) (λ v n xs l. same-test ys m _ 2 i (value v n xs l))
 
-  fields-same : (fs : List Field) (map : ℕ) (vs : List ℕ) (i m : ℕ) (xs : List ℕ) → widths fs + m ≤ length xs → Same ys m (readFields fs map vs i xs) (readFields fs map vs i (xs ++ ys))
+  fields-same : (fs : List Field) (map : ℕ) (vs : List ℕ) (i m : ℕ) (xs : List ℕ) → widths fs + m ≤ length xs
+      → Same ys m (readFields fs map vs i xs) (readFields fs map vs i (xs ++ ys))
   unfolding readFields
   fields-same [] map vs i m xs l = value vs i xs (omega arith)
   fields-same (f ∷ fs) map vs i m xs l =
-      same-then ys (widths fs + m) m _ (field-same f (map % 2) i (widths fs + m) xs (omega arith)) (λ v n xs l. fields-same fs (map / 2) (vs ++ (v ∷ [])) n m xs l)
+      same-then ys (widths fs + m) m _ (field-same f (map % 2) i (widths fs + m) xs (omega arith))
+      (λ v n xs l. fields-same fs (map / 2) (vs ++ (v ∷ [])) n m xs l)
 
   head-same : (m : ℕ) (xs : List ℕ) → 6 + m ≤ length xs → Same ys m (readHead xs) (readHead (xs ++ ys))
   unfolding readHead fields
@@ -120,9 +130,11 @@ module _ (ys : List ℕ) where
 
   record-same : (curves i m : ℕ) (xs : List ℕ) → 9 + m ≤ length xs → Same ys m (readRecord curves i xs) (readRecord curves i (xs ++ ys))
   unfolding readRecord
-  record-same curves i m xs l = same-then ys (8 + m) m _ (byte-same ys 1 i (8 + m) xs (omega arith)) (λ map n xs l. groups-same ys 1 3 4 curves 8 0 map 0 n m xs (omega arith))
+  record-same curves i m xs l =
+      same-then ys (8 + m) m _ (byte-same ys 1 i (8 + m) xs (omega arith)) (λ map n xs l. groups-same ys 1 3 4 curves 8 0 map 0 n m xs (omega arith))
 
-  records-same : (curves k : ℕ) (wants : List ℕ) (i m : ℕ) (xs : List ℕ) → 9 * k + m ≤ length xs → Same ys m (readRecords curves k wants i xs) (readRecords curves k wants i (xs ++ ys))
+  records-same : (curves k : ℕ) (wants : List ℕ) (i m : ℕ) (xs : List ℕ) → 9 * k + m ≤ length xs
+      → Same ys m (readRecords curves k wants i xs) (readRecords curves k wants i (xs ++ ys))
   unfolding readRecords
   records-same curves zero wants i m xs l = value wants i xs (omega arith)
   records-same curves (suc k) wants i m xs l =
@@ -144,8 +156,10 @@ module _ (ys : List ℕ) where
     where
       tested : (h : Head) (n : ℕ) (rest : List ℕ) (b : Bool) → h .tests ≤ 256 → 2305 ≤ length rest
           → _≡_ {A = Outcome Request} (_>>_ (demand b 5 0)
-          (_>>=_ (readRecords (h .rig .curves) (h .tests) [] n (rest ++ ys)) (λ r. _>>_ (atEnd 6 (r .next) (r .rest)) (done (record { head = h; wants = r .value })))))
-          (_>>_ (demand b 5 0) (_>>=_ (readRecords (h .rig .curves) (h .tests) [] n rest) (λ r. _>>_ (atEnd 6 (r .next) (r .rest)) (done (record { head = h; wants = r .value })))))
+          (_>>=_ (readRecords (h .rig .curves) (h .tests) [] n (rest ++ ys))
+          (λ r. _>>_ (atEnd 6 (r .next) (r .rest)) (done (record { head = h; wants = r .value })))))
+          (_>>_ (demand b 5 0) (_>>=_ (readRecords (h .rig .curves) (h .tests) [] n rest)
+          (λ r. _>>_ (atEnd 6 (r .next) (r .rest)) (done (record { head = h; wants = r .value })))))
       tested h n rest false t m = refl
       tested h n rest true t m = end-same h (records-same (h .rig .curves) (h .tests) [] n 1 rest (omega arith))
 

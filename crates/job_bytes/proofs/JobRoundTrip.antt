@@ -9,7 +9,8 @@ use Rattle.job.specs.declared.Head.{Head}
 use Rattle.job.specs.Refusal.{done, refused, _>>=_, _>>_, demand, room}
 use Rattle.job.specs.Handed.{someTests, jobKnownBy}
 use Rattle.job_bytes.specs.SetBytes.{groupMap, groupBytes, setBytes, Got, got, byteAt}
-use Rattle.job_bytes.specs.JobBytes.{Request, jobIn, request, valuesOf, readHead, readRecord, readRecords, atEnd, readBytes, headBytes, recordBytes, jobBytes, writeJob}
+use Rattle.job_bytes.specs.JobBytes.{Request, jobIn, request, valuesOf, readHead, readRecord, readRecords, atEnd, readBytes, headBytes, recordBytes}
+use Rattle.job_bytes.specs.JobBytes.{jobBytes, writeJob}
 use Rattle.job.proofs.Laws.{done-same, refused≢done, demand-true, both-done, done-both, bind-done, done-room}
 use Rattle.job.specs.Words.{Job, jobOf, IsJob}
 use Rattle.job.proofs.JobExact.{job-by-exact}
@@ -71,27 +72,32 @@ record RecordsRead (curves k : ℕ) (acc bs : List ℕ) (g : Got (List ℕ)) : T
 records-read : (curves k i : ℕ) (acc bs : List ℕ) (g : Got (List ℕ)) → Bytes bs → readRecords curves k acc i bs ≡ done g → RecordsRead curves k acc bs g
 unfolding readRecords recordBytes readRecord byteAt setBytes _>>=_
 records-read curves zero i acc bs g all e =
-    subst (RecordsRead curves zero acc bs) (done-same e) (record { wants = []; count = refl; value = sym (append-nil acc); bytes = refl; known = λ t l. absurd (omega arith); tail = all })
+    subst (RecordsRead curves zero acc bs) (done-same e)
+    (record { wants = []; count = refl; value = sym (append-nil acc); bytes = refl; known = λ t l. absurd (omega arith); tail = all })
 records-read curves (suc k) i acc bs g all e =
     let x = bind-done (readRecord curves i bs) _ g e in
     let s = record-read i bs (x .0) all (x .1) in
-    let r : RecordsRead curves k (acc ++ (x .0 .value ∷ [])) (x .0 .rest) g = records-read curves k (x .0 .next) (acc ++ (x .0 .value ∷ [])) (x .0 .rest) g (s .2) (x .2) in
+    let r : RecordsRead curves k (acc ++ (x .0 .value ∷ [])) (x .0 .rest) g =
+    records-read curves k (x .0 .next) (acc ++ (x .0 .value ∷ [])) (x .0 .rest) g (s .2) (x .2) in
     record {
       wants = x .0 .value ∷ r .wants;
       count = ap suc (r .count);
       value = r .value ∙ append-assoc acc (x .0 .value ∷ []) (r .wants);
-      bytes = s .0 ∙ ap (λ (l : List ℕ). setBytes (x .0 .value) ++ l) (r .bytes) ∙ sym (append-assoc (setBytes (x .0 .value)) (recordBytes (r .wants)) (g .rest));
+      bytes = s .0 ∙ ap (λ (l : List ℕ). setBytes (x .0 .value) ++ l) (r .bytes)
+          ∙ sym (append-assoc (setBytes (x .0 .value)) (recordBytes (r .wants)) (g .rest));
       known = each-known (x .0 .value) (r .wants) (s .1) (r .known);
       tail = r .tail;
     }
   where
-    record-read : (i : ℕ) (bs : List ℕ) (g : Got ℕ) → Bytes bs → readRecord curves i bs ≡ done g → (bs ≡ setBytes (g .value) ++ g .rest) × (g .value < 2 ^ curves) × Bytes (g .rest)
+    record-read : (i : ℕ) (bs : List ℕ) (g : Got ℕ) → Bytes bs → readRecord curves i bs ≡ done g
+        → (bs ≡ setBytes (g .value) ++ g .rest) × (g .value < 2 ^ curves) × Bytes (g .rest)
     record-read i [] g all e = absurd (refused≢done e)
     record-read i (M ∷ bs) g all e =
         let s : SetRead curves M (suc i) bs g = set-read 1 3 4 curves M (suc i) bs g (all .0) (all .1) e in
         (ap {B = List ℕ} (λ x. x ∷ bs) (sym (s .map)) ∙ ap {B = List ℕ} (λ l. groupMap 8 (g .value) ∷ l) (s .bytes), s .known, s .tail)
 
-    each-known : (w : ℕ) (ws : List ℕ) → w < 2 ^ curves → ((t : ℕ) → t < length ws → getD ws t 0 < 2 ^ curves) → (t : ℕ) → t < suc (length ws) → getD (w ∷ ws) t 0 < 2 ^ curves
+    each-known : (w : ℕ) (ws : List ℕ) → w < 2 ^ curves → ((t : ℕ) → t < length ws → getD ws t 0 < 2 ^ curves) → (t : ℕ) → t < suc (length ws)
+        → getD (w ∷ ws) t 0 < 2 ^ curves
     each-known w ws h r zero l = h
     each-known w ws h r (suc t) l = r t (omega arith)
 
@@ -124,7 +130,8 @@ unfolding someTests
 job-found h bs rest g ok some bytes r none =
     rw (r .value)
     (job-written h (r .wants) bs ok (ltb-true 0 (h .tests) (demand-true _ 5 0 some)) (r .count) (r .known)
-    (bytes ∙ ap (λ (l : List ℕ). headBytes (valuesOf h) ++ l) (r .bytes ∙ ap (λ (l : List ℕ). recordBytes (r .wants) ++ l) none ∙ append-nil (recordBytes (r .wants)))))
+    (bytes ∙ ap (λ (l : List ℕ). headBytes (valuesOf h) ++ l)
+    (r .bytes ∙ ap (λ (l : List ℕ). recordBytes (r .wants) ++ l) none ∙ append-nil (recordBytes (r .wants)))))
 
 -- BYTES THAT READ AS A JOB are those that are written for it
 pub job-read : (bs : List ℕ) (q : Request) → Bytes bs → readBytes bs ≡ done q → writeJob (q .head .method) (jobIn q) (length bs) ≡ done bs
@@ -135,7 +142,8 @@ job-read bs q all e =
     let h = x .0 .value in
     let s = both-done (someTests (h .tests)) _ q (x .2) in
     let y = bind-done (readRecords (h .rig .curves) (h .tests) [] (x .0 .next) (x .0 .rest)) _ q (s .1) in
-    let R : RecordsRead (h .rig .curves) (h .tests) [] (x .0 .rest) (y .0) = records-read (h .rig .curves) (h .tests) (x .0 .next) [] (x .0 .rest) (y .0) (H .1) (y .1) in
+    let R : RecordsRead (h .rig .curves) (h .tests) [] (x .0 .rest) (y .0) =
+    records-read (h .rig .curves) (h .tests) (x .0 .next) [] (x .0 .rest) (y .0) (H .1) (y .1) in
     let z = both-done (atEnd 6 (y .0 .next) (y .0 .rest)) (done (record { head = h; wants = y .0 .value })) q (y .2) in
     subst (λ (q : Request). writeJob (q .head .method) (jobIn q) (length bs) ≡ done bs) (done-same (z .1))
     (job-found h bs (x .0 .rest) (y .0) (head-range bs (x .0) (x .1)) (s .0) (H .0) R (end-none 6 (y .0 .next) (y .0 .rest) (z .0)))

@@ -12,7 +12,8 @@ use Rattle.job.specs.Refusal.{Outcome, done, refused, _>>_, mapped, demand, roo
 use Rattle.job.specs.Handed.{jobKnownBy}
 use Rattle.job_bytes.specs.declared.fields.Field.{Field}
 use Rattle.job_bytes.specs.SetBytes.{setBytes}
-use Rattle.job_bytes.specs.JobBytes.{Request, request, fields, valuesOf, numberBytes, headBytes, recordBytes, jobBytes, writeJob, writeJobAnswer, writeJobBuffer}
+use Rattle.job_bytes.specs.JobBytes.{Request, request, fields, valuesOf, numberBytes, headBytes, recordBytes, jobBytes, writeJob, writeJobAnswer}
+use Rattle.job_bytes.specs.JobBytes.{writeJobBuffer}
 use Rattle.job.specs.Words.{Job}
 use Rattle.job_bytes.proofs.HeadRoundTrip.{fieldsMap, fieldsBytes, head-bytes, map-lt}
 use Rattle.job_bytes.proofs.Heads.{rows}
@@ -49,7 +50,8 @@ module _ (vs : List ℕ) (j : ℕ) (f : Field) (row : drop j fields ≡ f ∷ dr
     stands-bytes = rw (row, drop-cons vs j 0 more, add-one j, ne-eqb (getD vs j 0) (f .absent) stands) refl
 
     pub stands-long : length (bytesFrom vs j) ≡ f .width + length (bytesFrom vs (j + 1))
-    stands-long = ap length stands-bytes ∙ length-append (numberBytes (f .width) (getD vs j 0)) (bytesFrom vs (j + 1)) ∙ rw (number-length (f .width) (getD vs j 0)) refl
+    stands-long =
+        ap length stands-bytes ∙ length-append (numberBytes (f .width) (getD vs j 0)) (bytesFrom vs (j + 1)) ∙ rw (number-length (f .width) (getD vs j 0)) refl
 
 pub map-small : (vs : List ℕ) (j : ℕ) → mapFrom vs j < 128
 map-small vs j = omega (arith, map-lt (drop j fields) (drop j vs), pow-mono less)

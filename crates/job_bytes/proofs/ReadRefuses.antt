@@ -24,7 +24,8 @@ number : (w i : ℕ) (bs : List ℕ) → Refuses P (readNumber w i bs)
 unfolding readNumber
 number zero i bs = tt
 number (suc w) i bs =
-    refuses-bind P (byteAt 1 i bs) _ (byte 1 i bs (omega arith, omega arith)) (λ b e. refuses-bind P (readNumber w (b .next) (b .rest)) _ (number w (b .next) (b .rest)) (λ r e. tt))
+    refuses-bind P (byteAt 1 i bs) _ (byte 1 i bs (omega arith, omega arith))
+    (λ b e. refuses-bind P (readNumber w (b .next) (b .rest)) _ (number w (b .next) (b .rest)) (λ r e. tt))
 
 field : (f : Field) (d i : ℕ) (bs : List ℕ) → Refuses P (readField f d i bs)
 unfolding readField
@@ -35,13 +36,15 @@ field f (suc d) i bs =
 all-fields : (fs : List Field) (map : ℕ) (values : List ℕ) (i : ℕ) (bs : List ℕ) → Refuses P (readFields fs map values i bs)
 unfolding readFields
 all-fields [] map values i bs = tt
-all-fields (f ∷ fs) map values i bs = refuses-bind P _ _ (field f (map % 2) i bs) (λ v e. all-fields fs (map / 2) (values ++ (v .value ∷ [])) (v .next) (v .rest))
+all-fields (f ∷ fs) map values i bs =
+    refuses-bind P _ _ (field f (map % 2) i bs) (λ v e. all-fields fs (map / 2) (values ++ (v .value ∷ [])) (v .next) (v .rest))
 
 head : (bs : List ℕ) → Refuses P (readHead bs)
 unfolding readHead
 head bs =
     refuses-bind P (byteAt 1 0 bs) _ (byte 1 0 bs (omega arith, omega arith))
-    (λ m e. refuses-both P _ _ (refuses-demand P _ 2 0 (omega arith, omega arith)) (refuses-bind P _ _ (all-fields fields (m .value) [] (m .next) (m .rest)) (λ r e. tt)))
+    (λ m e. refuses-both P _ _ (refuses-demand P _ 2 0 (omega arith, omega arith))
+    (refuses-bind P _ _ (all-fields fields (m .value) [] (m .next) (m .rest)) (λ r e. tt)))
 
 module _ (curves : ℕ) where
   group : (d j i : ℕ) (bs : List ℕ) → Refuses P (readGroup 1 3 4 curves d j i bs)
@@ -49,7 +52,8 @@ module _ (curves : ℕ) where
   group zero j i bs = tt
   group (suc d) j i bs =
       refuses-bind P (byteAt 1 i bs) _ (byte 1 i bs (omega arith, omega arith))
-      (λ b e. refuses-both P _ _ (refuses-demand P _ 3 i (omega arith, omega arith)) (refuses-both P _ _ (refuses-demand P _ 4 i (omega arith, omega arith)) tt))
+      (λ b e. refuses-both P _ _ (refuses-demand P _ 3 i (omega arith, omega arith))
+      (refuses-both P _ _ (refuses-demand P _ 4 i (omega arith, omega arith)) tt))
 
   groups : (k j map s i : ℕ) (bs : List ℕ) → Refuses P (readGroups 1 3 4 curves k j map s i bs)
   unfolding readGroups

@@ -46,7 +46,8 @@ module _ (job : List ℕ) (curves n t i : ℕ) (wants : List ℕ) (more : t < n)
     unfolding _>>=_
     record-fault k f e = record-next curves n t wants i (drop i job) more ∙ rw (record-groups, e) refl
 
-    pub record-read : (s u : ℕ) → groups ≡ done (got s (i + u) (drop u bs)) → records ≡ readRecords curves (n - (t + 1)) (wants ++ (s ∷ [])) (i + u) (drop (i + u) job)
+    pub record-read : (s u : ℕ) → groups ≡ done (got s (i + u) (drop u bs))
+        → records ≡ readRecords curves (n - (t + 1)) (wants ++ (s ∷ [])) (i + u) (drop (i + u) job)
     unfolding _>>=_
     record-read s u e = record-next curves n t wants i (drop i job) more ∙ rw (record-groups, e, part, drop-drop u i job) refl
 
@@ -110,8 +111,10 @@ module _ (bs : List ℕ) (h : Head) (n : ℕ) (head : readHead bs ≡ done (got 
       whole-read l = to-end ∙ rw (drop-of-length-le bs l) refl
 
 -- what `read_records` promises gives the records' reading whole
-pub records-got : (bs : List ℕ) (curves k i e : ℕ) (sets : List ℕ) → i ≤ length bs → mapped (λ (g : Got (List ℕ)). g .next) (readRecords curves k [] i (drop i bs)) ≡ done e
-    → ((g : Got (List ℕ)) → readRecords curves k [] i (drop i bs) ≡ done g → sets ≡ g .value) → readRecords curves k [] i (drop i bs) ≡ done (got sets e (drop e bs))
+pub records-got : (bs : List ℕ) (curves k i e : ℕ) (sets : List ℕ) → i ≤ length bs
+    → mapped (λ (g : Got (List ℕ)). g .next) (readRecords curves k [] i (drop i bs)) ≡ done e
+    → ((g : Got (List ℕ)) → readRecords curves k [] i (drop i bs) ≡ done g → sets ≡ g .value)
+    → readRecords curves k [] i (drop i bs) ≡ done (got sets e (drop e bs))
 records-got bs curves k i e sets l p f =
     let x = mapped-done (λ (g : Got (List ℕ)). g .next) (readRecords curves k [] i (drop i bs)) e p in
     let s = span-done (subst (Spans (9 * k) i bs) (x .1) (records-span bs curves k [] i l)) in

@@ -25,12 +25,14 @@ use Rattle.job_bytes.proofs.Encoding.{stands-le}
 shift-suc : (t j : ℕ) → t * 2 ^ (8 * suc j) ≡ 256 * t * 2 ^ (8 * j)
 shift-suc t j =
     let e : 8 * suc j ≡ 8 * j + 8 = omega arith in
-    rw (e, pow-add 2 (8 * j) 8) (ap (λ (x : ℕ). t * x) (mul-comm (2 ^ (8 * j)) 256) ∙ sym (mul-assoc t 256 (2 ^ (8 * j))) ∙ ap (λ (x : ℕ). x * 2 ^ (8 * j)) (mul-comm t 256))
+    rw (e, pow-add 2 (8 * j) 8) (ap (λ (x : ℕ). t * x) (mul-comm (2 ^ (8 * j)) 256) ∙ sym (mul-assoc t 256 (2 ^ (8 * j)))
+    ∙ ap (λ (x : ℕ). x * 2 ^ (8 * j)) (mul-comm t 256))
 
 shift-split : (s j : ℕ) → s * 2 ^ (8 * j) ≡ s % 256 * 2 ^ (8 * j) + s / 256 * 2 ^ (8 * suc j)
 shift-split s j =
     let e : s ≡ s % 256 + 256 * (s / 256) = omega arith in
-    ap (λ (x : ℕ). x * 2 ^ (8 * j)) e ∙ add-mul (s % 256) (256 * (s / 256)) (2 ^ (8 * j)) ∙ ap (λ (x : ℕ). s % 256 * 2 ^ (8 * j) + x) (sym (shift-suc (s / 256) j))
+    ap (λ (x : ℕ). x * 2 ^ (8 * j)) e ∙ add-mul (s % 256) (256 * (s / 256)) (2 ^ (8 * j))
+    ∙ ap (λ (x : ℕ). s % 256 * 2 ^ (8 * j) + x) (sym (shift-suc (s / 256) j))
 
 room-suc : (s j b : ℕ) → s < 2 ^ (8 * j) → b < 256 → s + b * 2 ^ (8 * j) < 2 ^ (8 * suc j)
 room-suc s j b h l =
@@ -58,7 +60,8 @@ map-lt (suc k) s = omega (arith, map-lt k (s / 256), stands-le (s % 256))
 
 -- ---- written, then read
 module _ (owed empty unknown curves M : ℕ) where
-  read-back : (k j acc i s : ℕ) (rest : List ℕ) → ((m : ℕ) → m < k → bit (j + m) M ≡ bit m (groupMap k s)) → s < 2 ^ (8 * k) → s * 2 ^ (8 * j) < 2 ^ curves → acc < 2 ^ (8 * j)
+  read-back : (k j acc i s : ℕ) (rest : List ℕ) → ((m : ℕ) → m < k → bit (j + m) M ≡ bit m (groupMap k s)) → s < 2 ^ (8 * k) → s * 2 ^ (8 * j) < 2 ^ curves
+      → acc < 2 ^ (8 * j)
       → readGroups owed empty unknown curves k j M acc i (groupBytes k s ++ rest) ≡ done (got (acc + s * 2 ^ (8 * j)) (i + length (groupBytes k s)) rest)
   unfolding readGroups groupBytes readGroup byteAt groupOf stands _>>=_ _>>_ demand
   read-back zero j acc i s rest bits small known low =
@@ -86,7 +89,8 @@ module _ (owed empty unknown curves M : ℕ) where
       go : (b : ℕ) → s % 256 ≡ b
           → ((acc i s : ℕ) (rest : List ℕ) → ((m : ℕ) → m < k → bit (suc j + m) M ≡ bit m (groupMap k s)) → s < 2 ^ (8 * k)
           → s * 2 ^ (8 * suc j) < 2 ^ curves → acc < 2 ^ (8 * suc j)
-          → readGroups owed empty unknown curves k (suc j) M acc i (groupBytes k s ++ rest) ≡ done (got (acc + s * 2 ^ (8 * suc j)) (i + length (groupBytes k s)) rest))
+          → readGroups owed empty unknown curves k (suc j) M acc i (groupBytes k s ++ rest)
+          ≡ done (got (acc + s * 2 ^ (8 * suc j)) (i + length (groupBytes k s)) rest))
           → _>>=_ (readGroup owed empty unknown curves (bit j M) j i (groupOf b (groupBytes k t) ++ rest))
           (λ g. readGroups owed empty unknown curves k (suc j) M (acc ∪ g .value) (g .next) (g .rest))
           ≡ done (got (acc + s * 2 ^ (8 * j)) (i + length (groupOf b (groupBytes k t))) rest)
@@ -135,7 +139,8 @@ unfolding groupOf stands
 group-length zero l = omega arith
 group-length (suc b) l = omega arith
 
-module _ (curves M k j acc i b : ℕ) (bs : List ℕ) (g : Got ℕ) (byte : b < 256) (here : bit j M ≡ stands b) (own : acc < 2 ^ curves → acc + b * 2 ^ (8 * j) < 2 ^ curves) where
+module _ (curves M k j acc i b : ℕ) (bs : List ℕ) (g : Got ℕ) (byte : b < 256) (here : bit j M ≡ stands b)
+    (own : acc < 2 ^ curves → acc + b * 2 ^ (8 * j) < 2 ^ curves) where
   exact-suc : Exact curves M k (suc j) (acc + b * 2 ^ (8 * j)) (i + stands b) bs g → Exact curves M (suc k) j acc i (groupOf b bs) g
   unfolding groupBytes
   exact-suc e =
@@ -163,17 +168,30 @@ module _ (curves M k j acc i b : ℕ) (bs : List ℕ) (g : Got ℕ) (byte : b < 
           ap (λ (y : ℕ). bit y M) z ∙ e .bits m (omega arith) ∙ sym (map-next k (b + 256 * e .x) m ∙ ap (λ (y : ℕ). bit m (groupMap k y)) r)
 
 module _ (owed empty unknown curves M : ℕ) where
-  read-exact : (k j acc i : ℕ) (bs : List ℕ) (g : Got ℕ) → Bytes bs → acc < 2 ^ (8 * j) → readGroups owed empty unknown curves k j M acc i bs ≡ done g → Exact curves M k j acc i bs g
+  read-exact : (k j acc i : ℕ) (bs : List ℕ) (g : Got ℕ) → Bytes bs → acc < 2 ^ (8 * j) → readGroups owed empty unknown curves k j M acc i bs ≡ done g
+      → Exact curves M k j acc i bs g
   unfolding readGroups readGroup byteAt groupBytes stands groupOf _>>=_
   read-exact zero j acc i bs g all low e =
       let s : got acc i bs ≡ g = cc in
       subst (Exact curves M zero j acc i bs) s
-      (record { x = 0; small = omega arith; bytes = refl; value = omega arith; next = omega arith; bits = λ m l. absurd (omega arith); known = λ h. h; tail = all })
+      (record {
+        x = 0;
+        small = omega arith;
+        bytes = refl;
+        value = omega arith;
+        next = omega arith;
+        bits = λ m l. absurd (omega arith);
+        known = λ h. h;
+        tail
+            = all;
+      })
   read-exact (suc k) j acc i bs g all low e = go (bit j M) refl bs all e (λ acc i bs. read-exact k (suc j) acc i bs g)
     where
       go : (d : ℕ) → bit j M ≡ d → (bs : List ℕ) → Bytes bs
-          → _>>=_ (readGroup owed empty unknown curves d j i bs) (λ h. readGroups owed empty unknown curves k (suc j) M (acc ∪ h .value) (h .next) (h .rest)) ≡ done g
-          → ((acc i : ℕ) (bs : List ℕ) → Bytes bs → acc < 2 ^ (8 * suc j) → readGroups owed empty unknown curves k (suc j) M acc i bs ≡ done g → Exact curves M k (suc j) acc i bs g)
+          → _>>=_ (readGroup owed empty unknown curves d j i bs) (λ h. readGroups owed empty unknown curves k (suc j) M (acc ∪ h .value) (h .next) (h .rest))
+          ≡ done g
+          → ((acc i : ℕ) (bs : List ℕ) → Bytes bs → acc < 2 ^ (8 * suc j) → readGroups owed empty unknown curves k (suc j) M acc i bs ≡ done g
+          → Exact curves M k (suc j) acc i bs g)
           → Exact curves M (suc k) j acc i bs g
       go zero d bs all e ih =
           let z : acc + 0 * 2 ^ (8 * j) ≡ acc = omega arith in
@@ -183,7 +201,8 @@ module _ (owed empty unknown curves M : ℕ) where
       go (suc d) c [] all e ih = absurd (refused≢done e)
       go (suc d) c (b ∷ bs) all e ih =
           let f : Got ℕ → Outcome (Got ℕ) = λ h. readGroups owed empty unknown curves k (suc j) M (acc ∪ h .value) (h .next) (h .rest) in
-          let x = both-bind (demand (ltb 0 b) empty i) (_>>_ (demand (inside (b * 2 ^ (8 * j)) (allCurves curves)) unknown i) (done (got (b * 2 ^ (8 * j)) (suc i) bs))) f g e in
+          let x = both-bind (demand (ltb 0 b) empty i)
+          (_>>_ (demand (inside (b * 2 ^ (8 * j)) (allCurves curves)) unknown i) (done (got (b * 2 ^ (8 * j)) (suc i) bs))) f g e in
           let y = both-bind (demand (inside (b * 2 ^ (8 * j)) (allCurves curves)) unknown i) (done (got (b * 2 ^ (8 * j)) (suc i) bs)) f g (x .1) in
           taken b (ltb-true 0 b (demand-true (ltb 0 b) empty i (x .0))) (inside-below curves (b * 2 ^ (8 * j)) (demand-true _ unknown i (y .0))) all (y .1)
         where
@@ -205,7 +224,8 @@ pub record SetRead (curves M i : ℕ) (bs : List ℕ) (g : Got ℕ) : Type 0 whe
   pub known : g .value < 2 ^ curves
   pub tail : Bytes (g .rest)
 
-pub set-read : (owed empty unknown curves M i : ℕ) (bs : List ℕ) (g : Got ℕ) → M < 256 → Bytes bs → readGroups owed empty unknown curves 8 0 M 0 i bs ≡ done g → SetRead curves M i bs g
+pub set-read : (owed empty unknown curves M i : ℕ) (bs : List ℕ) (g : Got ℕ) → M < 256 → Bytes bs → readGroups owed empty unknown curves 8 0 M 0 i bs ≡ done g
+    → SetRead curves M i bs g
 set-read owed empty unknown curves M i bs g m all e =
     let r : Exact curves M 8 0 0 i bs g = read-exact owed empty unknown curves M 8 0 0 i bs g all (omega arith) e in
     let v : g .value ≡ r .x = omega (arith, r .value) in

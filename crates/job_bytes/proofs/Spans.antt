@@ -51,7 +51,8 @@ span-bind w v {i} {bs} f (ends g s) h =
 span-bind w v f (points k i p q) h = points k i (omega arith) q
 
 -- a test on the way
-pub span-test : {A : Type 0} {w i : ℕ} {bs : List ℕ} {o : Outcome (Got A)} (t : Bool) (k f : ℕ) → f ≤ i → i ≤ length bs → Spans w i bs o → Spans w i bs (_>>_ (demand t k f) o)
+pub span-test : {A : Type 0} {w i : ℕ} {bs : List ℕ} {o : Outcome (Got A)} (t : Bool) (k f : ℕ) → f ≤ i → i ≤ length bs → Spans w i bs o
+    → Spans w i bs (_>>_ (demand t k f) o)
 unfolding _>>_ demand
 span-test true k f l m s = s
 span-test false k f l m s = points k f (omega arith) (omega arith)
@@ -78,7 +79,9 @@ module _ (bs : List ℕ) where
     where
       go : Dec (length bs ≤ i) → Spans 1 i bs (byteAt o i (drop i bs))
       go (yes z) = subst (Spans 1 i bs) (sym (byte-none o i i bs z)) (points o i (omega arith) l)
-      go (no z) = subst (Spans 1 i bs) (sym (byte-there o i i bs (omega arith))) (ends _ (record { after = omega arith; most = omega arith; within = omega arith; behind = refl }))
+      go (no z) =
+          subst (Spans 1 i bs) (sym (byte-there o i i bs (omega arith)))
+          (ends _ (record { after = omega arith; most = omega arith; within = omega arith; behind = refl }))
 
   number-span : (w i : ℕ) → i ≤ length bs → Spans w i bs (readNumber w i (drop i bs))
   unfolding readNumber

@@ -34,7 +34,8 @@ module _ (owed empty unknown curves map s a k j : ℕ) (bs : List ℕ) (below : 
   groupsHere = readGroups owed empty unknown curves (8 - j) j map s (a + k) (drop k bs)
 
   pub cons-here : groupsHere
-      ≡ _>>=_ (readGroup owed empty unknown curves (bit j map) j (a + k) (drop k bs)) (λ g. readGroups owed empty unknown curves (8 - (j + 1)) (j + 1) map (s ∪ g .value) (g .next) (g .rest))
+      ≡ _>>=_ (readGroup owed empty unknown curves (bit j map) j (a + k) (drop k bs))
+      (λ g. readGroups owed empty unknown curves (8 - (j + 1)) (j + 1) map (s ∪ g .value) (g .next) (g .rest))
   unfolding readGroups
   cons-here = let e : 8 - j ≡ suc (8 - (j + 1)) = omega arith in rw (e, add-one j) refl
 
@@ -44,7 +45,9 @@ groups-end owed empty unknown curves map s i bs = refl
 
 -- ---- one record of n
 module _ (curves n t : ℕ) (wants : List ℕ) (i : ℕ) (bs : List ℕ) where
-  pub record-next : t < n → readRecords curves (n - t) wants i bs ≡ _>>=_ (readRecord curves i bs) (λ r. readRecords curves (n - (t + 1)) (wants ++ (r .value ∷ [])) (r .next) (r .rest))
+  pub record-next : t < n
+      → readRecords curves (n - t) wants i bs ≡ _>>=_ (readRecord curves i bs)
+      (λ r. readRecords curves (n - (t + 1)) (wants ++ (r .value ∷ [])) (r .next) (r .rest))
   unfolding readRecords
   record-next h = let e : n - t ≡ suc (n - (t + 1)) = omega arith in rw e refl
 

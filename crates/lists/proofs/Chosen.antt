@@ -55,9 +55,21 @@ module _ (eligible : ℕ → Bool) (better : ℕ → ℕ → Bool) (ranked : Ran
         first = λ c l h. ranked .more c n v r (b .best c l h);
       }
   turn n v true false e r b =
-      record { below = omega (arith, b .below); fair = b .fair; best = below-suc (λ c. eligible c ≡ true → better c v ≡ false) n (b .best) (λ h. r); first = b .first }
+      record {
+        below = omega (arith, b .below);
+        fair = b .fair;
+        best = below-suc (λ c. eligible c ≡ true → better c v ≡ false) n (b .best) (λ h. r);
+        first
+            = b .first;
+      }
   turn n v false t e r b =
-      record { below = omega (arith, b .below); fair = b .fair; best = below-suc (λ c. eligible c ≡ true → better c v ≡ false) n (b .best) (unfair e); first = b .first }
+      record {
+        below = omega (arith, b .below);
+        fair = b .fair;
+        best = below-suc (λ c. eligible c ≡ true → better c v ≡ false) n (b .best) (unfair e);
+        first
+            = b .first;
+      }
 
   chosen : (n : ℕ) (b : Found ℕ) → BestOf eligible better n b → BestOf eligible better (suc n) (choose eligible better n b)
   unfolding choose
@@ -82,4 +94,5 @@ unfolding bestOf
 best-skip fair better f b zero m h = let e : 0 + m ≡ m = omega arith in rw e refl
 best-skip fair better f b (suc k) m h =
     let e : suc k + m ≡ suc (k + m) = omega arith in
-    rw e (passed fair better (f (k + m)) (bestOf fair better f (k + m) b) (h (k + m) (omega arith) (omega arith)) ∙ best-skip fair better f b k m (λ c i l. h c i (omega arith)))
+    rw e (passed fair better (f (k + m)) (bestOf fair better f (k + m) b) (h (k + m) (omega arith) (omega arith))
+    ∙ best-skip fair better f b k m (λ c i l. h c i (omega arith)))

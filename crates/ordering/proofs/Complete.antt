@@ -17,7 +17,8 @@ use Rattle.job.proofs.Orders.{count-reverse, unlisted, uncounted, sum-count, Pa
 use Rattle.packages.specs.Tests.{upTo}
 use Rattle.packages.proofs.Listed.{upTo-order}
 use Rattle.packages.proofs.Rounds.{packages-order}
-use Rattle.ordering.specs.Methods.{appended, grown, bestUnlisted, neighbour, orElse, nextOf, smaller, cuthillMcKee, degree, reverseCuthillMcKee, reach, spanningTree, asListed, orderBy}
+use Rattle.ordering.specs.Methods.{appended, grown, bestUnlisted, neighbour, orElse, nextOf, smaller, cuthillMcKee, degree, reverseCuthillMcKee, reach}
+use Rattle.ordering.specs.Methods.{spanningTree, asListed, orderBy}
 
 -- ---- smaller and larger keys rank
 
@@ -85,7 +86,8 @@ full n ts p h = omega (arith, sum-count n ts (p .own), at-least n (λ t. count t
     at-least (suc n) f h = omega (arith, h 0 (omega arith), at-least n (λ k. f (suc k)) (λ k l. h (suc k) (omega arith)))
 
 module _ (n : ℕ) (next : List ℕ → Found ℕ) (fresh : (ts : List ℕ) → Fresh n ts (next ts)) where
-  appended-part : (k : ℕ) (ts : List ℕ) (b : Found ℕ) → Fresh n ts b → Part n ts → length ts + suc k ≡ n → Part n (appended ts b) × (length (appended ts b) + k ≡ n)
+  appended-part : (k : ℕ) (ts : List ℕ) (b : Found ℕ) → Fresh n ts b → Part n ts → length ts + suc k ≡ n
+      → Part n (appended ts b) × (length (appended ts b) + k ≡ n)
   unfolding appended
   appended-part k ts nobody f p e = absurd (omega (arith, full n ts p f))
   appended-part k ts (found t) f p e = (part-one n t ts p (omega arith) (f .0) (uncounted t ts (f .1)), omega (arith, length-append ts (t ∷ [])))
@@ -109,7 +111,8 @@ module _ (wants degrees : List ℕ) where
   pub fresh-next : (ts ss : List ℕ) → Fresh (length wants) ts (nextOf wants degrees ts ss)
   unfolding nextOf neighbour
   fresh-next ts [] = best-remaining (smaller wants degrees) (ranked-least (λ t. getD degrees t 0)) (length wants) ts
-  fresh-next ts (s ∷ ss) = best-or-else _ (smaller wants degrees) (ranked-least (λ t. getD degrees t 0)) (length wants) ts (nextOf wants degrees ts ss) (fresh-next ts ss)
+  fresh-next ts (s ∷ ss) =
+      best-or-else _ (smaller wants degrees) (ranked-least (λ t. getD degrees t 0)) (length wants) ts (nextOf wants degrees ts ss) (fresh-next ts ss)
 
   pub cuthill-order : IsOrder (length wants) (cuthillMcKee wants degrees)
   unfolding cuthillMcKee
@@ -126,7 +129,8 @@ reverse-cuthill-mckee wants =
 
 spanning-tree : (wants : List ℕ) → IsOrder (length wants) (spanningTree wants)
 unfolding spanningTree
-spanning-tree wants = grown-order (length wants) _ (λ ts. best-remaining (λ s t. ltb (reach wants ts t) (reach wants ts s)) (ranked-most (reach wants ts)) (length wants) ts)
+spanning-tree wants =
+    grown-order (length wants) _ (λ ts. best-remaining (λ s t. ltb (reach wants ts t) (reach wants ts s)) (ranked-most (reach wants ts)) (length wants) ts)
 
 -- ---- the methods by their numbers
 

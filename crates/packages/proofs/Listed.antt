@@ -20,14 +20,16 @@ pub upTo-more : (n : ℕ) (old : List ℕ) → n < length old → set (overwritt
 unfolding upTo
 upTo-more n old h =
     rw (add-one n)
-    (subst (λ (i : ℕ). set (overwritten (upTo n) old) i n ≡ overwritten (upTo n ++ (n ∷ [])) old) (length-upTo n) (overwritten-more (upTo n) old n (omega (arith, length-upTo n))))
+    (subst (λ (i : ℕ). set (overwritten (upTo n) old) i n ≡ overwritten (upTo n ++ (n ∷ [])) old) (length-upTo n)
+    (overwritten-more (upTo n) old n (omega (arith, length-upTo n))))
 
 upTo-part : (n : ℕ) → Part n (upTo n)
 unfolding upTo
 upTo-part zero = part-none zero
 upTo-part (suc n) =
     let p = upTo-part n in
-    part-one (suc n) n (upTo n) (record { short = omega (arith, p .short); most = p .most; own = λ t h. p .own t (omega arith) }) (omega (arith, length-upTo n)) (omega arith) (p .own n (omega arith))
+    part-one (suc n) n (upTo n) (record { short = omega (arith, p .short); most = p .most; own = λ t h. p .own t (omega arith) })
+    (omega (arith, length-upTo n)) (omega arith) (p .own n (omega arith))
 
 pub upTo-order : (n : ℕ) → IsOrder n (upTo n)
 upTo-order n = whole-part n (upTo n) (upTo-part n) (omega (arith, length-upTo n))

@@ -4,7 +4,8 @@ use mathlib.Core.List.{List, [], _∷_, _++_, map, reverse, reverse-append, reve
 use Prim.Native.Nat.{ℕ, zero, suc, _+_, _-_, _≤_, _<_}
 use native.Mathlib.Omega.{arith}
 use native.Mathlib.Numerals.{add-one}
-use lib.ListN.{length, getD, take, drop, set, length-append, length-take, length-drop, length-reverse, length-set, replicate, drop-of-length-le, take-append-drop}
+use lib.ListN.{length, getD, take, drop, set, length-append, length-take, length-drop, length-reverse, length-set, replicate, drop-of-length-le}
+use lib.ListN.{take-append-drop}
 use lib.Seq.{take-at, drop-at, set-at, getD-at, take-suc, paste, paste-suc, paste-zero, length-paste, take-paste, take-take, take-all}
 use lib.Seq.{getD-drop, getD-append-add, getD-take, getD-set-other, set-split, split-at, length-take-le}
 use Rattle.packages.specs.Packages.{flat}
@@ -52,7 +53,8 @@ middle-turn xs wanted i j d m h e =
     let q = s .1 in
     let y = s .2 in
     let z = m .behind in
-    let here : xs ≡ p ++ (x ∷ (q ++ (y ∷ z))) = m .present ∙ ap (λ (l : List ℕ). p ++ (l ++ z)) (s .3) ∙ ap (λ (l : List ℕ). p ++ (x ∷ l)) (append-assoc q (y ∷ []) z) in
+    let here : xs ≡ p ++ (x ∷ (q ++ (y ∷ z))) =
+    m .present ∙ ap (λ (l : List ℕ). p ++ (l ++ z)) (s .3) ∙ ap (λ (l : List ℕ). p ++ (x ∷ l)) (append-assoc q (y ∷ []) z) in
     let split : (a : ℕ) → p ++ (a ∷ (q ++ (y ∷ z))) ≡ (p ++ (a ∷ q)) ++ (y ∷ z) = λ a. sym (append-assoc p (a ∷ q) (y ∷ z)) in
     let at : (a : ℕ) → length (p ++ (a ∷ q)) ≡ j =
     λ a. omega (arith, length-append p (a ∷ q), m .at, m .long, ap length (s .3), length-append q (y ∷ [])) in
@@ -87,7 +89,8 @@ tail-lent xs a = take-all (length xs - a) (drop a xs) (omega (arith, length-drop
 
 pub tail-back : (xs r : List ℕ) (a : ℕ) → take a xs ++ (r ++ drop (length xs - a) (drop a xs)) ≡ take a xs ++ r
 tail-back xs r a =
-    ap (λ (l : List ℕ). take a xs ++ (r ++ l)) (drop-of-length-le (drop a xs) {i = length xs - a} (omega (arith, length-drop a xs))) ∙ ap (λ (l : List ℕ). take a xs ++ l) (append-nil r)
+    ap (λ (l : List ℕ). take a xs ++ (r ++ l)) (drop-of-length-le (drop a xs) {i = length xs - a} (omega (arith, length-drop a xs)))
+    ∙ ap (λ (l : List ℕ). take a xs ++ l) (append-nil r)
 
 -- the three reversals where each part is lent and put back: ys is the list after the first
 pub exchanged : (xs ys y z : List ℕ) (k : ℕ) → k ≤ length xs → y ≡ reverse (take k xs) → ys ≡ y ++ drop k xs → z ≡ reverse (take (length ys - k) (drop k ys))

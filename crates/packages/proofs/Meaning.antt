@@ -134,7 +134,8 @@ module _ (fits : ℕ → Bool) (cs : List ℕ) where
   top (suc n) h =
       let t = top n (omega arith) in
       let row = row-found fits cs n (omega arith) in
-      next-row n (t .0) (t .1) (row .0) (t .2) (row .1) (row-best fits cs n (row .0) (omega arith) (row .1)) (decLt (score cs (t .0) (t .1)) (score cs n (row .0)))
+      next-row n (t .0) (t .1) (row .0) (t .2) (row .1) (row-best fits cs n (row .0) (omega arith) (row .1))
+      (decLt (score cs (t .0) (t .1)) (score cs n (row .0)))
 
   abbrev Verdict : Found Pair → Type 0
   Verdict nobody = (r : Pair) → ¬ Candidate fits cs r
@@ -244,7 +245,16 @@ module _ (wants : List ℕ) (places : ℕ) where
             absurd (omega (arith, size-mono next (next ∪ c) (⊆-∪ next c), ap size (with-next m)))
 
   run : (u : ℕ) (ts : List ℕ) → size u ≤ places → (k : ℕ) × Run u ts k
-  run u [] h = (0, record { within = omega arith; fits = omega (arith, ap size (none-more u [])); longest = λ m l f. l; curves = run-none wants places u [] refl ∙ none-more u [] })
+  run u [] h = (
+    0,
+    record {
+      within = omega arith;
+      fits = omega (arith, ap size (none-more u []));
+      longest = λ m l f. l;
+      curves = run-none wants places u [] refl
+          ∙ none-more u [];
+    },
+  )
   run u (t ∷ ts) h = go (decLe (size (next u t ts)) places) (run (next u t ts) ts)
     where
       go : Dec (size (next u t ts) ≤ places) → (size (next u t ts) ≤ places → (k : ℕ) × Run (next u t ts) ts k) → (k : ℕ) × Run u (t ∷ ts) k
@@ -276,7 +286,8 @@ module _ (wants : List ℕ) (places : ℕ) where
   from-end ts k =
       let n : length (reverse (drop k ts)) ≡ length ts - k = length-reverse (drop k ts) ∙ length-drop k ts in
       let e : reverse ts ≡ reverse (drop k ts) ++ reverse (take k ts) = ap reverse (sym (take-append-drop k ts)) ∙ reverse-append (take k ts) (drop k ts) in
-      ap (curvesOf wants) (ap (take (length ts - k)) e ∙ take-at (reverse (drop k ts)) (reverse (take k ts)) (length ts - k) n) ∙ curves-reverse wants (drop k ts)
+      ap (curvesOf wants) (ap (take (length ts - k)) e ∙ take-at (reverse (drop k ts)) (reverse (take k ts)) (length ts - k) n)
+      ∙ curves-reverse wants (drop k ts)
 
   -- THE TAIL IS THE LONGEST CLOSING RUN
   pub tail-exact : (ts : List ℕ) → (k : ℕ) × LongestClosing wants places ts k × (tail wants places ts ≡ curvesOf wants (drop k ts))
@@ -285,7 +296,8 @@ module _ (wants : List ℕ) (places : ℕ) where
       let n = length-reverse ts in
       let k = length ts - h .0 in
       let e : h .0 ≡ length ts - k = omega (arith, h .1 .within, n) in
-      let same : curvesOf wants (take (h .0) (reverse ts)) ≡ curvesOf wants (drop k ts) = ap (λ (m : ℕ). curvesOf wants (take m (reverse ts))) e ∙ from-end ts k in (
+      let same : curvesOf wants (take (h .0) (reverse ts)) ≡ curvesOf wants (drop k ts) =
+      ap (λ (m : ℕ). curvesOf wants (take m (reverse ts))) e ∙ from-end ts k in (
         k,
         record {
           fits = omega (arith, h .1 .fits, ap size same);
@@ -325,7 +337,16 @@ module _ (ms : List ℕ) (os : List (List ℕ)) where
   BestTry n x = (i : ℕ) × Earliest ms n i × (x ≡ tryAt i)
 
   first-try : BestTry 1 (tryAt 0)
-  first-try = (0, record { within = omega arith; most = λ j l. let e : j ≡ 0 = omega arith in omega (arith, ap (λ (k : ℕ). getD ms k 0) e); earliest = λ j l. absurd (omega arith) }, refl)
+  first-try = (
+    0,
+    record {
+      within = omega arith;
+      most = λ j l. let e : j
+          ≡ 0 = omega arith in omega (arith, ap (λ (k : ℕ). getD ms k 0) e);
+      earliest = λ j l. absurd (omega arith);
+    },
+    refl,
+  )
 
   next-try : (n : ℕ) (x : Try) → BestTry n x → BestTry (suc n) (x orMore tryAt n)
   unfolding _orMore_ pickTry

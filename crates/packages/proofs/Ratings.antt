@@ -31,7 +31,8 @@ module _ (fits : ℕ → Bool) (cs rs : List ℕ) (rated : (k : ℕ) → k < len
   low s z (suc i) l h =
       let p = low s z i (omega arith) (λ k m. h k (omega arith)) in
       let q = row-found fits cs i (omega arith) in
-      more s i (p .0) (p .1) (q .0) (p .2) (p .3) (q .1) (omega (arith, rated-score fits cs i (getD rs i 0) (omega arith) (rated i (omega arith)) (q .0) (q .1), h i (omega arith)))
+      more s i (p .0) (p .1) (q .0) (p .2) (p .3) (q .1)
+      (omega (arith, rated-score fits cs i (getD rs i 0) (omega arith) (rated i (omega arith)) (q .0) (q .1), h i (omega arith)))
       (decLt (score cs (p .0) (p .1)) (score cs i (q .0)))
 
   -- every score is 0
@@ -41,7 +42,8 @@ module _ (fits : ℕ → Bool) (cs rs : List ℕ) (rated : (k : ℕ) → k < len
       p .2 ∙ none-by-score cs (p .0) (p .1) (omega (arith, p .3))
 
   -- f is the first row with the highest score, and its partner is known
-  module _ (f : ℕ) (within : f < length cs) (most : (k : ℕ) → getD rs k 0 / 256 ≤ getD rs f 0 / 256) (earliest : (k : ℕ) → k < f → getD rs k 0 / 256 < getD rs f 0 / 256)
+  module _ (f : ℕ) (within : f < length cs) (most : (k : ℕ) → getD rs k 0 / 256 ≤ getD rs f 0 / 256)
+      (earliest : (k : ℕ) → k < f → getD rs k 0 / 256 < getD rs f 0 / 256)
       (known : 0 < getD rs f 0 % 256) where
     row : rowTo fits cs f (length cs) ≡ chosen f (getD rs f 0 % 256)
     row = rated f within .own known .0 ∙ sym (chosen-some f (getD rs f 0 % 256) known)

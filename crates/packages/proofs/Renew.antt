@@ -62,8 +62,11 @@ module _ (fits : ℕ → Bool) (cs : List ℕ) (k : ℕ) where
 
   rows : (d : ℕ) → Row (k + 1 + d)
   rows zero =
-      let e : k + 1 + 0 ≡ k + 1 = omega arith in
-      (0, rw e (row-start fits cs k), record { own = λ z. absurd (omega arith); most = λ i m n g. absurd (omega arith); first = λ i m n g. absurd (omega arith) })
+      let e : k + 1 + 0 ≡ k + 1 = omega arith in (
+        0,
+        rw e (row-start fits cs k),
+        record { own = λ z. absurd (omega arith); most = λ i m n g. absurd (omega arith); first = λ i m n g. absurd (omega arith) },
+      )
   rows (suc d) =
       let j = k + 1 + d in
       let e : k + 1 + suc d ≡ j + 1 = omega arith in
@@ -184,7 +187,8 @@ entry-out ds ls j within made x = go (decLt x j)
     go (no h) =
         let e : x ≡ length (take j ls) + (x - j) = omega (arith, n) in
         let f : suc j + (x - j) ≡ oldPlace j x = omega (arith, old-high j x (omega arith)) in
-        ap (λ (m : List ℕ). getD m x 0) made ∙ ap (λ (m : ℕ). getD (take j ls ++ drop (suc j) ls) m 0) e ∙ getD-append-add (take j ls) (drop (suc j) ls) (x - j) 0
+        ap (λ (m : List ℕ). getD m x 0) made ∙ ap (λ (m : ℕ). getD (take j ls ++ drop (suc j) ls) m 0) e
+        ∙ getD-append-add (take j ls) (drop (suc j) ls) (x - j) 0
         ∙ getD-drop (suc j) ls (x - j) 0 ∙ ap (λ (m : ℕ). getD ls m 0) f
 
 module _ (fits : ℕ → Bool) (cs ds : List ℕ) (i j : ℕ) (before : i < j) (long : length cs ≡ suc (length ds)) (within : j ≤ length ds)
@@ -227,14 +231,20 @@ module _ (fits : ℕ → Bool) (cs ds : List ℕ) (i j : ℕ) (before : i < j) (
 
       most-new : (x : ℕ) → (x ≡ i → ⊥) → k < x → x < length ds → fits (getD ds k 0 ∪ getD ds x 0) ≡ true → score ds k x ≤ score ds k (newPlace j p)
       most-new x h l m f =
-          omega (arith, score-is x h (omega arith), score-new, best .most (oldPlace j x) (old-less j k x l) (omega (arith, old-within j x (length ds) m within)) (sym (fits-is x h) ∙ f))
+          omega (
+            arith,
+            score-is x h (omega arith),
+            score-new,
+            best .most (oldPlace j x) (old-less j k x l) (omega (arith, old-within j x (length ds) m within)) (sym (fits-is x h) ∙ f),
+          )
 
       first-new : (x : ℕ) → (x ≡ i → ⊥) → k < x → x < newPlace j p → fits (getD ds k 0 ∪ getD ds x 0) ≡ true → score ds k x < score ds k (newPlace j p)
       first-new x h l m f =
           omega (arith, score-is x h (omega arith), score-new, best .first (oldPlace j x) (old-less j k x l) (old-below j x p stays m) (sym (fits-is x h) ∙ f))
 
       -- the joined package does not come in question, or is no better: the best stays
-      pub stay : (k < i → fits (getD ds k 0 ∪ getD ds i 0) ≡ true → (score ds k i ≤ score ds k (newPlace j p)) × (i < newPlace j p → score ds k i < score ds k (newPlace j p)))
+      pub stay : (k < i → fits (getD ds k 0 ∪ getD ds i 0) ≡ true
+          → (score ds k i ≤ score ds k (newPlace j p)) × (i < newPlace j p → score ds k i < score ds k (newPlace j p)))
           → Best fits ds k (length ds) (newPlace j p)
       stay worse =
           record {
@@ -248,7 +258,8 @@ module _ (fits : ℕ → Bool) (cs ds : List ℕ) (i j : ℕ) (before : i < j) (
           at-most x (no e) l m f = most-new x e l m f
 
           below : (x : ℕ) → Dec (x ≡ i) → k < x → x < newPlace j p → fits (getD ds k 0 ∪ getD ds x 0) ≡ true → score ds k x < score ds k (newPlace j p)
-          below x (yes e) l m f = omega (arith, ap (score ds k) e, worse (omega arith) (ap (λ (y : ℕ). fits (getD ds k 0 ∪ getD ds y 0)) (sym e) ∙ f) .1 (omega arith))
+          below x (yes e) l m f =
+              omega (arith, ap (score ds k) e, worse (omega arith) (ap (λ (y : ℕ). fits (getD ds k 0 ∪ getD ds y 0)) (sym e) ∙ f) .1 (omega arith))
           below x (no e) l m f = first-new x e l m f
 
 -- ---- ratings
@@ -372,7 +383,8 @@ module _ (fits : ℕ → Bool) (cs ds : List ℕ) (i j : ℕ) (before : i < j) (
             let q = kept .partner z in
             omega (
               arith,
-              first-new fits cs ds i j before long within made k other (r % 256) (old-best (q .0)) (q .3) (λ _. q .2) x (λ e. omega arith) m (omega (arith, later, q .1)) g,
+              first-new fits cs ds i j before long within made k other (r % 256) (old-best (q .0)) (q .3) (λ _. q .2) x (λ e. omega arith) m
+                  (omega (arith, later, q .1)) g,
               new-score z,
               a,
             )
@@ -385,7 +397,8 @@ module _ (fits : ℕ → Bool) (cs ds : List ℕ) (i j : ℕ) (before : i < j) (
               first = λ x m n g. below x (decLt (t / 256) (score ds k i)) m n g;
             }
 
--- the ratings of all rows: rs before the join, xs without the entry j and with the joined package's own, ys with those before it renewed, zs with those behind it too
+-- the ratings of all rows: rs before the join, xs without the entry j and with the joined package's own, ys with those before it renewed, zs with those
+-- behind it too
 module _ (fits : ℕ → Bool) (cs ds rs xs ys zs : List ℕ) (i j own : ℕ) (before : i < j) (long : length cs ≡ suc (length ds)) (within : j ≤ length ds)
     (made : ds ≡ take j (set cs i (getD cs i 0 ∪ getD cs j 0)) ++ drop (suc j) (set cs i (getD cs i 0 ∪ getD cs j 0)))
     (as-long : length rs ≡ suc (length ds)) (still : length ys ≡ length rs)

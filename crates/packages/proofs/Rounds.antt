@@ -15,7 +15,8 @@ use Rattle.lists.specs.Choice.{Found, nobody, found, keep, choose, bestOf}
 use Rattle.job.specs.Words.{count, IsOrder}
 use Rattle.job.proofs.Orders.{count-append, count-reverse, order-length}
 use Rattle.packages.specs.Tests.{upTo}
-use Rattle.packages.specs.Packages.{Try, try, pickTry, _orMore_, flat, Pair, curvesOf, eligible, closer, bestPair, without, joined, closest, onPair, joinAll, flipped, secondRound, packages}
+use Rattle.packages.specs.Packages.{Try, try, pickTry, _orMore_, flat, Pair, curvesOf, eligible, closer, bestPair, without, joined, closest, onPair}
+use Rattle.packages.specs.Packages.{joinAll, flipped, secondRound, packages}
 use Rattle.packages.proofs.Listed.{upTo-order}
 
 -- ---- what is found
@@ -39,7 +40,8 @@ module _ {A : Type 0} (fair : A → Bool) (better : A → A → Bool) where
   choose-good P x nobody h g = keep-good P (fair x) x nobody h g
   choose-good P x (found y) h g = keep-good P (fair x && better x y) x (found y) (λ e. h (both (fair x) (better x y) e .0)) g
 
-  best-good : (P : A → Type 0) (f : ℕ → A) (n : ℕ) (y : Found A) → ((j : ℕ) → j < n → fair (f j) ≡ true → P (f j)) → Good P y → Good P (bestOf fair better f n y)
+  best-good : (P : A → Type 0) (f : ℕ → A) (n : ℕ) (y : Found A) → ((j : ℕ) → j < n → fair (f j) ≡ true → P (f j)) → Good P y
+      → Good P (bestOf fair better f n y)
   unfolding bestOf
   best-good P f zero y h g = g
   best-good P f (suc n) y h g = choose-good P (f n) (bestOf fair better f n y) (h n (omega arith)) (best-good P f n y (λ j l. h j (omega arith)) g)
@@ -116,7 +118,13 @@ module _ (t : ℕ) where
   total-without : (i : ℕ) (ps : List (List ℕ)) → i < length ps → total (without i ps) + count t (getD ps i []) ≡ total ps
   unfolding total without
   total-without i ps l =
-      omega (arith, count-flat t (take i ps) (drop (suc i) ps), count-flat t (take i ps) (getD ps i [] ∷ drop (suc i) ps), total-at (getD ps i []) (drop (suc i) ps), ap total (split-at ps i [] l))
+      omega (
+        arith,
+        count-flat t (take i ps) (drop (suc i) ps),
+        count-flat t (take i ps) (getD ps i [] ∷ drop (suc i) ps),
+        total-at (getD ps i []) (drop (suc i) ps),
+        ap total (split-at ps i [] l),
+      )
 
   total-set : (i : ℕ) (p : List ℕ) (ps : List (List ℕ)) → i < length ps → total (set ps i p) + count t (getD ps i []) ≡ total ps + count t p
   unfolding total
@@ -163,7 +171,8 @@ length-joined join ps q h =
 -- ---- the rounds
 module _ (wants : List ℕ) (fits : ℕ → Bool) (join : List ℕ → List ℕ → List ℕ) where
   pub closest-good : (ps : List (List ℕ)) → Good (InOrder (length ps)) (closest wants fits join ps)
-  closest-good ps = subst (λ (n : ℕ). Good (InOrder n) (closest wants fits join ps)) (length-map ps (curvesOf wants)) (pair-good fits (map (curvesOf wants) ps) (length ps))
+  closest-good ps =
+      subst (λ (n : ℕ). Good (InOrder n) (closest wants fits join ps)) (length-map ps (curvesOf wants)) (pair-good fits (map (curvesOf wants) ps) (length ps))
 
   -- THE ROUND ENDS only where no pair is left
   pub round-ends : (k : ℕ) (ps : List (List ℕ)) → length ps ≤ k → closest wants fits join (joinAll wants fits join k ps) ≡ nobody
@@ -207,8 +216,10 @@ flipped-any wants places a b P p q r s = any-way P _ _ (any-way P _ _ (any-way P
 
 count-flipped : (wants : List ℕ) (places t : ℕ) (a b : List ℕ) → count t (flipped wants places a b) ≡ count t a + count t b
 count-flipped wants places t a b =
-    flipped-any wants places a b (λ (l : List ℕ). count t l ≡ count t a + count t b) (count-append t a b) (omega (arith, count-append t a (reverse b), count-reverse t b))
-    (omega (arith, count-append t (reverse a) b, count-reverse t a)) (omega (arith, count-append t (reverse a) (reverse b), count-reverse t a, count-reverse t b))
+    flipped-any wants places a b (λ (l : List ℕ). count t l ≡ count t a + count t b) (count-append t a b)
+    (omega (arith, count-append t a (reverse b), count-reverse t b))
+    (omega (arith, count-append t (reverse a) b, count-reverse t a))
+    (omega (arith, count-append t (reverse a) (reverse b), count-reverse t a, count-reverse t b))
 
 pub singles : (ts : List ℕ) → flat (map (λ t. t ∷ []) ts) ≡ ts
 unfolding flat
@@ -221,7 +232,8 @@ packages-order places wants = record { once = λ t l. same t ∙ upTo-order (len
     same : (t : ℕ) → count t (packages places wants) ≡ count t (upTo (length wants))
     same t =
         unfold packages in
-        (round-total wants (λ u. true) (flipped wants places) t (count-flipped wants places t) _ _ ∙ round-total wants (λ u. leb (size u) places) _++_ t (count-append t) _ _
+        (round-total wants (λ u. true) (flipped wants places) t (count-flipped wants places t) _ _
+        ∙ round-total wants (λ u. leb (size u) places) _++_ t (count-append t) _ _
         ∙ ap (count t) (singles (upTo (length wants))))
 
 pub packages-long : (places : ℕ) (wants : List ℕ) → length (packages places wants) ≡ length wants
@@ -239,5 +251,6 @@ one-left places wants ps = go (decLe 2 (length rest))
 
     go : Dec (2 ≤ length rest) → length rest ≤ 1
     go (yes l) =
-        absurd (subst Some none (pair-some (λ u. true) (map (curvesOf wants) rest) 0 1 (length rest) (omega arith) (omega (arith, length-map rest (curvesOf wants))) refl))
+        absurd (subst Some none (pair-some (λ u. true) (map (curvesOf wants) rest) 0 1 (length rest) (omega arith)
+        (omega (arith, length-map rest (curvesOf wants))) refl))
     go (no l) = omega arith

@@ -65,8 +65,10 @@ module _ (wants : List ℕ) (places : ℕ) (a b : List ℕ) (ha ta hb tb th tt h
       ∙ ap (λ (x : Try). x .order) (more-way two (record { common = ht; first = true; second = true }) a b)
       ∙ ap (λ (x : Try). (x orMore way (record { common = ht; first = true; second = true }) a b) .order)
       (ap (λ (m : Meeting). way m a b) q ∙ more-way one (record { common = hh; first = true; second = false }) a b)
-      ∙ ap (λ (x : Try). (x orMore way (record { common = hh; first = true; second = false }) a b orMore way (record { common = ht; first = true; second = true }) a b) .order)
-      (ap (λ (m : Meeting). way m a b) p ∙ more-way (record { common = th; first = false; second = false }) (record { common = tt; first = false; second = true }) a b)
+      ∙ ap (λ (x : Try). (x orMore way (record { common = hh; first = true; second = false }) a b orMore way
+      (record { common = ht; first = true; second = true }) a b) .order)
+      (ap (λ (m : Meeting). way m a b) p
+      ∙ more-way (record { common = th; first = false; second = false }) (record { common = tt; first = false; second = true }) a b)
       ∙ rw (first, second, third, fourth, head-a, tail-a, head-b, tail-b) refl)
 
 length-turned : (t : Bool) (l : List ℕ) → length (turned t l) ≡ length l
@@ -74,7 +76,8 @@ length-turned true l = length-reverse l
 length-turned false l = refl
 
 -- a part that holds the first package x, others y and the second package z: after the two reversals and the exchange of the others and the second
-module _ (f g : Bool) (p q r x y z one two three : List ℕ) (a b from : ℕ) (parts : p ≡ x ++ (y ++ z)) (first : length x ≡ a) (second : length z ≡ b) (start : from ≡ length p - b) where
+module _ (f g : Bool) (p q r x y z one two three : List ℕ) (a b from : ℕ) (parts : p ≡ x ++ (y ++ z)) (first : length x ≡ a) (second : length z ≡ b)
+    (start : from ≡ length p - b) where
   pub joined-part : one ≡ turned f (take a p) → q ≡ one ++ drop a p
       → two ≡ turned g (take (length q - from) (drop from q)) → r ≡ take from q ++ (two ++ drop (length q - from) (drop from q))
       → three ≡ drop (from - a) (take (length r - a) (drop a r)) ++ take (from - a) (take (length r - a) (drop a r))
@@ -85,15 +88,18 @@ module _ (f g : Bool) (p q r x y z one two three : List ℕ) (a b from : ℕ) (p
       let all : length p ≡ length x + (length y + length z) = ap length parts ∙ length-append x (y ++ z) ∙ ap (λ (n : ℕ). length x + n) (length-append y z) in
       let one-is : one ≡ X = e₁ ∙ ap (turned f) (ap (take a) parts ∙ take-at x (y ++ z) a first) in
       let q-is : q ≡ (X ++ y) ++ z =
-      e₂ ∙ ap (λ (l : List ℕ). l ++ drop a p) one-is ∙ ap (λ (l : List ℕ). X ++ l) (ap (drop a) parts ∙ drop-at x (y ++ z) a first) ∙ sym (append-assoc X y z) in
+      e₂ ∙ ap (λ (l : List ℕ). l ++ drop a p) one-is ∙ ap (λ (l : List ℕ). X ++ l) (ap (drop a) parts ∙ drop-at x (y ++ z) a first)
+      ∙ sym (append-assoc X y z) in
       let n : length (X ++ y) ≡ from = omega (arith, length-append X y, length-turned f x, all, start, first, second) in
       let two-is : two ≡ Z = e₃ ∙ ap (turned g) (tail-lent q from ∙ ap (drop from) q-is ∙ drop-at (X ++ y) z from n) in
       let r-is : r ≡ X ++ (y ++ Z) =
-      e₄ ∙ tail-back q two from ∙ ap (λ (l : List ℕ). l ++ two) (ap (take from) q-is ∙ take-at (X ++ y) z from n) ∙ ap (λ (l : List ℕ). (X ++ y) ++ l) two-is ∙ append-assoc X y Z in
+      e₄ ∙ tail-back q two from ∙ ap (λ (l : List ℕ). l ++ two) (ap (take from) q-is ∙ take-at (X ++ y) z from n) ∙ ap (λ (l : List ℕ). (X ++ y) ++ l) two-is
+      ∙ append-assoc X y Z in
       let m : length X ≡ a = length-turned f x ∙ first in
       let rest : take (length r - a) (drop a r) ≡ y ++ Z = tail-lent r a ∙ ap (drop a) r-is ∙ drop-at X (y ++ Z) a m in
       let k : length y ≡ from - a = omega (arith, all, start, first, second) in
       let three-is : three ≡ Z ++ y =
       e₅ ∙ ap (λ (l : List ℕ). drop (from - a) l ++ take (from - a) l) rest ∙ ap (λ (l : List ℕ). l ++ take (from - a) (y ++ Z)) (drop-at y Z (from - a) k)
       ∙ ap (λ (l : List ℕ). Z ++ l) (take-at y Z (from - a) k) in
-      tail-back r three a ∙ ap (λ (l : List ℕ). l ++ three) (ap (take a) r-is ∙ take-at X (y ++ Z) a m) ∙ ap (λ (l : List ℕ). X ++ l) three-is ∙ sym (append-assoc X Z y)
+      tail-back r three a ∙ ap (λ (l : List ℕ). l ++ three) (ap (take a) r-is ∙ take-at X (y ++ Z) a m) ∙ ap (λ (l : List ℕ). X ++ l) three-is
+      ∙ sym (append-assoc X Z y)

@@ -56,7 +56,8 @@ module _ (wants : List ℕ) where
 module _ (wants : List ℕ) (places : ℕ) (a b : List ℕ) where
   pub length-join : (flipping : Bool) → length (joinBy flipping wants places a b) ≡ length a + length b
   length-join true =
-      flipped-any wants places a b (λ (l : List ℕ). length l ≡ length a + length b) (length-append a b) (omega (arith, length-append a (reverse b), length-reverse b))
+      flipped-any wants places a b (λ (l : List ℕ). length l ≡ length a + length b) (length-append a b)
+      (omega (arith, length-append a (reverse b), length-reverse b))
       (omega (arith, length-append (reverse a) b, length-reverse a)) (omega (arith, length-append (reverse a) (reverse b), length-reverse a, length-reverse b))
   length-join false = length-append a b
 
@@ -131,7 +132,8 @@ module _ (ps : List (List ℕ)) (i j : ℕ) (s : Split ps i j) where
   pub before-second : flat (take j ps) ≡ flat (s .pre) ++ (one ++ flat (s .mid))
   unfolding flat
   before-second =
-      ap flat (ap (take j) (s .parts ∙ sym (append-assoc (s .pre) (one ∷ s .mid) (two ∷ s .post))) ∙ take-at (s .pre ++ (one ∷ s .mid)) (two ∷ s .post) j (s .second))
+      ap flat (ap (take j) (s .parts ∙ sym (append-assoc (s .pre) (one ∷ s .mid) (two ∷ s .post)))
+      ∙ take-at (s .pre ++ (one ∷ s .mid)) (two ∷ s .post) j (s .second))
       ∙ flat-append (s .pre) (one ∷ s .mid)
 
   pub joined-parts : (join : List ℕ → List ℕ → List ℕ) → joined join ps (at i j) ≡ s .pre ++ (join one two ∷ (s .mid ++ s .post))
@@ -140,18 +142,22 @@ module _ (ps : List (List ℕ)) (i j : ℕ) (s : Split ps i j) where
       let v = join one two in
       let qs = set ps i v in
       let set-is : qs ≡ (s .pre ++ (v ∷ s .mid)) ++ (two ∷ s .post) =
-      ap (λ (l : List (List ℕ)). set l i v) (s .parts) ∙ set-at (s .pre) one (s .mid ++ (two ∷ s .post)) v i (s .first) ∙ sym (append-assoc (s .pre) (v ∷ s .mid) (two ∷ s .post)) in
+      ap (λ (l : List (List ℕ)). set l i v) (s .parts) ∙ set-at (s .pre) one (s .mid ++ (two ∷ s .post)) v i (s .first)
+      ∙ sym (append-assoc (s .pre) (v ∷ s .mid) (two ∷ s .post)) in
       let n : length (s .pre ++ (v ∷ s .mid)) ≡ j = length-append (s .pre) (v ∷ s .mid) ∙ sym (length-append (s .pre) (one ∷ s .mid)) ∙ s .second in
       let front : take j qs ≡ s .pre ++ (v ∷ s .mid) = ap (take j) set-is ∙ take-at (s .pre ++ (v ∷ s .mid)) (two ∷ s .post) j n in
       let m : length ((s .pre ++ (v ∷ s .mid)) ++ (two ∷ [])) ≡ suc j = omega (arith, n, length-append (s .pre ++ (v ∷ s .mid)) (two ∷ [])) in
       let back : drop (suc j) qs ≡ s .post =
-      ap (drop (suc j)) (set-is ∙ sym (append-assoc (s .pre ++ (v ∷ s .mid)) (two ∷ []) (s .post))) ∙ drop-at ((s .pre ++ (v ∷ s .mid)) ++ (two ∷ [])) (s .post) (suc j) m in
-      ap (λ (l : List (List ℕ)). l ++ drop (suc j) qs) front ∙ ap (λ (l : List (List ℕ)). (s .pre ++ (v ∷ s .mid)) ++ l) back ∙ append-assoc (s .pre) (v ∷ s .mid) (s .post)
+      ap (drop (suc j)) (set-is ∙ sym (append-assoc (s .pre ++ (v ∷ s .mid)) (two ∷ []) (s .post)))
+      ∙ drop-at ((s .pre ++ (v ∷ s .mid)) ++ (two ∷ [])) (s .post) (suc j) m in
+      ap (λ (l : List (List ℕ)). l ++ drop (suc j) qs) front ∙ ap (λ (l : List (List ℕ)). (s .pre ++ (v ∷ s .mid)) ++ l) back
+      ∙ append-assoc (s .pre) (v ∷ s .mid) (s .post)
 
   pub flat-joined : (join : List ℕ → List ℕ → List ℕ) → flat (joined join ps (at i j)) ≡ flat (s .pre) ++ (join one two ++ (flat (s .mid) ++ flat (s .post)))
   unfolding flat
   flat-joined join =
-      ap flat (joined-parts join) ∙ flat-append (s .pre) (join one two ∷ (s .mid ++ s .post)) ∙ ap (λ (l : List ℕ). flat (s .pre) ++ (join one two ++ l)) (flat-append (s .mid) (s .post))
+      ap flat (joined-parts join) ∙ flat-append (s .pre) (join one two ∷ (s .mid ++ s .post))
+      ∙ ap (λ (l : List ℕ). flat (s .pre) ++ (join one two ++ l)) (flat-append (s .mid) (s .post))
 
 -- the first entries but one of a list that was lent as far as n and came back as ys
 pub prefix-back : (xs ys : List ℕ) (n m : ℕ) → m ≡ n → n ≤ length xs → length ys ≡ length (take n xs) → take (n - 1) (ys ++ drop n xs) ≡ take (m - 1) ys
@@ -161,7 +167,8 @@ prefix-back xs ys n m e h l =
 -- ---- the rounds
 
 module _ (wants : List ℕ) (fits : ℕ → Bool) (join : List ℕ → List ℕ → List ℕ) (ps : List (List ℕ)) where
-  pub round-joins : (q : Pair) → closest wants fits join ps ≡ found q → joinAll wants fits join (length ps) ps ≡ joinAll wants fits join (length (joined join ps q)) (joined join ps q)
+  pub round-joins : (q : Pair) → closest wants fits join ps ≡ found q
+      → joinAll wants fits join (length ps) ps ≡ joinAll wants fits join (length (joined join ps q)) (joined join ps q)
   round-joins q e =
       let g : InOrder (length ps) q = subst (Good (InOrder (length ps))) e (closest-good wants fits join ps) in
       ap (λ (n : ℕ). joinAll wants fits join n ps) (sym (length-joined join ps q g)) ∙ go (length (joined join ps q))
@@ -220,7 +227,8 @@ module _ (wants : List ℕ) where
       ∙ ap (λ (l : List ℕ). l ++ (curvesOf wants (n ∷ []) ∷ [])) (single-curves n (omega arith))
       ∙ ap (λ (u : ℕ). take n wants ++ (u ∷ [])) (one-curves wants n) ∙ sym (take-suc wants n 0 (omega arith))
 
-  pub first-laid : (rest tests lengths : List ℕ) → tests ≡ upTo (length wants) ++ rest → lengths ≡ replicate (length wants) 1 → Laid (firstPackages wants) rest tests lengths
+  pub first-laid : (rest tests lengths : List ℕ) → tests ≡ upTo (length wants) ++ rest → lengths ≡ replicate (length wants) 1
+      → Laid (firstPackages wants) rest tests lengths
   first-laid rest tests lengths t l =
       let n = length wants in
       record {
@@ -248,7 +256,8 @@ pub record Left (flipping : Bool) (wants : List ℕ) (places : ℕ) (ps : List (
   pub sets : curves ≡ map (curvesOf wants) qs
   pub goes : roundOf flipping wants places ps ≡ roundOf flipping wants places qs
 
-pub left-start : (flipping : Bool) (wants : List ℕ) (places : ℕ) {ps : List (List ℕ)} {rest tests lengths curves : List ℕ} (n : ℕ) → length lengths ≡ n → length curves ≡ n
+pub left-start : (flipping : Bool) (wants : List ℕ) (places : ℕ) {ps : List (List ℕ)} {rest tests lengths curves : List ℕ} (n : ℕ) → length lengths ≡ n
+    → length curves ≡ n
     → Laid ps rest tests lengths → curves ≡ map (curvesOf wants) ps → Left flipping wants places ps rest tests (take n lengths) (take n curves)
 left-start flipping wants places {ps} {rest} {tests} {lengths} {curves} n l c laid sets =
     record {
@@ -261,7 +270,8 @@ left-start flipping wants places {ps} {rest} {tests} {lengths} {curves} n l c la
 pub in-order : (fits : ℕ → Bool) (cs : List ℕ) (i j : ℕ) → bestPair fits cs (length cs) ≡ chosen i j → 0 < j → (i < j) × (j < length cs)
 in-order fits cs i j e pos = subst (Good (InOrder (length cs))) (e ∙ chosen-some i j pos) (pair-good fits cs (length cs))
 
-module _ {flipping : Bool} {wants : List ℕ} {places : ℕ} {ps : List (List ℕ)} {rest tests lengths curves : List ℕ} (s : Left flipping wants places ps rest tests lengths curves)
+module _ {flipping : Bool} {wants : List ℕ} {places : ℕ} {ps : List (List ℕ)} {rest tests lengths curves : List ℕ}
+    (s : Left flipping wants places ps rest tests lengths curves)
     (small : (t : ℕ) → wantsOf wants t < 2 ^ 64) (bound : ℕ) (bounded : bound ≡ cond flipping 64 places) where
   small-at : (i : ℕ) → getD curves i 0 < 2 ^ 64
   small-at i =
@@ -296,7 +306,8 @@ module _ {flipping : Bool} {wants : List ℕ} {places : ℕ} {ps : List (List �
         let join = joinBy flipping wants places in
         let x = getD (s .qs) i [] in
         let y = getD (s .qs) j [] in
-        let at-is : (k : ℕ) → getD curves k 0 ≡ curvesOf wants (getD (s .qs) k []) = λ k. ap (λ (l : List ℕ). getD l k 0) (s .sets) ∙ curves-map wants (s .qs) k in
+        let at-is : (k : ℕ) → getD curves k 0 ≡ curvesOf wants (getD (s .qs) k []) =
+        λ k. ap (λ (l : List ℕ). getD l k 0) (s .sets) ∙ curves-map wants (s .qs) k in
         let u = getD curves i 0 ∪ getD curves j 0 in
         let e : u ≡ curvesOf wants (join x y) =
         ap (λ (n : ℕ). n ∪ getD curves j 0) (at-is i) ∙ ap (λ (n : ℕ). curvesOf wants x ∪ n) (at-is j) ∙ sym (curves-join wants places x y flipping) in
@@ -364,11 +375,13 @@ module _ {ps : List (List ℕ)} {rest tests lengths : List ℕ} (laid : Laid ps 
       let x = getD ps i [] in
       let y = getD ps j [] in
       let new-is : new ≡ join x y ++ m = made x m y part-is first-long second-long in
-      let behind : drop (to - from) (drop from tests) ≡ q ++ rest = ap (drop (to - from)) from-first ∙ drop-at (x ++ (m ++ y)) (q ++ rest) (to - from) part-long in
+      let behind : drop (to - from) (drop from tests) ≡ q ++ rest =
+      ap (drop (to - from)) from-first ∙ drop-at (x ++ (m ++ y)) (q ++ rest) (to - from) part-long in
       let before : take from tests ≡ p = ap (take from) tests-are ∙ take-at p ((x ++ (m ++ y)) ++ (q ++ rest)) from begin in
       let flat-is : flat (joined join ps (at i j)) ≡ p ++ (join x y ++ (m ++ q)) = flat-joined ps i j parts join in
       record {
-        all = t ∙ ap (λ (k : List ℕ). k ++ (new ++ drop (to - from) (drop from tests))) before ∙ ap (λ (k : List ℕ). p ++ (k ++ drop (to - from) (drop from tests))) new-is
+        all = t ∙ ap (λ (k : List ℕ). k ++ (new ++ drop (to - from) (drop from tests))) before
+            ∙ ap (λ (k : List ℕ). p ++ (k ++ drop (to - from) (drop from tests))) new-is
             ∙ ap (λ (k : List ℕ). p ++ ((join x y ++ m) ++ k)) behind ∙ sym (ap (λ (k : List ℕ). k ++ rest) flat-is ∙ simp append-assoc);
         lens = c ∙ ap (λ (ls : List ℕ). joinedEntry ls i j (a + b)) (laid .lens)
             ∙ sym (map-joined length join ps i j (a + b) (omega (arith, length-join wants places x y flipping, first-long, second-long)));

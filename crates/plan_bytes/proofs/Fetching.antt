@@ -70,11 +70,13 @@ module _ (curves tests : ℕ) where
       let t = bind-done (byteAt 11 (ls .0 .next) (ls .0 .rest)) _ g (ls .2) in
       let q = byte-within 11 (ls .0 .next) n (ls .0 .rest) (t .0) (u .ends) (t .1) in
       let z = both-done (demand (ltb (t .0 .value) tests) 11 (ls .0 .next)) _ g (t .2) in
-      let s : got (record { step = record { test = t .0 .value; drops = ds .0 .value; loads = ls .0 .value }; from = i; until = t .0 .next }) (t .0 .next) (t .0 .rest) ≡ g = done-same (z .1) in
+      let s : got (record { step = record { test = t .0 .value; drops = ds .0 .value; loads = ls .0 .value }; from = i; until = t .0 .next }) (t .0 .next)
+      (t .0 .rest) ≡ g = done-same (z .1) in
       rw (← s) (record { on = omega (arith, w .on, v .on, u .on, q .on); ends = q .ends })
 
   -- a step that was read in the plan bytes
-  pub step-inside : (bs : List ℕ) (i t d l next : ℕ) (r : StepRead) → i ≤ length bs → stepOutcome bs i r ≡ readStep curves tests i (drop i bs) → r ≡ StepRead.Step t d l next
+  pub step-inside : (bs : List ℕ) (i t d l next : ℕ) (r : StepRead) → i ≤ length bs → stepOutcome bs i r ≡ readStep curves tests i (drop i bs)
+      → r ≡ StepRead.Step t d l next
       → (i ≤ next) × (next ≤ length bs)
   unfolding stepOutcome
   step-inside bs i t d l next r h e p =
@@ -107,15 +109,18 @@ module _ (curves tests : ℕ) where
     unfolding placedAt partOf
     part-none = record { part = refl; inside = omega arith }
 
-    pub part-here : (acc : List Placed) (s : Placed) → length acc ≡ p → s .from ≤ s .until → s .until ≤ length bs → PartIs bs p (acc ++ (s ∷ [])) (s .from) (s .until - s .from)
+    pub part-here : (acc : List Placed) (s : Placed) → length acc ≡ p → s .from ≤ s .until → s .until ≤ length bs
+        → PartIs bs p (acc ++ (s ∷ [])) (s .from) (s .until - s .from)
     unfolding partOf
     part-here acc s e l h = record { part = rw (placed-here p acc s e) refl; inside = omega arith }
 
-    pub part-other : (acc : List Placed) (s : Placed) (start count : ℕ) → (length acc ≡ p → ⊥) → PartIs bs p acc start count → PartIs bs p (acc ++ (s ∷ [])) start count
+    pub part-other : (acc : List Placed) (s : Placed) (start count : ℕ) → (length acc ≡ p → ⊥) → PartIs bs p acc start count
+        → PartIs bs p (acc ++ (s ∷ [])) start count
     part-other acc s start count e q = record { part = rw (placed-other p acc s e) (q .part); inside = q .inside }
 
     -- the plan bytes that are refused, and those that read
-    pub part-refused : (o : Outcome (List Placed)) (k i : ℕ) → o ≡ refused k i → record { start = length bs; count = 0 } ≡ partOf curves tests bs (fetched curves tests p o)
+    pub part-refused : (o : Outcome (List Placed)) (k i : ℕ) → o ≡ refused k i
+        → record { start = length bs; count = 0 } ≡ partOf curves tests bs (fetched curves tests p o)
     unfolding fetched partOf
     part-refused o k i e = rw e refl
 
@@ -129,6 +134,7 @@ module _ (curves tests : ℕ) where
     unfolding stepPart
     part-uncounted k i e = part-refused (planSteps curves tests bs) k i (counts-refused curves tests bs k i e)
 
-    pub part-counted : countsKnown curves tests ≡ done tt → partOf curves tests bs (fetched curves tests p (readPlanBytes curves tests bs)) ≡ stepPart curves tests bs p
+    pub part-counted : countsKnown curves tests ≡ done tt
+        → partOf curves tests bs (fetched curves tests p (readPlanBytes curves tests bs)) ≡ stepPart curves tests bs p
     unfolding stepPart
     part-counted e = ap (λ (o : Outcome (List Placed)). partOf curves tests bs (fetched curves tests p o)) (sym (counts-passed curves tests bs e))

@@ -33,7 +33,8 @@ module _ (curves tests : ℕ) where
         (λ map n a m.
         span-test _ 11 i a m
         (span-bind 9 10 _ (set-span _ n m)
-        (λ ds n a m. span-bind 9 1 _ (set-span _ n m) (λ ls n a m. span-bind 1 0 _ (byte-span bs 11 n m) (λ t k a h. span-test _ 11 n a h (span-stop k bs _ h))))))
+        (λ ds n a m. span-bind 9 1 _ (set-span _ n m)
+        (λ ls n a m. span-bind 1 0 _ (byte-span bs 11 n m) (λ t k a h. span-test _ 11 n a h (span-stop k bs _ h))))))
 
     steps-span : (k : ℕ) (ss : List Placed) (i : ℕ) → i ≤ length bs → Spans (20 * k) i bs (readSteps curves tests k ss i (drop i bs))
     unfolding readSteps
@@ -51,7 +52,8 @@ module _ (curves tests : ℕ) where
           let q : f ≡ g .next = cc in
           omega arith
 
-      go : (o : Outcome (Got (List Placed))) → Spans (20 * tests) 0 bs o → _>>=_ o (λ r. _>>_ (atEnd 11 (r .next) (r .rest)) (done (r .value))) ≡ refused k f → f ≤ 20 * tests
+      go : (o : Outcome (Got (List Placed))) → Spans (20 * tests) 0 bs o → _>>=_ o (λ r. _>>_ (atEnd 11 (r .next) (r .rest)) (done (r .value))) ≡ refused k f
+          → f ≤ 20 * tests
       go (done g) s e = end g (g .rest) (omega (arith, span-done s .most)) e
       go (refused n i) s e =
           let q : f ≡ i = cc in
@@ -71,18 +73,21 @@ module _ (curves tests : ℕ) where
   unfolding readGroup
   group-eleven zero j i bs = tt
   group-eleven (suc d) j i bs =
-      refuses-bind Eleven _ _ (byte-eleven i bs) (λ b e. refuses-both Eleven _ _ (refuses-demand Eleven _ 11 i refl) (refuses-both Eleven _ _ (refuses-demand Eleven _ 11 i refl) tt))
+      refuses-bind Eleven _ _ (byte-eleven i bs)
+      (λ b e. refuses-both Eleven _ _ (refuses-demand Eleven _ 11 i refl) (refuses-both Eleven _ _ (refuses-demand Eleven _ 11 i refl) tt))
 
   groups-eleven : (k j map s i : ℕ) (bs : List ℕ) → Refuses Eleven (readGroups 11 11 11 curves k j map s i bs)
   unfolding readGroups
   groups-eleven zero j map s i bs = tt
-  groups-eleven (suc k) j map s i bs = refuses-bind Eleven _ _ (group-eleven (bit j map) j i bs) (λ g e. groups-eleven k (suc j) map (s ∪ g .value) (g .next) (g .rest))
+  groups-eleven (suc k) j map s i bs =
+      refuses-bind Eleven _ _ (group-eleven (bit j map) j i bs) (λ g e. groups-eleven k (suc j) map (s ∪ g .value) (g .next) (g .rest))
 
   set-eleven : (d i : ℕ) (bs : List ℕ) → Refuses Eleven (readSet curves tests d i bs)
   unfolding readSet
   set-eleven zero i bs = tt
   set-eleven (suc d) i bs =
-      refuses-bind Eleven _ _ (byte-eleven i bs) (λ m e. refuses-both Eleven _ _ (refuses-demand Eleven _ 11 i refl) (groups-eleven 8 0 (m .value) 0 (m .next) (m .rest)))
+      refuses-bind Eleven _ _ (byte-eleven i bs)
+      (λ m e. refuses-both Eleven _ _ (refuses-demand Eleven _ 11 i refl) (groups-eleven 8 0 (m .value) 0 (m .next) (m .rest)))
 
   step-eleven : (i : ℕ) (bs : List ℕ) → Refuses Eleven (readStep curves tests i bs)
   unfolding readStep
@@ -115,7 +120,8 @@ module _ (curves tests : ℕ) where
     unfolding readSet
     set-same zero i m xs l = value 0 i xs (omega arith)
     set-same (suc d) i m xs l =
-        same-then ys (8 + m) m _ (byte-same ys 11 i (8 + m) xs (omega arith)) (λ map n xs l. same-test ys m _ 11 i (groups-same ys 11 11 11 curves 8 0 map 0 n m xs (omega arith)))
+        same-then ys (8 + m) m _ (byte-same ys 11 i (8 + m) xs (omega arith))
+        (λ map n xs l. same-test ys m _ 11 i (groups-same ys 11 11 11 curves 8 0 map 0 n m xs (omega arith)))
 
     step-same : (i m : ℕ) (xs : List ℕ) → 20 + m ≤ length xs → Same ys m (readStep curves tests i xs) (readStep curves tests i (xs ++ ys))
     unfolding readStep
@@ -128,14 +134,17 @@ module _ (curves tests : ℕ) where
         same-then ys (1 + m) m _ (set-same _ n (1 + m) xs (omega arith))
         (λ ls n xs l. same-then ys m m _ (byte-same ys 11 n m xs (omega arith)) (λ t k xs l. same-test ys m _ 11 n (value _ k xs l))))))
 
-    steps-same : (k : ℕ) (ss : List Placed) (i m : ℕ) (xs : List ℕ) → 20 * k + m ≤ length xs → Same ys m (readSteps curves tests k ss i xs) (readSteps curves tests k ss i (xs ++ ys))
+    steps-same : (k : ℕ) (ss : List Placed) (i m : ℕ) (xs : List ℕ) → 20 * k + m ≤ length xs
+        → Same ys m (readSteps curves tests k ss i xs) (readSteps curves tests k ss i (xs ++ ys))
     unfolding readSteps
     steps-same zero ss i m xs l = value ss i xs (omega arith)
-    steps-same (suc k) ss i m xs l = same-then ys (20 * k + m) m _ (step-same i (20 * k + m) xs (omega arith)) (λ s n xs l. steps-same k (ss ++ (s ∷ [])) n m xs l)
+    steps-same (suc k) ss i m xs l =
+        same-then ys (20 * k + m) m _ (step-same i (20 * k + m) xs (omega arith)) (λ s n xs l. steps-same k (ss ++ (s ∷ [])) n m xs l)
 
     -- with a byte left behind the steps in both, both are refused there
     end-same : {o q : Outcome (Got (List Placed))} → Same ys 1 o q
-        → _≡_ {A = Outcome (List Placed)} (_>>=_ q (λ r. _>>_ (atEnd 11 (r .next) (r .rest)) (done (r .value)))) (_>>=_ o (λ r. _>>_ (atEnd 11 (r .next) (r .rest)) (done (r .value))))
+        → _≡_ {A = Outcome (List Placed)} (_>>=_ q (λ r. _>>_ (atEnd 11 (r .next) (r .rest)) (done (r .value))))
+        (_>>=_ o (λ r. _>>_ (atEnd 11 (r .next) (r .rest)) (done (r .value))))
     unfolding _>>=_ _>>_ atEnd
     end-same (value a n [] l) = absurd (omega arith)
     end-same (value a n (x ∷ xs) l) = refl

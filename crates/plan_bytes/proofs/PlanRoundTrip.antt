@@ -27,7 +27,8 @@ use Rattle.drive.proofs.CheckExact.{AllKept, first-kept, moved-≼}
 use Rattle.planning.specs.Plan.{Plan, steps, inOrder}
 use Rattle.planning.specs.Planning.{checking}
 use Rattle.planning.proofs.CheckExact.{Passes, passed}
-use Rattle.plan_bytes.specs.PlanBytes.{setField, stepBytes, stepsBytes, planBytes, Placed, testsOf, planIn, readSet, readStep, readSteps, readPlanBytes, planSteps, writePlan}
+use Rattle.plan_bytes.specs.PlanBytes.{setField, stepBytes, stepsBytes, planBytes, Placed, testsOf, planIn, readSet, readStep, readSteps, readPlanBytes}
+use Rattle.plan_bytes.specs.PlanBytes.{planSteps, writePlan}
 use Rattle.job_bytes.proofs.Encoding.{stands-le}
 use Rattle.plan_bytes.proofs.Writing.{one}
 
@@ -82,7 +83,8 @@ module _ (curves tests : ℕ) (few : curves ≤ 64) where
       let lb = stands-le l in
       let b0 : bit 0 (a + 2 * b + 4) ≡ a = omega arith in
       let b1 : bit 1 (a + 2 * b + 4) ≡ b = omega arith in
-      let n : suc (suc i + length (setField d) + length (setField l)) ≡ i + suc (length (setField d ++ setField l ++ (t ∷ []))) = simp length-append (omega arith) in
+      let n : suc (suc i + length (setField d) + length (setField l)) ≡ i + suc (length (setField d ++ setField l ++ (t ∷ []))) =
+      simp length-append (omega arith) in
       rw (
         le-leb 4 (a + 2 * b + 4) (omega arith),
         le-leb (a + 2 * b + 4) 7 (omega arith),
@@ -121,7 +123,8 @@ module _ (curves tests : ℕ) (few : curves ≤ 64) where
   steps-back acc i (t ∷ ts) [] ls rest r = absurd r
   steps-back acc i (t ∷ ts) (d ∷ ds) [] rest r = absurd r
   steps-back acc i (t ∷ ts) (d ∷ ds) (l ∷ ls) rest r =
-      let n : i + length (stepBytes (one t d l)) + length (planBytes ts ds ls) ≡ i + length (stepBytes (one t d l) ++ planBytes ts ds ls) = simp length-append (omega arith) in
+      let n : i + length (stepBytes (one t d l)) + length (planBytes ts ds ls) ≡ i + length (stepBytes (one t d l) ++ planBytes ts ds ls) =
+      simp length-append (omega arith) in
       rw (append-assoc (stepBytes (one t d l)) (planBytes ts ds ls) rest, step-back i t d l (planBytes ts ds ls ++ rest) (r .0) (r .1) (r .2))
       (steps-back (acc ++ (stepOf i t d l ∷ [])) (i + length (stepBytes (one t d l))) ts ds ls rest (r .3)
       ∙ rw (n, append-assoc acc (stepOf i t d l ∷ []) (stepsOf (i + length (stepBytes (one t d l))) ts ds ls)) refl)
@@ -159,7 +162,8 @@ module _ (curves tests : ℕ) (few : curves ≤ 64) where
       let s = steps-back [] 0 ts ds ls [] r in
       let w : readSteps curves tests tests [] 0 (planBytes ts ds ls) ≡ done (got (stepsOf 0 ts ds ls) (0 + length (planBytes ts ds ls)) []) =
       subst (λ (m : ℕ). readSteps curves tests m [] 0 (planBytes ts ds ls) ≡ done (got (stepsOf 0 ts ds ls) (0 + length (planBytes ts ds ls)) [])) n
-      (subst (λ (bs : List ℕ). readSteps curves tests (length ts) [] 0 bs ≡ done (got (stepsOf 0 ts ds ls) (0 + length (planBytes ts ds ls)) [])) (append-nil (planBytes ts ds ls)) s) in
+      (subst (λ (bs : List ℕ). readSteps curves tests (length ts) [] 0 bs ≡ done (got (stepsOf 0 ts ds ls) (0 + length (planBytes ts ds ls)) []))
+      (append-nil (planBytes ts ds ls)) s) in
       rw w refl
 
 -- what passes the check is in range
@@ -181,7 +185,8 @@ module _ (places curves : ℕ) (wants : List ℕ) where
         test (decLe (length wants) t),
         below d (λ c. omega (arith, k .0 .drops c, s c)),
         below l (k .0 .known),
-        in-range few _ ts ds ls (omega arith) (omega arith) (moved-≼ h (record { drops = d; loads = l }) (allCurves curves) s (k .0 .known)) (λ u e. omega (arith, own u e)) (k .1),
+        in-range few _ ts ds ls (omega arith) (omega arith) (moved-≼ h (record { drops = d; loads = l }) (allCurves curves) s (k .0 .known))
+            (λ u e. omega (arith, own u e)) (k .1),
       )
     where
       test : Dec (length wants ≤ t) → t < length wants
@@ -227,7 +232,8 @@ module _ (curves tests : ℕ) where
 
   field-read : (d i : ℕ) (bs : List ℕ) (g : Got ℕ) → d ≤ 1 → Bytes bs → readSet curves tests d i bs ≡ done g → FieldRead d bs g
   unfolding readSet byteAt _>>=_
-  field-read zero i bs g l all e = subst (FieldRead zero bs) (done-same e) (record { bit-stands = unfold stands in refl; bytes = unfold setField in refl; tail = all })
+  field-read zero i bs g l all e =
+      subst (FieldRead zero bs) (done-same e) (record { bit-stands = unfold stands in refl; bytes = unfold setField in refl; tail = all })
   field-read (suc d) i [] g l all e = absurd (refused≢done e)
   field-read (suc d) i (M ∷ bs) g l all e =
       let a = both-done (demand (ltb 0 M) 11 i) (readGroups 11 11 11 curves 8 0 M 0 (suc i) bs) g e in
@@ -252,7 +258,8 @@ module _ (curves tests : ℕ) where
     pub tail : Bytes (g .rest)
 
   -- a map, the two sets and the test
-  step-bytes : (M t : ℕ) (bs rest : List ℕ) (ds ls : Got ℕ) → 4 ≤ M → M ≤ 7 → FieldRead (bit 0 M) bs ds → FieldRead (bit 1 M) (ds .rest) ls → ls .rest ≡ t ∷ rest
+  step-bytes : (M t : ℕ) (bs rest : List ℕ) (ds ls : Got ℕ) → 4 ≤ M → M ≤ 7 → FieldRead (bit 0 M) bs ds → FieldRead (bit 1 M) (ds .rest) ls
+      → ls .rest ≡ t ∷ rest
       → M ∷ bs ≡ stepBytes (one t (ds .value) (ls .value)) ++ rest
   unfolding stepBytes
   step-bytes M t bs rest ds ls l h D L e =
@@ -273,13 +280,15 @@ module _ (curves tests : ℕ) where
       let L : FieldRead (bit 1 M) (d .0 .rest) (l .0) = field-read (bit 1 M) (d .0 .next) (d .0 .rest) (l .0) (omega arith) (D .tail) (l .1) in
       last (l .0 .rest) (l .0 .next) (d .0) (l .0) (leb-true 4 M (m .0)) (leb-true M 7 (m .1)) D L refl (L .tail) (l .2)
     where
-      last : (r : List ℕ) (n : ℕ) (ds ls : Got ℕ) → 4 ≤ M → M ≤ 7 → FieldRead (bit 0 M) bs ds → FieldRead (bit 1 M) (ds .rest) ls → ls .rest ≡ r → Bytes (ls .rest)
+      last : (r : List ℕ) (n : ℕ) (ds ls : Got ℕ) → 4 ≤ M → M ≤ 7 → FieldRead (bit 0 M) bs ds → FieldRead (bit 1 M) (ds .rest) ls → ls .rest ≡ r
+          → Bytes (ls .rest)
           → _>>=_ (byteAt 11 n r) (λ t. _>>_ (demand (ltb (t .value) tests) 11 n)
           (done (got (record { step = one (t .value) (ds .value) (ls .value); from = i; until = t .next }) (t .next) (t .rest)))) ≡ done g
           → StepRead (M ∷ bs) g
       last [] n ds ls lo hi D L q tl e = absurd (refused≢done e)
       last (t ∷ rest) n ds ls lo hi D L q tl e =
-          let b = both-done (demand (ltb t tests) 11 n) (done (got (record { step = one t (ds .value) (ls .value); from = i; until = suc n }) (suc n) rest)) g e in
+          let b = both-done (demand (ltb t tests) 11 n) (done (got (record { step = one t (ds .value) (ls .value); from = i; until = suc n }) (suc n) rest)) g
+          e in
           let tb : Bytes (t ∷ rest) = subst Bytes q tl in
           subst (StepRead (M ∷ bs)) (done-same (b .1)) (record { bytes = step-bytes M t bs rest ds ls lo hi D L q; tail = tb .1 })
 
@@ -289,7 +298,8 @@ module _ (curves tests : ℕ) where
     bytes : bs ≡ planBytes (map (λ s. s .step .test) steps) (map (λ s. s .step .drops) steps) (map (λ s. s .step .loads) steps) ++ g .rest
     tail : Bytes (g .rest)
 
-  steps-read : (k : ℕ) (acc : List Placed) (i : ℕ) (bs : List ℕ) (g : Got (List Placed)) → Bytes bs → readSteps curves tests k acc i bs ≡ done g → StepsRead k acc bs g
+  steps-read : (k : ℕ) (acc : List Placed) (i : ℕ) (bs : List ℕ) (g : Got (List Placed)) → Bytes bs → readSteps curves tests k acc i bs ≡ done g
+      → StepsRead k acc bs g
   unfolding readSteps stepsBytes steps
   steps-read zero acc i bs g all e = subst (StepsRead zero acc bs) (done-same e) (record { steps = []; value = sym (append-nil acc); bytes = refl; tail = all })
   steps-read (suc k) acc i bs g all e =
@@ -320,7 +330,8 @@ module _ (curves tests : ℕ) where
           → planBytes (map (λ s. s .step .test) ss) (map (λ s. s .step .drops) ss) (map (λ s. s .step .loads) ss) ≡ bs
       found ts rest q b n =
           subst (λ (us : List Placed). planBytes (map (λ s. s .step .test) us) (map (λ s. s .step .drops) us) (map (λ s. s .step .loads) us) ≡ bs) q
-          (sym (b ∙ ap (λ (l : List ℕ). planBytes (map (λ s. s .step .test) ts) (map (λ s. s .step .drops) ts) (map (λ s. s .step .loads) ts) ++ l) n ∙ append-nil _))
+          (sym (b ∙ ap (λ (l : List ℕ). planBytes (map (λ s. s .step .test) ts) (map (λ s. s .step .drops) ts) (map (λ s. s .step .loads) ts) ++ l) n
+          ∙ append-nil _))
 
 -- .. so a plan that reads and passes the check is written as the bytes that it was read from
 pub plan-read : (j : Job) (bs : List ℕ) (ss : List Placed) → Bytes bs → planSteps (j .rig .curves) (length (j .wants)) bs ≡ done ss

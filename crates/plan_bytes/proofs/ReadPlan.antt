@@ -10,13 +10,15 @@ use Rattle.job_bytes.specs.SetBytes.{Got, got}
 use Rattle.job_bytes.specs.JobBytes.{atEnd}
 use Rattle.job.specs.Handed.{countsKnown}
 use Rattle.job.proofs.Laws.{done-same, both-done, bind-done, done-both, done-room, mapped-done, mapped-refused}
-use Rattle.plan_bytes.specs.PlanBytes.{Placed, testsOf, planIn, readStep, readSteps, readPlanBytes, planSteps, readPlan, planRead, readPlanAnswer, readPlanOrder, readPlanLists}
+use Rattle.plan_bytes.specs.PlanBytes.{Placed, testsOf, planIn, readStep, readSteps, readPlanBytes, planSteps, readPlan, planRead, readPlanAnswer}
+use Rattle.plan_bytes.specs.PlanBytes.{readPlanOrder, readPlanLists}
 use Rattle.planning.specs.Plan.{Plan, planOf}
 use Rattle.plan_bytes.proofs.Steps.{counts-passed}
 
 -- "There are as many steps as tests."
 module _ (curves tests : ℕ) where
-  steps-count : (k : ℕ) (acc : List Placed) (i : ℕ) (bs : List ℕ) (g : Got (List Placed)) → readSteps curves tests k acc i bs ≡ done g → length (g .value) ≡ length acc + k
+  steps-count : (k : ℕ) (acc : List Placed) (i : ℕ) (bs : List ℕ) (g : Got (List Placed)) → readSteps curves tests k acc i bs ≡ done g
+      → length (g .value) ≡ length acc + k
   unfolding readSteps
   steps-count zero acc i bs g e = let s : got acc i bs ≡ g = done-same e in rw (← s) (omega arith)
   steps-count (suc k) acc i bs g e =
@@ -44,7 +46,8 @@ module _ (curves tests : ℕ) (bs : List ℕ) where
 
   pub bytes-counts : examined ≡ done tt → countsKnown curves tests ≡ done tt
   unfolding planSteps
-  bytes-counts e = let d = mapped-done (λ _. tt) (planSteps curves tests bs) tt e in both-done (countsKnown curves tests) (readPlanBytes curves tests bs) (d .0) (d .1) .0
+  bytes-counts e = let d =
+      mapped-done (λ _. tt) (planSteps curves tests bs) tt e in both-done (countsKnown curves tests) (readPlanBytes curves tests bs) (d .0) (d .1) .0
 
   pub bytes-passed : examined ≡ done tt → mapped (λ _. tt) (readPlanBytes curves tests bs) ≡ done (tt {0})
   bytes-passed e = ap (mapped (λ _. tt)) (sym (counts-passed curves tests bs (bytes-counts e))) ∙ e
@@ -69,7 +72,8 @@ module _ (curves tests : ℕ) (bs : List ℕ) where
   module _ (order : List ℕ) (lent : Plan) where
     abbrev pub Contract : Outcome ℕ → List ℕ → Plan → Type 0
     Contract answer newOrder lists =
-        (answer ≡ readPlanAnswer curves tests bs order lent) × ((newOrder ≡ readPlanOrder curves tests bs order lent) × (lists ≡ readPlanLists curves tests bs order lent))
+        (answer ≡ readPlanAnswer curves tests bs order lent)
+        × ((newOrder ≡ readPlanOrder curves tests bs order lent) × (lists ≡ readPlanLists curves tests bs order lent))
 
     -- the answer, and "Nothing lent changes under a refusal"
     pub plan-refused : (k i : ℕ) → planRead curves tests bs order lent ≡ refused k i → Contract (refused k i) order lent

@@ -25,7 +25,8 @@ module _ (curves map s k j : ℕ) (bs : List ℕ) (few : curves ≤ 64) (below :
   abbrev groupsAt : ℕ → ℕ → ℕ → Outcome (Got ℕ)
   groupsAt j s k = readGroups 11 11 11 curves (8 - j) j map s k (drop k bs)
 
-  pub group-read : (x : ℕ) → k ≤ length bs → Answers bs k (bit j map) j curves (Curves x) → (k + bit j map ≤ length bs) × (groupsAt j s k ≡ groupsAt (j + 1) (s ∪ x) (k + bit j map))
+  pub group-read : (x : ℕ) → k ≤ length bs → Answers bs k (bit j map) j curves (Curves x)
+      → (k + bit j map ≤ length bs) × (groupsAt j s k ≡ groupsAt (j + 1) (s ∪ x) (k + bit j map))
   group-read x l f =
       let r = answer-curves 11 11 11 curves map s 0 k j bs below few x l f in
       (r .0, rw (zero-add k, zero-add (k + bit j map)) at (r .1))
@@ -113,9 +114,27 @@ module _ (curves tests k : ℕ) (bs : List ℕ) where
           pub test-unknown : m < length bs → tests ≤ getD bs m 0 → here ≡ refused 11 m
           unfolding readStep between _>>=_ _>>_ demand
           test-unknown h t =
-              rw (byte-read k bs there, le-leb 4 (getD bs k 0) low, le-leb (getD bs k 0) 7 high, bit-zero (getD bs k 0), d, l, byte-read m bs h, le-ltb (getD bs m 0) tests t) refl
+              rw (
+                byte-read k bs there,
+                le-leb 4 (getD bs k 0) low,
+                le-leb (getD bs k 0) 7 high,
+                bit-zero (getD bs k 0),
+                d,
+                l,
+                byte-read m bs h,
+                le-ltb (getD bs m 0) tests t,
+              ) refl
 
           pub step-whole : m < length bs → getD bs m 0 < tests → stepOutcome bs k (StepRead.Step (getD bs m 0) ds ls (m + 1)) ≡ here
           unfolding stepOutcome readStep between _>>=_ _>>_ demand
           step-whole h t =
-              rw (byte-read k bs there, le-leb 4 (getD bs k 0) low, le-leb (getD bs k 0) 7 high, bit-zero (getD bs k 0), d, l, byte-read m bs h, lt-ltb (getD bs m 0) tests t) refl
+              rw (
+                byte-read k bs there,
+                le-leb 4 (getD bs k 0) low,
+                le-leb (getD bs k 0) 7 high,
+                bit-zero (getD bs k 0),
+                d,
+                l,
+                byte-read m bs h,
+                lt-ltb (getD bs m 0) tests t,
+              ) refl

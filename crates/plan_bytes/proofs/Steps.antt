@@ -35,7 +35,8 @@ module _ (curves tests : ℕ) (bs : List ℕ) where
   module _ (k i : ℕ) (acc : List Placed) (b : Behind curves tests k i bs acc) where
     -- one step more
     module _ (h : k < tests) (r : StepRead) (e : stepOutcome bs i r ≡ readStep curves tests i (drop i bs)) where
-      turn : readSteps curves tests tests [] 0 bs ≡ _>>=_ (stepOutcome bs i r) (λ s. readSteps curves tests (tests - (k + 1)) (acc ++ (s .value ∷ [])) (s .next) (s .rest))
+      turn : readSteps curves tests tests [] 0 bs
+          ≡ _>>=_ (stepOutcome bs i r) (λ s. readSteps curves tests (tests - (k + 1)) (acc ++ (s .value ∷ [])) (s .next) (s .rest))
       unfolding readSteps
       turn = let n : tests - k ≡ suc (tests - (k + 1)) = omega arith in b .goes ∙ rw (n, e) refl
 
@@ -97,7 +98,8 @@ module _ (f : Placed → ℕ) (old : List ℕ) where
   unfolding overwritten
   fill-none = record { entries = refl; long = refl }
 
-  pub fill-more : (acc : List Placed) (new : List ℕ) (k : ℕ) (s : Placed) → length acc ≡ k → k < length old → Filled f acc old new → Filled f (acc ++ (s ∷ [])) old (set new k (f s))
+  pub fill-more : (acc : List Placed) (new : List ℕ) (k : ℕ) (s : Placed) → length acc ≡ k → k < length old → Filled f acc old new
+      → Filled f (acc ++ (s ∷ [])) old (set new k (f s))
   fill-more acc new k s n h F =
       let m : length (map f acc) ≡ k = length-map acc f ∙ n in
       record { entries = rw (map-append f acc (s ∷ []), F .entries) (put-next (map f acc) old k (f s) m h); long = simp length-set (F .long) }

@@ -51,7 +51,8 @@ step-length t d l = simp length-append (omega arith)
 
 -- the map, then each field over the zero byte behind the last
 pub step-stores : (t d l m i : ℕ) (old : List ℕ) → m ≡ stands d + 2 * stands l + 4
-    → set (sets (sets (set old i m) (i + 1) (setField d ++ (0 ∷ []))) (i + 1 + length (setField d)) (setField l ++ (0 ∷ []))) (i + 1 + length (setField d) + length (setField l)) t
+    → set (sets (sets (set old i m) (i + 1) (setField d ++ (0 ∷ []))) (i + 1 + length (setField d)) (setField l ++ (0 ∷ [])))
+    (i + 1 + length (setField d) + length (setField l)) t
     ≡ sets old i (stepBytes (one t d l))
 unfolding stepBytes
 step-stores t d l m i old e =

@@ -1,5 +1,5 @@
--- Words that no promise to a caller of the library cites. "Any answer that is an enum has a definition that gives this paper's number and values for each of the
--- enum's cases": the answers of the readers of a set and of a step, in the plan bytes bs.
+-- Words that no promise to a caller of the library cites. "Any answer that is an enum has a definition that gives this paper's number and values for each of
+-- the enum's cases": the answers of the readers of a set and of a step, in the plan bytes bs.
 use mathlib.Core.List.{List}
 use Prim.Native.Nat.{ℕ}
 use lib.ListN.{length, drop}

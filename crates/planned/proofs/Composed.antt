@@ -40,7 +40,9 @@ module _ (q : Request) (r : ReadJob q) where
   ordering-fits = done-both _ _ (job-by-exact (jobIn q) (q .head .method) .1 (r .is-job, r .method))
 
   planning-fits : planningKnown (jobIn q) (orderOf q) ≡ fits
-  planning-fits = planning-known (jobIn q) (orderOf q) (exact-known (jobIn q) (orderOf q) (r .is-job) (order-complete (q .head .method) (capacity (q .head .rig)) (q .wants)))
+  planning-fits =
+      planning-known (jobIn q) (orderOf q) (exact-known (jobIn q) (orderOf q) (r .is-job)
+      (order-complete (q .head .method) (capacity (q .head .rig)) (q .wants)))
 
   order-done : fits ≡ done tt → orderRequest q ≡ done (orderOf q)
   unfolding orderRequest
@@ -61,7 +63,8 @@ module _ (bs : List ℕ) (q : Request) (all : Bytes bs) (read : readBytes bs ≡
   is : ReadJob q
   is = read-exact bs q all read
 
-  pub job-planned : wantsFit (capacity (q .head .rig)) (q .wants) ≡ done tt → planJob bs ≡ done (record { request = q; order = orderOf q; plan = handed (setsOf q) })
+  pub job-planned : wantsFit (capacity (q .head .rig)) (q .wants) ≡ done tt
+      → planJob bs ≡ done (record { request = q; order = orderOf q; plan = handed (setsOf q) })
   unfolding planJob orderAndPlan planInOrder _>>=_
   job-planned f = rw (read, order-done q is f, planned q is f) refl
 

@@ -102,7 +102,8 @@ module _ (bs : List ℕ) (all : Bytes bs) where
     unfolding plannedOutcome
     refused-job r e = mapped-refused told (planJob bs) _ _ (sym whole ∙ rw e refl)
 
-    given : (p : Planned) (h : Head) (m : ℕ) (new : Lists) → planJob bs ≡ done p → p .request .head ≡ h → curveCount (p .plan .loads) ≡ m → First p new → Given bs h m new
+    given : (p : Planned) (h : Head) (m : ℕ) (new : Lists) → planJob bs ≡ done p → p .request .head ≡ h → curveCount (p .plan .loads) ≡ m → First p new
+        → Given bs h m new
     given p h m new e is c f =
         rw (← is) (record {
           planned = p;

@@ -110,7 +110,9 @@ module _ (q : Request) (tests : length (q .wants) ≡ q .head .tests) where
 
     pub plan-answer : planAnswer j order lent ≡ mapped (λ p. curveCount (p .plan .loads)) (planInOrder q order)
     unfolding planAnswer planInOrder
-    plan-answer = rw plan-there (mapped-after (λ (p : Planned). curveCount (p .plan .loads)) (λ sets. record { request = q; order = order; plan = handed sets }) (planning j order n))
+    plan-answer =
+        rw plan-there (mapped-after (λ (p : Planned). curveCount (p .plan .loads)) (λ sets. record { request = q; order = order; plan = handed sets })
+        (planning j order n))
 
     pub plan-left : planLists j order lent ≡ leavesPlan (planInOrder q order) lent
     unfolding planLists planInOrder
@@ -146,15 +148,18 @@ module _ (bs : List ℕ) (old : Lists) (wants : List ℕ) (w : wants ≡ leaves 
   unfolding leavesLists mapped leaves _>>=_
   unread-lists k i e = rw (w, unread bs k i e, e) refl
 
-  pub read-lists : (q : Request) (order : List ℕ) (plan : Plan) → readBytes bs ≡ done q → order ≡ leaves (orderRequest q) (old .order) → plan ≡ leavesPlan (orderAndPlan q) (old .plan)
+  pub read-lists : (q : Request) (order : List ℕ) (plan : Plan) → readBytes bs ≡ done q → order ≡ leaves (orderRequest q) (old .order)
+      → plan ≡ leavesPlan (orderAndPlan q) (old .plan)
       → listsOf wants order plan ≡ leavesLists bs old
   unfolding leavesLists _>>=_
   read-lists q order plan e o p = rw (w, o, p, was-read bs q e, e) refl
 
 -- ---- the answer, of the load count that was answered
-module _ (bs : List ℕ) (q : Request) (e : readBytes bs ≡ done q) (x : Counted) (c : countOutcome x ≡ mapped (λ p. curveCount (p .plan .loads)) (orderAndPlan q)) where
+module _ (bs : List ℕ) (q : Request) (e : readBytes bs ≡ done q) (x : Counted)
+    (c : countOutcome x ≡ mapped (λ p. curveCount (p .plan .loads)) (orderAndPlan q)) where
   -- what is planned is what was asked
-  asked : (o : Outcome (List Sets)) (order : List ℕ) (p : Planned) → _>>=_ o (λ sets. done (record { request = q; order = order; plan = handed sets })) ≡ done p → p .request ≡ q
+  asked : (o : Outcome (List Sets)) (order : List ℕ) (p : Planned)
+      → _>>=_ o (λ sets. done (record { request = q; order = order; plan = handed sets })) ≡ done p → p .request ≡ q
   unfolding _>>=_
   asked (done sets) order p e = sym (ap (λ (p : Planned). p .request) (done-same e))
   asked (refused k i) order p e = absurd (refused≢done e)
@@ -166,7 +171,8 @@ module _ (bs : List ℕ) (q : Request) (e : readBytes bs ≡ done q) (x : Counte
 
   pub tells-refusal : (r : Refusal) → x ≡ Counted.Refused r → plannedOutcome (JobPlanned.Refused r) ≡ mapped told (planJob bs)
   unfolding plannedOutcome
-  tells-refusal r f = refused-mapped told (planJob bs) _ _ (was-read bs q e ∙ mapped-refused (λ p. curveCount (p .plan .loads)) (orderAndPlan q) _ _ (count-refused x _ r c f))
+  tells-refusal r f =
+      refused-mapped told (planJob bs) _ _ (was-read bs q e ∙ mapped-refused (λ p. curveCount (p .plan .loads)) (orderAndPlan q) _ _ (count-refused x _ r c f))
 
   pub tells-count : (n : ℕ) → x ≡ Counted.Count n → plannedOutcome (JobPlanned.Planned (q .head) n) ≡ mapped told (planJob bs)
   unfolding plannedOutcome orderAndPlan

@@ -42,7 +42,8 @@ leavesPlan o old = planOf (leaves (mapped (λ p. p .plan .drops) o) (old .drops)
 -- the lists after a call: each stage that succeeds fills its own
 unfoldable pub leavesLists : List ℕ → Lists → Lists
 leavesLists bs old =
-    listsOf (leaves (mapped (λ q. q .wants) (readBytes bs)) (old .wants)) (leaves (_>>=_ (readBytes bs) orderRequest) (old .order)) (leavesPlan (planJob bs) (old .plan))
+    listsOf (leaves (mapped (λ q. q .wants) (readBytes bs)) (old .wants)) (leaves (_>>=_ (readBytes bs) orderRequest) (old .order))
+    (leavesPlan (planJob bs) (old .plan))
 
 -- the lists take the 256 entries that a job can need, else 9 whatever the job, and nothing changes
 abbrev pub shortest : Lists → ℕ

@@ -70,7 +70,8 @@ module _ (j : Job) (order : List ℕ) (p : Plan) where
 
   passing : Passes j order p → checking j order p ≡ done (curveCount (p .loads))
   passing ok =
-      check-ended j order p (exact-known j order (ok .is-job) (ok .is-order)) (sets-known n (length (p .drops)) (length (p .loads)) (ok .drop-sets) (ok .load-sets)) _
+      check-ended j order p (exact-known j order (ok .is-job) (ok .is-order))
+      (sets-known n (length (p .drops)) (length (p .loads)) (ok .drop-sets) (ok .load-sets)) _
       (steps-exact (capacity (j .rig)) (allCurves (j .rig .curves)) 0 0 ms .1 (ok .steps))
 
   -- THE CHECK IS EXACT: it passes a plan, with its load count, exactly where the plan keeps every rule

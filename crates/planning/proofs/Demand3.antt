@@ -27,7 +27,8 @@ use Rattle.drive.proofs.Best.{furthest-passes, furthest-is-fewest}
 use Rattle.planning.specs.Plan.{Plan, handed, first, entries, inOrder}
 use Rattle.planning.specs.Planning.{ourPlan, planning, planAnswer, planLists, checking}
 use Rattle.planning.specs.Demand3.{Demand3}
-use Rattle.planning.proofs.Sequence.{known-exact, exact-known, planning-parts, planning-known, steps-length, sets-known, check-ended, plan-refused, plan-done}
+use Rattle.planning.proofs.Sequence.{known-exact, exact-known, planning-parts, planning-known, steps-length, sets-known, check-ended, plan-refused}
+use Rattle.planning.proofs.Sequence.{plan-done}
 use Rattle.planning.proofs.CheckExact.{passed}
 
 module _ (j : Job) (order : List ℕ) where
@@ -96,7 +97,10 @@ module _ (j : Job) (order : List ℕ) where
   our-least other m e =
       let p = passed j order other m e in
       let f = furthest-is-fewest (j .rig .curves) cap 0 (empty-≼ all) (p .steps) in
-      rw (wants-of steps (other .drops) (other .loads), loads-of steps (other .drops) (other .loads) (p .load-sets ∙ sym (steps-length j order (exact-known j order (p .is-job) (p .is-order))))) at f
+      rw (
+        wants-of steps (other .drops) (other .loads),
+        loads-of steps (other .drops) (other .loads) (p .load-sets ∙ sym (steps-length j order (exact-known j order (p .is-job) (p .is-order)))),
+      ) at f
 
   module _ (lent : Plan) where
     abbrev plan : Outcome (List Sets)
@@ -133,17 +137,20 @@ module _ (j : Job) (order : List ℕ) where
         kept : (f : List Sets → List ℕ) (old : List ℕ) → leaves (mapped f plan) old ≡ old
         kept f old = leaves-refused f plan k i old r
 
-        go : Examines (Fails (λ w. leb (size w) cap) (j .wants)) 7 0 (each (λ w. leb (size w) cap) 7 0 (j .wants)) → (t : ℕ) × (t < n) × (cap < size (getD (j .wants) t 0))
+        go : Examines (Fails (λ w. leb (size w) cap) (j .wants)) 7 0 (each (λ w. leb (size w) cap) 7 0 (j .wants))
+            → (t : ℕ) × (t < n) × (cap < size (getD (j .wants) t 0))
         go (faultless f none) =
             absurd (refused≢done (sym r ∙ plan-done j order (entries lent) (planning-known j order known ∙ f)
             (omega (arith, ap length (kept dropsOf (lent .drops)), ap length (kept loadsOf (lent .loads))))))
         go (faulty t f first) = (t, first .0 .0, leb-false (size (getD (j .wants) t 0)) cap (first .0 .1))
 
-    missing-too-large : checkingKnown j order ≡ done tt → (t : ℕ) → t < n → cap < size (getD (j .wants) t 0) → (k : ℕ) × (i : ℕ) × (planAnswer j order lent ≡ refused k i)
+    missing-too-large : checkingKnown j order ≡ done tt → (t : ℕ) → t < n → cap < size (getD (j .wants) t 0)
+        → (k : ℕ) × (i : ℕ) × (planAnswer j order lent ≡ refused k i)
     unfolding planAnswer wantsFit
     missing-too-large known t l h = go (each-examines (λ w. leb (size w) cap) 7 0 (j .wants))
       where
-        go : Examines (Fails (λ w. leb (size w) cap) (j .wants)) 7 0 (each (λ w. leb (size w) cap) 7 0 (j .wants)) → (k : ℕ) × (i : ℕ) × (mapped loadCount plan ≡ refused k i)
+        go : Examines (Fails (λ w. leb (size w) cap) (j .wants)) 7 0 (each (λ w. leb (size w) cap) 7 0 (j .wants))
+            → (k : ℕ) × (i : ℕ) × (mapped loadCount plan ≡ refused k i)
         go (faultless f none) = absurd (none t (l, lt-leb (size (getD (j .wants) t 0)) cap h))
         go (faulty s f first) = (7, 0 + s, rw (plan-refused j order (entries lent) 7 (0 + s) (planning-known j order known ∙ f)) (unfold mapped in refl))
 

@@ -35,7 +35,8 @@ pub record Rejected (j : Job) (order : List ℕ) (p : Plan) (i : ℕ) : Type 0 w
       × FirstFault (capacity (j .rig)) (allCurves (j .rig .curves)) 0 (moves (inOrder (j .wants) order) (p .drops) (p .loads)) i)
 
 -- a sequence that is refused: its first part is, or the rest
-refused-split : {A B : Type 0} (a : Outcome A) (b : Outcome B) (k i : ℕ) → _>>_ a b ≡ refused k i → (a ≡ refused k i) ⊎ ((x : A) × (a ≡ done x) × (b ≡ refused k i))
+refused-split : {A B : Type 0} (a : Outcome A) (b : Outcome B) (k i : ℕ) → _>>_ a b ≡ refused k i
+    → (a ≡ refused k i) ⊎ ((x : A) × (a ≡ done x) × (b ≡ refused k i))
 unfolding _>>_
 refused-split (done x) b k i e = inr (x, refl, e)
 refused-split (refused l j) b k i e = inl cc
@@ -92,9 +93,14 @@ module _ (j : Job) (order : List ℕ) (p : Plan) (i : ℕ) where
       by-sets (inr e) =
           let x = entries-exact n d l .0 (e .1) in
           let z : i ≡ 0 + i = omega arith in
-          inr (x .0, x .1, fault-exact (capacity (j .rig)) all 0 0 ms i .0 (broke (checkFrom (capacity (j .rig)) all 0 0 ms) (curveCount (p .loads)) i (e .2) ∙ ap Breaks z))
+          inr (
+            x .0,
+            x .1,
+            fault-exact (capacity (j .rig)) all 0 0 ms i .0 (broke (checkFrom (capacity (j .rig)) all 0 0 ms) (curveCount (p .loads)) i (e .2) ∙ ap Breaks z),
+          )
 
-      by-known : (checkingKnown j order ≡ refused 12 i) ⊎ ((x : Unit {0}) × (checkingKnown j order ≡ done x) × (set-check ≡ refused 12 i)) → Rejected j order p i
+      by-known : (checkingKnown j order ≡ refused 12 i) ⊎ ((x : Unit {0}) × (checkingKnown j order ≡ done x) × (set-check ≡ refused 12 i))
+          → Rejected j order p i
       by-known (inl e) = absurd (known-refuses e)
       by-known (inr x) =
           let k = known-exact j order (x .1) in

@@ -8,7 +8,8 @@ use Rattle.bitset.specs.Set.{inside}
 use Rattle.job.specs.Refusal.{Outcome, done, refused, _>>=_, _>>_, mapped, demand, room}
 use Rattle.lists.specs.Choice.{keep, choose, bestOf}
 use Rattle.job.specs.Words.{Job, jobOf}
-use Rattle.job.specs.Handed.{between, listed, each, someTests, placesKnown, curvesKnown, testsKnown, methodKnown, wantsKnown, wantsFit, numbersKnown, jobKnownBy}
+use Rattle.job.specs.Handed.{between, listed, each, someTests, placesKnown, curvesKnown, testsKnown, methodKnown, wantsKnown, wantsFit, numbersKnown}
+use Rattle.job.specs.Handed.{jobKnownBy}
 use Rattle.job.specs.Order.{orderFrom}
 use Rattle.job.specs.Calls.{checkingKnown, planningKnown}
 use Rattle.drive.specs.Steps.{dropsOf, loadsOf, moves, curveCount}

@@ -50,7 +50,8 @@ module _ (j : Job) (order : List ℕ) where
     steps-length = length-inOrder (j .wants) order ∙ order-length (length (j .wants)) order (known-exact known .1)
 
     -- their wants, in the first entries of a list
-    pub first-steps : (lent : List ℕ) → length (j .wants) ≤ length lent → take (length (j .wants)) (sets lent 0 (inOrder (j .wants) order)) ≡ inOrder (j .wants) order
+    pub first-steps : (lent : List ℕ) → length (j .wants) ≤ length lent
+        → take (length (j .wants)) (sets lent 0 (inOrder (j .wants) order)) ≡ inOrder (j .wants) order
     first-steps lent h = sets-front (inOrder (j .wants) order) lent (length (j .wants)) steps-length h
 
 -- ---- the lengths of the lists of sets
@@ -85,12 +86,14 @@ module _ (j : Job) (order : List ℕ) (p : Plan) where
     check-sets k i e = done-both _ _ known ∙ refused-both _ _ k i e
 
     module _ (sets : setsKnown (length (j .wants)) (length (p .drops)) (length (p .loads)) ≡ done tt) where
-      pub check-broken : (i : ℕ) → checkFrom (capacity (j .rig)) (allCurves (j .rig .curves)) 0 0 (moves (inOrder (j .wants) order) (p .drops) (p .loads)) ≡ Breaks i
+      pub check-broken : (i : ℕ)
+          → checkFrom (capacity (j .rig)) (allCurves (j .rig .curves)) 0 0 (moves (inOrder (j .wants) order) (p .drops) (p .loads)) ≡ Breaks i
           → checking j order p ≡ refused 12 i
       unfolding checking checkedOutcome _>>_
       check-broken i e = done-both _ _ known ∙ done-both _ _ sets ∙ rw e refl
 
-      pub check-ended : (h : ℕ) → checkFrom (capacity (j .rig)) (allCurves (j .rig .curves)) 0 0 (moves (inOrder (j .wants) order) (p .drops) (p .loads)) ≡ Ends h
+      pub check-ended : (h : ℕ)
+          → checkFrom (capacity (j .rig)) (allCurves (j .rig .curves)) 0 0 (moves (inOrder (j .wants) order) (p .drops) (p .loads)) ≡ Ends h
           → checking j order p ≡ done (curveCount (p .loads))
       unfolding checking checkedOutcome _>>_
       check-ended h e = done-both _ _ known ∙ done-both _ _ sets ∙ rw e refl

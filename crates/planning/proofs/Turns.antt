@@ -23,7 +23,8 @@ wants-at wants (t ∷ ts) zero h = refl
 wants-at wants (t ∷ ts) (suc i) h = wants-at wants ts i (omega arith)
 
 -- from step i on
-pub wants-next : (wants order : List ℕ) (i : ℕ) → i < length order → inOrder wants (drop i order) ≡ getD wants (getD order i 0) 0 ∷ inOrder wants (drop (i + 1) order)
+pub wants-next : (wants order : List ℕ) (i : ℕ) → i < length order
+    → inOrder wants (drop i order) ≡ getD wants (getD order i 0) 0 ∷ inOrder wants (drop (i + 1) order)
 unfolding inOrder
 wants-next wants order i h = rw (add-one i, drop-cons order i 0 h) refl
 

@@ -24,4 +24,5 @@ pub record Demand3 (j : Job) (order : List ℕ) (answer : Outcome ℕ) (lists : 
   pub least : (n : ℕ) → answer ≡ done n → (other : Plan) (m : ℕ) → checking j order other ≡ done m → n ≤ curveCount (other .loads)
   -- for every job and every order of it, with lists long enough, a plan is missing exactly where some test wants more curves than there are places
   pub missing : IsJob j → IsOrder (length (j .wants)) order → length (j .wants) ≤ entries lists
-      → ((number : ℕ) × (figure : ℕ) × (answer ≡ refused number figure)) ↔ ((t : ℕ) × (t < length (j .wants)) × (capacity (j .rig) < size (getD (j .wants) t 0)))
+      → ((number : ℕ) × (figure : ℕ) × (answer ≡ refused number figure)) ↔
+      ((t : ℕ) × (t < length (j .wants)) × (capacity (j .rig) < size (getD (j .wants) t 0)))

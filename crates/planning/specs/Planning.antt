@@ -33,7 +33,8 @@ module _ (j : Job) (order : List ℕ) (lent : Plan) where
   planAnswer = mapped loadCount (planning j order (entries lent))
 
   unfoldable pub planLists : Plan
-  planLists = planOf (leaves (mapped dropsOf (planning j order (entries lent))) (lent .drops)) (leaves (mapped loadsOf (planning j order (entries lent))) (lent .loads))
+  planLists =
+      planOf (leaves (mapped dropsOf (planning j order (entries lent))) (lent .drops)) (leaves (mapped loadsOf (planning j order (entries lent))) (lent .loads))
 
 -- 12: "before that, first missing or surplus position of the drops or loads, the smaller". A list with an entry for each of the n steps has no such position;
 -- one that is shorter lacks the entry at its length, and one that is longer has the entry n too many.

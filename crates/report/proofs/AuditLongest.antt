@@ -100,14 +100,16 @@ module _ (j : Request) (r : ReadJob j) where
       go : (o : Outcome (List Placed)) → readPlanBytes c t plan ≡ o → Refuses OfPlan o
       go (done ss) e = tt
       go (refused k i) e =
-          rw (refuses (λ (k i : ℕ). k ≡ 11) (readPlanBytes c t plan) k i (plan-eleven c t plan) e) (at-offset i (omega (arith, plan-figure c t plan k i e, r .tests, r .is-job .tests-bounds .1)))
+          rw (refuses (λ (k i : ℕ). k ≡ 11) (readPlanBytes c t plan) k i (plan-eleven c t plan) e)
+          (at-offset i (omega (arith, plan-figure c t plan k i e, r .tests, r .is-job .tests-bounds .1)))
 
   check-small : (order : List ℕ) (p : Plan) → length order ≤ 256 → Refuses OfPlan (checking (jobIn j) order p)
   unfolding checking checkingKnown setsKnown
   check-small order p m =
       let n = length (j .wants) in
       let l : n ≤ 256 = r .is-job .tests-bounds .1 in
-      refuses-both OfPlan _ _ (rw (done-both (jobKnown (jobIn j)) (orderKnown n order) (job-exact (jobIn j) .1 (r .is-job))) (order-small n [] order (omega arith)))
+      refuses-both OfPlan _ _ (rw (done-both (jobKnown (jobIn j)) (orderKnown n order) (job-exact (jobIn j) .1 (r .is-job)))
+      (order-small n [] order (omega arith)))
       (refuses-both OfPlan _ _ (refuses-demand OfPlan _ 12 (min (min (length (p .drops)) (length (p .loads))) n) (at-step _ (omega arith)))
       (refuses-both OfPlan _ _ (steps-small (capacity (j .head .rig)) (allCurves c) (moves (inOrder (j .wants) order) (p .drops) (p .loads))
       (omega (arith, length-moves (inOrder (j .wants) order) (p .drops) (p .loads), length-inOrder (j .wants) order))) tt))
@@ -118,7 +120,8 @@ module _ (j : Request) (r : ReadJob j) where
       refuses-bind OfPlan (planSteps c t plan) _ (plan-small plan)
       (λ ss e.
       refuses-bind OfPlan (checking (jobIn j) (testsOf ss) (planIn ss)) _
-      (check-small (testsOf ss) (planIn ss) (omega (arith, steps-count c t plan ss e, length-map ss (λ s. s .step .test), r .tests, r .is-job .tests-bounds .1)))
+      (check-small (testsOf ss) (planIn ss) (omega
+      (arith, steps-count c t plan ss e, length-map ss (λ s. s .step .test), r .tests, r .is-job .tests-bounds .1)))
       (λ m f. rw (passed-planned (jobIn j) (testsOf ss) (planIn ss) m f t (omega (arith, r .tests))) tt))
 
 -- A REFUSED JOB has a number from 1 to 6 ..

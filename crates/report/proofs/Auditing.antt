@@ -44,7 +44,11 @@ module _ (j : Job) (order : List ℕ) (lent : Plan) (k n : ℕ) (fits : length (
   counts : mapped (λ m. record { loads = k; fewest = m }) (countOutcome x) ≡ beside
   unfolding planAnswer
   counts =
-      rw (e, mapped-twice {C = Audit} loadCount (λ m. record { loads = k; fewest = m }) (planning j order (entries lent)), planning-room j order (entries lent) n long fits) refl
+      rw (
+        e,
+        mapped-twice {C = Audit} loadCount (λ m. record { loads = k; fewest = m }) (planning j order (entries lent)),
+        planning-room j order (entries lent) n long fits,
+      ) refl
 
   pub fewest-refused : (r : Refusal) → x ≡ Counted.Refused r → auditedOutcome (Audited.PlanRefused r) ≡ done beside
   unfolding auditedOutcome countOutcome mapped
@@ -61,7 +65,8 @@ module _ (q : Request) (order : List ℕ) (p : Plan) (x : Counted) (e : countOut
   unfolding auditedOutcome auditSteps countOutcome _>>=_
   steps-refused r f = rw (← e, f) refl
 
-  pub steps-counted : (n : ℕ) → x ≡ Counted.Count n → mapped (λ s. record { loads = n; fewest = loadCount s }) (planning (jobIn q) order (q .head .tests)) ≡ auditSteps q order p
+  pub steps-counted : (n : ℕ) → x ≡ Counted.Count n
+      → mapped (λ s. record { loads = n; fewest = loadCount s }) (planning (jobIn q) order (q .head .tests)) ≡ auditSteps q order p
   unfolding auditSteps countOutcome _>>=_
   steps-counted n f = rw (← e, f) (mapped-bind (λ s. record { loads = n; fewest = loadCount s }) (planning (jobIn q) order (q .head .tests)))
 
@@ -84,13 +89,15 @@ module _ (q : Request) (plan O : List ℕ) (lent : Plan) (long : q .head .tests 
       go (refused k i) = refl
 
   -- the first entries are the steps
-  given : (ss : List Placed) → planSteps c t plan ≡ done ss → (O′ : List ℕ) (new : Plan) → O′ ≡ readPlanOrder c t plan O lent → new ≡ readPlanLists c t plan O lent
+  given : (ss : List Placed) → planSteps c t plan ≡ done ss → (O′ : List ℕ) (new : Plan) → O′ ≡ readPlanOrder c t plan O lent
+      → new ≡ readPlanLists c t plan O lent
       → auditSteps q (take t O′) (first t new) ≡ auditPlan q plan
   unfolding auditPlan readPlanOrder readPlanLists planSteps _>>=_
   given ss m O′ new eo el =
       let r : planRead c t plan O lent ≡ done ss = whole ∙ m in
       let k = plan-count c t plan ss (both-done (countsKnown c t) (readPlanBytes c t plan) ss m .1) in
-      let po : take t O′ ≡ testsOf ss = ap (take t) (eo ∙ leaves-done testsOf (planRead c t plan O lent) ss O r) ∙ front (testsOf ss) O t (length-map ss (λ s. s .step .test) ∙ k) in
+      let po : take t O′ ≡ testsOf ss =
+      ap (take t) (eo ∙ leaves-done testsOf (planRead c t plan O lent) ss O r) ∙ front (testsOf ss) O t (length-map ss (λ s. s .step .test) ∙ k) in
       let pd = ap (take t) (leaves-done (λ ss. planIn ss .drops) (planRead c t plan O lent) ss (lent .drops) r)
       ∙ front (planIn ss .drops) (lent .drops) t (length-map ss (λ s. s .step .drops) ∙ k) in
       let pl = ap (take t) (leaves-done (λ ss. planIn ss .loads) (planRead c t plan O lent) ss (lent .loads) r)
@@ -105,7 +112,8 @@ module _ (q : Request) (plan O : List ℕ) (lent : Plan) (long : q .head .tests 
     pub plan-refused : (r : Refusal) → x ≡ Counted.Refused r → auditedOutcome (Audited.PlanRefused r) ≡ done (auditPlan q plan)
     unfolding auditedOutcome auditPlan countOutcome _>>=_
     plan-refused r f =
-        let m : planSteps c t plan ≡ refused (number r) (figure r) = mapped-refused length (planSteps c t plan) (number r) (figure r) (sym answered ∙ rw f refl) in
+        let m : planSteps c t plan ≡ refused (number r) (figure r) =
+        mapped-refused length (planSteps c t plan) (number r) (figure r) (sym answered ∙ rw f refl) in
         rw m refl
 
     pub plan-counted : (n : ℕ) → x ≡ Counted.Count n → (O′ : List ℕ) (new : Plan) → O′ ≡ readPlanOrder c t plan O lent → new ≡ readPlanLists c t plan O lent
@@ -137,7 +145,8 @@ counts-lines l f = simp append-assoc
 pub audited : {x : Audited} {o : Outcome (Outcome Audit)} (y : Audited) → x ≡ y → auditedOutcome x ≡ o → o ≡ auditedOutcome y
 audited y p q = sym q ∙ ap auditedOutcome p
 
-pub audit-written : (job plan old : List ℕ) {answer : Outcome ℕ} {new : List ℕ} {o : Outcome (Outcome Audit)} → audit job plan ≡ o → Filled (auditText o) old answer new
+pub audit-written : (job plan old : List ℕ) {answer : Outcome ℕ} {new : List ℕ} {o : Outcome (Outcome Audit)} → audit job plan ≡ o
+    → Filled (auditText o) old answer new
     → (answer ≡ auditAnswer job plan old) × (new ≡ auditBuffer job plan old)
 unfolding auditAnswer auditBuffer writeAudit fitted
 audit-written job plan old e f = rw e (f .answers, f .holds)

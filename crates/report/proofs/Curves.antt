@@ -43,13 +43,15 @@ bit-gone : (k s : ℕ) → bit k (s ∖ 2 ^ k) ≡ 0
 bit-gone k s = simp bitwise (omega (arith, bit-single k))
 
 -- of n curves from c on, the first is k
-curves-first : (n c k s : ℕ) → c ≤ k → k < c + n → k ∈ s → ((j : ℕ) → j < k → bit j s ≡ 0) → curvesText n c s ≡ text " " ++ decimal k ++ curvesText n c (s ∖ 2 ^ k)
+curves-first : (n c k s : ℕ) → c ≤ k → k < c + n → k ∈ s → ((j : ℕ) → j < k → bit j s ≡ 0)
+    → curvesText n c s ≡ text " " ++ decimal k ++ curvesText n c (s ∖ 2 ^ k)
 curves-first zero c k s l h m b = absurd (omega arith)
 curves-first (suc n) c k s l h m b = at (ℕ-discrete c k) (curves-first n (suc c) k s)
   where
     at : Dec (c ≡ k)
         → (suc c ≤ k → k < suc c + n → k ∈ s → ((j : ℕ) → j < k → bit j s ≡ 0)
-        → curvesText n (suc c) s ≡ text " " ++ decimal k ++ curvesText n (suc c) (s ∖ 2 ^ k)) → curvesText (suc n) c s ≡ text " " ++ decimal k ++ curvesText (suc n) c (s ∖ 2 ^ k)
+        → curvesText n (suc c) s ≡ text " " ++ decimal k ++ curvesText n (suc c) (s ∖ 2 ^ k))
+        → curvesText (suc n) c s ≡ text " " ++ decimal k ++ curvesText (suc n) c (s ∖ 2 ^ k)
     at (yes e) r =
         let here : bit c s ≡ 1 = rw e m in
         let gone : bit c (s ∖ 2 ^ k) ≡ 0 = rw e (bit-gone k s) in
@@ -96,7 +98,8 @@ one-length (suc d) c h = omega (arith, length-append (32 ∷ []) (decimal c), de
 curves-length : (n c s : ℕ) → c + n ≤ 100 → length (curvesText n c s) ≤ 3 * n
 unfolding curvesText
 curves-length zero c s h = omega arith
-curves-length (suc n) c s h = omega (arith, length-append (curveText (bit c s) c) (curvesText n (suc c) s), one-length (bit c s) c (omega arith), curves-length n (suc c) s (omega arith))
+curves-length (suc n) c s h =
+    omega (arith, length-append (curveText (bit c s) c) (curvesText n (suc c) s), one-length (bit c s) c (omega arith), curves-length n (suc c) s (omega arith))
 
 pub set-length : (s : ℕ) → length (setText s) ≤ 192
 unfolding setText text

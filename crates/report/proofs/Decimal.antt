@@ -41,7 +41,8 @@ first-digit (suc h) n l le p = go (n / 10) refl (first-digit h)
     go : (q : ℕ) → n / 10 ≡ q → ((m : ℕ) (l : List ℕ) → m ≤ h → 0 < m → NoZero (highDigits h (m / 10) ++ ((48 + m % 10) ∷ l)))
         → NoZero (highDigits (suc h) q ++ ((48 + n % 10) ∷ l))
     go zero e ih = omega arith
-    go (suc q) e ih = rw (append-assoc (highDigits h (suc q / 10)) ((48 + suc q % 10) ∷ []) ((48 + n % 10) ∷ l)) (ih (suc q) ((48 + n % 10) ∷ l) (omega arith) (omega arith))
+    go (suc q) e ih =
+        rw (append-assoc (highDigits h (suc q / 10)) ((48 + suc q % 10) ∷ []) ((48 + n % 10) ∷ l)) (ih (suc q) ((48 + n % 10) ∷ l) (omega arith) (omega arith))
 
 -- THE FIRST DIGIT is no zero, unless n is 0
 pub decimal-first : (n : ℕ) → 0 < n → NoZero (decimal n)

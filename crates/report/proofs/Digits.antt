@@ -45,7 +45,8 @@ unfolding highDigits
 high-length k zero n l = omega arith
 high-length k (suc h) zero l = omega arith
 high-length zero (suc h) (suc n) l = absurd (omega arith)
-high-length (suc k) (suc h) (suc n) l = omega (arith, length-append (highDigits h (suc n / 10)) ((48 + suc n % 10) ∷ []), high-length k h (suc n / 10) (omega arith))
+high-length (suc k) (suc h) (suc n) l =
+    omega (arith, length-append (highDigits h (suc n / 10)) ((48 + suc n % 10) ∷ []), high-length k h (suc n / 10) (omega arith))
 
 pub decimal-length : (k n : ℕ) → n < 10 ^ suc k → length (decimal n) ≤ suc k
 unfolding decimal

@@ -1,5 +1,5 @@
--- What an audit says: the plan passes the check with the loads answered, a plan for the same job and order has the fewest that are answered, and none has fewer.
--- Planning refuses nothing there, since every test of a plan that passes fits the places.
+-- What an audit says: the plan passes the check with the loads answered, a plan for the same job and order has the fewest that are answered, and none has
+-- fewer. Planning refuses nothing there, since every test of a plan that passes fits the places.
 use mathlib.Core.Path.{_≡_, refl, sym, ap, _∙_}
 use mathlib.Core.Bool.{Bool, true, false}
 use mathlib.Core.List.{List, [], _∷_}
@@ -36,7 +36,8 @@ Small p (w ∷ ws) = (size w ≤ p) × Small p ws
 -- a drive that holds the wants and at most its places has a place for each
 steps-small : {p all h : ℕ} {ms : List Move} → AllKept p all h ms → Small p (wantsOf ms)
 steps-small AllKept.none = tt
-steps-small (AllKept.step {h = h} {m = m} ok r) = (omega (arith, size-mono (m .want) (moved h (m .sets)) (⊆-by-bits (m .want) (moved h (m .sets)) (ok .wants)), ok .room), steps-small r)
+steps-small (AllKept.step {h = h} {m = m} ok r) =
+    (omega (arith, size-mono (m .want) (moved h (m .sets)) (⊆-by-bits (m .want) (moved h (m .sets)) (ok .wants)), ok .room), steps-small r)
 
 listed-small : (p : ℕ) (wants order : List ℕ) → Small p (inOrder wants order) → (t : ℕ) → 0 < count t order → size (getD wants t 0) ≤ p
 unfolding inOrder count digit
@@ -55,7 +56,8 @@ module _ (j : Job) (order : List ℕ) (p : Plan) (m : ℕ) (e : checking j order
       let ok = passed j order p m e in
       true-each (λ w. leb (size w) (capacity (j .rig))) 7 0 (j .wants)
       (λ t l. le-leb (size (getD (j .wants) t 0)) (capacity (j .rig))
-      (listed-small (capacity (j .rig)) (j .wants) order (rw (wants-of (inOrder (j .wants) order) (p .drops) (p .loads)) at (steps-small (ok .steps))) t (omega (arith, ok .is-order .once t l))))
+      (listed-small (capacity (j .rig)) (j .wants) order (rw (wants-of (inOrder (j .wants) order) (p .drops) (p .loads)) at (steps-small (ok .steps))) t
+      (omega (arith, ok .is-order .once t l))))
 
   passed-known : planningKnown j order ≡ done tt
   passed-known = let ok = passed j order p m e in planning-known j order (exact-known j order (ok .is-job) (ok .is-order)) ∙ passed-fits
@@ -95,7 +97,8 @@ said q order p a l e = go (checking (jobIn q) order p) refl e
         → _>>=_ o (λ count. _>>=_ (planning (jobIn q) order (q .head .tests)) (λ sets. done (record { loads = count; fewest = loadCount sets }))) ≡ done a
         → (checking (jobIn q) order p ≡ done (a .loads)) × (a .fewest ≡ loadCount (ourPlan (jobIn q) order))
     go (done m) h f =
-        let g : done (record { loads = m; fewest = loadCount (ourPlan (jobIn q) order) }) ≡ done a = rw (passed-planned (jobIn q) order p m h (q .head .tests) l) at f in
+        let g : done (record { loads = m; fewest = loadCount (ourPlan (jobIn q) order) }) ≡ done a =
+        rw (passed-planned (jobIn q) order p m h (q .head .tests) l) at f in
         let same = done-same g in
         (h ∙ ap (λ (x : Audit). done (x .loads)) same, sym (ap (λ (x : Audit). x .fewest) same))
     go (refused k i) h f = absurd (refused≢done f)

@@ -39,7 +39,8 @@ module _ (text old : List ℕ) where
         record { answers = rw (f, e) refl; holds = second .written ∙ rw f (rw z at (sets-eq text old 0 (omega arith))) }
 
 -- a text for which there is always room: its length is answered, and the buffer begins with it
-module _ (old : List ℕ) {text new : List ℕ} {x : Counted} {o : Outcome (List ℕ)} (fits : o ≡ done text) (answer : countOutcome x ≡ mapped length o) (bytes : new ≡ leaves o old) where
+module _ (old : List ℕ) {text new : List ℕ} {x : Counted} {o : Outcome (List ℕ)} (fits : o ≡ done text) (answer : countOutcome x ≡ mapped length o)
+    (bytes : new ≡ leaves o old) where
   pub whole-text : (n : ℕ) → x ≡ Counted.Count n → (n ≡ length text) × (new ≡ overwritten text old)
   unfolding leaves
   whole-text n e = (done-same (sym (count-done x (mapped length o) n answer e) ∙ sym (done-mapped length o text fits)), bytes ∙ rw fits refl)

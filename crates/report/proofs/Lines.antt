@@ -66,11 +66,13 @@ pub head-length : (h : Head) (order drops loads : List ℕ) →
     length (headText (shown h order drops loads))
     ≡ length (decimal (h .tests) ++ text " tests, ") + length (decimal (h .rig .places) ++ text " places, method ") + length (decimal (h .method) ++ text "\n")
 head-length h order drops loads =
-    rw (head-line h order drops loads) (lengths₃ (decimal (h .tests) ++ text " tests, ") (decimal (h .rig .places) ++ text " places, method ") (decimal (h .method) ++ text "\n"))
+    rw (head-line h order drops loads) (lengths₃ (decimal (h .tests) ++ text " tests, ") (decimal (h .rig .places) ++ text " places, method ")
+    (decimal (h .method) ++ text "\n"))
 
 pub step-length : (i t d l : ℕ) →
     length (stepText i (record { test = t; drops = d; loads = l }))
-    ≡ length (decimal i ++ text ": test ") + length (decimal t ++ text " drop") + length (setText d) + length (text " load") + length (setText l) + length (text "\n")
+    ≡ length (decimal i ++ text ": test ") + length (decimal t ++ text " drop") + length (setText d) + length (text " load") + length (setText l) + length
+    (text "\n")
 step-length i t d l =
     rw (step-line i t d l) (lengths₆ (decimal i ++ text ": test ") (decimal t ++ text " drop") (setText d) (text " load") (setText l) (text "\n"))
 
@@ -81,7 +83,8 @@ pub plan-length : (h : Head) (order drops loads : List ℕ) →
     length (planText (shown h order drops loads))
     ≡ length (headText (shown h [] [] [])) + length (stepsText 0 (steps order drops loads)) + length (text "loads " ++ decimal (curveCount loads) ++ text "\n")
 plan-length h order drops loads =
-    rw (plan-lines h order drops loads) (lengths₃ (headText (shown h [] [] [])) (stepsText 0 (steps order drops loads)) (text "loads " ++ decimal (curveCount loads) ++ text "\n"))
+    rw (plan-lines h order drops loads) (lengths₃ (headText (shown h [] [] [])) (stepsText 0 (steps order drops loads))
+    (text "loads " ++ decimal (curveCount loads) ++ text "\n"))
 
 pub refusal-length : (k i : ℕ) → length (printed (refused k i)) ≡ length (text "refused ") + length (decimal k ++ text " at ") + length (decimal i ++ text "\n")
 refusal-length k i = rw (refusal-line k i) (lengths₃ (text "refused ") (decimal k ++ text " at ") (decimal i ++ text "\n"))
@@ -92,7 +95,8 @@ refusal-length k i = rw (refusal-line k i) (lengths₃ (text "refused ") (decima
 pub record Short (bound most : ℕ) : Type 0 where
   pub step : (i t d l : ℕ) → i < bound → t < bound → length (stepText i (record { test = t; drops = d; loads = l })) ≤ most
 
-pub steps-short : (bound most i : ℕ) (order drops loads : List ℕ) → Short bound most → ((j : ℕ) → j < length order → getD order j 0 < bound) → i + length order ≤ bound
+pub steps-short : (bound most i : ℕ) (order drops loads : List ℕ) → Short bound most → ((j : ℕ) → j < length order → getD order j 0 < bound)
+    → i + length order ≤ bound
     → length (stepsText i (steps order drops loads)) ≤ most * length order
 unfolding steps stepsText
 steps-short bound most i [] drops loads s h l = zero-le

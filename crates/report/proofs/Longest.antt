@@ -91,12 +91,16 @@ pub sheet-longest : (bs : List ℕ) → Bytes bs → length (sheet bs) ≤ 10500
 unfolding sheet wantsFit
 sheet-longest bs all = go (readBytes bs) refl
   where
-    fits : (q : Request) → readBytes bs ≡ done q → (o : Outcome (Unit {0})) → wantsFit (capacity (q .head .rig)) (q .wants) ≡ o → length (printed (planJob bs)) ≤ 105000
-    fits q r (done tt) f = rw (job-planned bs q all r f) (rw (same-text (record { request = q; order = orderOf q; plan = handed (setsOf q) })) (planned-bound q (read-exact bs q all r) f))
+    fits : (q : Request) → readBytes bs ≡ done q → (o : Outcome (Unit {0})) → wantsFit (capacity (q .head .rig)) (q .wants) ≡ o
+        → length (printed (planJob bs)) ≤ 105000
+    fits q r (done tt) f =
+        rw (job-planned bs q all r f) (rw (same-text (record { request = q; order = orderOf q; plan = handed (setsOf q) }))
+        (planned-bound q (read-exact bs q all r) f))
     fits q r (refused k i) f =
         let is : ReadJob q = read-exact bs q all r in
         let few = refuses (λ (k i : ℕ). (k ≡ 7) × (i < 256)) (wantsFit (capacity (q .head .rig)) (q .wants)) k i
-        (refuses-each (λ (k i : ℕ). (k ≡ 7) × (i < 256)) (λ w. leb (size w) (capacity (q .head .rig))) 7 0 (q .wants) (λ t l. (refl, omega (arith, is .is-job .tests-bounds .1)))) f in
+        (refuses-each (λ (k i : ℕ). (k ≡ 7) × (i < 256)) (λ w. leb (size w) (capacity (q .head .rig))) 7 0 (q .wants)
+        (λ t l. (refl, omega (arith, is .is-job .tests-bounds .1)))) f in
         rw (job-too-large bs q all r k i f) (refusal-bound k i (omega (arith, few .0)) (omega (arith, few .1)))
 
     go : (o : Outcome Request) → readBytes bs ≡ o → length (printed (planJob bs)) ≤ 105000
@@ -108,4 +112,5 @@ sheet-longest bs all = go (readBytes bs) refl
 -- so a buffer of as many bytes takes every sheet
 pub sheet-fits : (bs : List ℕ) (lent : ℕ) → Bytes bs → 105000 ≤ lent → writeSheet bs lent ≡ done (sheet bs)
 unfolding writeSheet
-sheet-fits bs lent all l = done-both (room lent (length (sheet bs))) (done (sheet bs)) (done-room lent (length (sheet bs)) (omega (arith, sheet-longest bs all)))
+sheet-fits bs lent all l =
+    done-both (room lent (length (sheet bs))) (done (sheet bs)) (done-room lent (length (sheet bs)) (omega (arith, sheet-longest bs all)))

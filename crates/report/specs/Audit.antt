@@ -29,7 +29,8 @@ auditPlan q plan = do
   ss ← planSteps (q .head .rig .curves) (q .head .tests) plan
   auditSteps q (testsOf ss) (planIn ss)
 
--- a job's bytes and a plan's bytes: what comes of reading the job, 1 to 6, and within it what comes of the plan, so that a refusal tells which of the two it is of
+-- a job's bytes and a plan's bytes: what comes of reading the job, 1 to 6, and within it what comes of the plan, so that a refusal tells which of the two it
+-- is of
 unfoldable pub audit : List ℕ → List ℕ → Outcome (Outcome Audit)
 audit job plan = mapped (λ q. auditPlan q plan) (readBytes job)
 

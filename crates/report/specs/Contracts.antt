@@ -9,7 +9,8 @@ use Rattle.job.specs.Refusal.{Outcome, done, _>>_, mapped, room, leaves}
 use Rattle.planning.specs.Plan.{planOf}
 use Rattle.planned.specs.Planned.{Planned}
 
--- the text was put at a position: the position behind it is answered, and the buffer has as much of the text as there is room for (`sets` stores nothing beyond a list)
+-- the text was put at a position: the position behind it is answered, and the buffer has as much of the text as there is room for (`sets` stores nothing
+-- beyond a list)
 pub record Wrote (old : List ℕ) (at : ℕ) (text new : List ℕ) (next : ℕ) : Type 0 where
   pub behind : next ≡ at + length text
   pub written : new ≡ sets old at text

@@ -7,7 +7,8 @@ use borrow.Author.Needs.{needs}
 use Rattle.audit.proofs.main.Statement.{statement}
 use Rattle.audit.proofs.main.Tie as tie
 
-lent : (c : tie.After-audit-text) → let r = c .audit-text in (r .result ≤ length (r .last .1 .1 .0)) × (r .result ≡ length (take (r .result) (r .last .1 .1 .0)))
+lent : (c : tie.After-audit-text) → let r =
+    c .audit-text in (r .result ≤ length (r .last .1 .1 .0)) × (r .result ≡ length (take (r .result) (r .last .1 .1 .0)))
 lent c = whole-lent _ _ _ _ (c .audit-text .ensures .0) (c .audit-text .ensures .1)
 
 array-share-prefix-text : tie.Need-array-share-prefix-text

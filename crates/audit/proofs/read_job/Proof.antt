@@ -12,7 +12,8 @@ returns c =
     let r = c .read-full in
     let b = r .last .1 .0 in (
       r .ensures,
-      λ plan. enough (λ whole. audit whole plan) (r .result) b (λ whole. audit-job-prefix (length b) whole plan (omega (arith, r .kept .1 .0, c .before .read-full-arg .given))),
+      λ plan. enough (λ whole. audit whole plan) (r .result) b
+          (λ whole. audit-job-prefix (length b) whole plan (omega (arith, r .kept .1 .0, c .before .read-full-arg .given))),
     )
 
 pub read-job-spec : {M : Type 1} → statement M

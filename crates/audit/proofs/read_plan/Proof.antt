@@ -12,7 +12,8 @@ returns c =
     let r = c .read-full in
     let b = r .last .1 .0 in (
       r .ensures,
-      λ job. enough (λ whole. audit job whole) (r .result) b (λ whole. audit-plan-prefix (length b) job whole (omega (arith, r .kept .1 .0, c .before .read-full-arg .given))),
+      λ job. enough (λ whole. audit job whole) (r .result) b
+          (λ whole. audit-plan-prefix (length b) job whole (omega (arith, r .kept .1 .0, c .before .read-full-arg .given))),
     )
 
 pub read-plan-spec : {M : Type 1} → statement M

@@ -18,7 +18,8 @@ bytes c = bytes-of (now (c .before .args .job)) (λ k l. omega (arith, c .shared
 small : (c : tie.After-known-told) → (number (c .before .r .given .0 .0) ≤ 9) × (figure (c .before .r .given .0 .0) ≤ 5120)
 small c = refusal-bounds (now (c .before .before .before .before .before .before .before .before .before .args .job))
     (now (c .before .before .before .before .before .before .before .before .before .args .plan)) _
-    (c .before .before .before .before .before .job-to-plan .ensures .0) (bytes (c .before .before .before .before .before .before .before .before)) _ (c .before .r .given .1)
+    (c .before .before .before .before .before .job-to-plan .ensures .0) (bytes (c .before .before .before .before .before .before .before .before)) _
+    (c .before .r .given .1)
 
 mul-result : tie.Need-mul-result
 mul-result c = omega (arith, c .number-of .ensures, small (c .before) .0)
@@ -28,8 +29,11 @@ add-result c = omega (arith, c .before .number-of .ensures, c .figure-of .ensure
 
 returns : tie.Need-returns
 returns c = let a = c .before .before .before .before .before .before .before .before .before .before .before .args in
-    let g = c .before .before .before .before .before .before .before .job-to-plan .ensures in
-    (rw (c .before .number-of .ensures, c .figure-of .ensures) (answers-refusal (now (a .job)) (now (a .plan)) _ (g .0) _ (c .before .before .before .r .given .1)), g .1)
+    let g = c .before .before .before .before .before .before .before .job-to-plan .ensures in (
+      rw (c .before .number-of .ensures, c .figure-of .ensures)
+          (answers-refusal (now (a .job)) (now (a .plan)) _ (g .0) _ (c .before .before .before .r .given .1)),
+      g .1,
+    )
 
 returns-2 : tie.Need-returns-2
 returns-2 c = let a = c .before .before .before .before .before .before .before .before .before .args in

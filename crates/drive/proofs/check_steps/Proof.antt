@@ -31,7 +31,8 @@ returns c =
     let k = c .before .before .before .before .before .before in
     let a = k .before .before .before .before .args in
     sym (k .loop .inv .goes
-    ∙ check-breaks (a .capacity) (a .all) (k .loop .held) (k .loop .i) (now (a .wants)) (now (a .drops)) (now (a .loads)) _ _ _ (c .before .before .before .before .before .loop-test .taken)
+    ∙ check-breaks (a .capacity) (a .all) (k .loop .held) (k .loop .i) (now (a .wants)) (now (a .drops)) (now (a .loads)) _ _ _
+    (c .before .before .before .before .before .loop-test .taken)
     (c .before .before .before .before .entry .ensures) (c .before .before .before .entry2 .ensures) (c .before .keeps .ensures) (not-true _ (c .if1 .taken)))
 
 loop-again : tie.Need-loop-again Inv-loop μ-loop
@@ -44,7 +45,8 @@ loop-again c =
           rw (c .moved .ensures) (k .loop .inv .goes
           ∙ check-goes (a .capacity) (a .all) (k .loop .held) (k .loop .i) (now (a .wants)) (now (a .drops)) (now (a .loads)) _ _ _
           (c .before .before .before .before .before .before .loop-test .taken)
-          (c .before .before .before .before .before .entry .ensures) (c .before .before .before .before .entry2 .ensures) (c .before .before .keeps .ensures) (not-false _ (c .before .if1 .left)));
+          (c .before .before .before .before .before .entry .ensures) (c .before .before .before .before .entry2 .ensures) (c .before .before .keeps .ensures)
+          (not-false _ (c .before .if1 .left)));
     }
 
 returns-2 : tie.Need-returns-2 Inv-loop μ-loop

@@ -26,7 +26,8 @@ after-2 c =
     let e = c .before .inside .ensures in
     let k = c .before .before .before .without .ensures in
     ⊎-elim
-    (λ w. then _ _ _ _ e (w .0 .taken) (w .2 ∙ ap (λ (x : ℕ). eqb x 0) (w .1 .ensures ∙ ap (λ (x : ℕ). c .before .before .before .before .args .sets .loads ∩ x) k)))
+    (λ w. then _ _ _ _ e (w .0 .taken) (w .2
+    ∙ ap (λ (x : ℕ). eqb x 0) (w .1 .ensures ∙ ap (λ (x : ℕ). c .before .before .before .before .args .sets .loads ∩ x) k)))
     (λ w. else _ _ _ _ e (w .0 .left) (w .1))
     (c .if1 .came)
 
@@ -44,7 +45,8 @@ after c = c .union .ensures ∙ ap (λ (x : ℕ). x ∪ c .before .before .args 
 after-4 : (c : tie.Joined3)
     → let a = c .before .before .before .before .before .before .args in
     c .if3 .if4
-    ≡ inside (a .sets .drops) (a .held) && eqb (a .sets .loads ∩ (a .held ∖ a .sets .drops)) 0 && inside (a .sets .loads) (a .all) && inside (a .want) (moved (a .held) (a .sets))
+    ≡ inside (a .sets .drops) (a .held) && eqb (a .sets .loads ∩ (a .held ∖ a .sets .drops)) 0 && inside (a .sets .loads) (a .all) && inside (a .want)
+    (moved (a .held) (a .sets))
 after-4 c =
     let e = after-3 (c .before) in
     let u = after (c .before .before .before .before) in

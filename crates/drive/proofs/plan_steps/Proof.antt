@@ -1,5 +1,5 @@
--- `plan_steps` meets its contract. The invariant: what is written in all comes to what is written and what the steps from i on will write, and so does what is held
--- at the end; and the list of loads still has, from step i on, what the steps after each want together.
+-- `plan_steps` meets its contract. The invariant: what is written in all comes to what is written and what the steps from i on will write, and so does what
+-- is held at the end; and the list of loads still has, from step i on, what the steps after each want together.
 use mathlib.Core.Path.{_≡_, refl, sym, ap, _∙_}
 use Prim.Native.Nat.{ℕ, _+_, _-_, _≤_, _<_}
 use mathlib.Core.List.{List}
@@ -99,7 +99,8 @@ returns c =
     let l = c .before .before .before .before .write-later in
     let g = goes-end _ _ _ _ _ _ (c .before .loop .inv .goes) (c .loop-test .left) in
     let ss = planFrom (furthest 64) (a .capacity) (a .start) (now (a .wants)) in
-    let n : length (loadsOf ss) ≡ length (now (a .wants)) = length-map ss (λ s. s .loads) ∙ length-plan (furthest 64) (a .capacity) (a .start) (now (a .wants)) in
+    let n : length (loadsOf ss) ≡ length (now (a .wants)) =
+    length-map ss (λ s. s .loads) ∙ length-plan (furthest 64) (a .capacity) (a .start) (now (a .wants)) in
     let over = sets-over (loadsOf ss) _ (now (a .loads)) 0 (l .kept .1 .0) (λ j h. absurd (omega arith)) (λ j h. l .ensures .1 j (omega arith)) in
     (g .0, (g .1 .0, g .1 .1 ∙ over))
 

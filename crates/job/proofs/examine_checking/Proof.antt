@@ -18,7 +18,8 @@ examine-order-requires c κs = job-exact _ .0 (examined-passed _ _ (c .enum-told
 
 returns-2 : tie.Need-returns-2
 unfolding checkingKnown
-returns-2 c = c .examine-order .ensures ∙ sym (done-both _ _ (examined-passed _ _ (c .before .enum-told .given .1) (c .before .before .before .examine-job .ensures)))
+returns-2 c =
+    c .examine-order .ensures ∙ sym (done-both _ _ (examined-passed _ _ (c .before .enum-told .given .1) (c .before .before .before .examine-job .ensures)))
 
 pub examine-checking-spec : {M : Type 1} → statement M
 examine-checking-spec = tie.close (tie.spec (λ c κs. search needs) (λ c. search needs) returns (λ c. search needs) examine-order-requires returns-2)

@@ -19,7 +19,9 @@ examine-wants-requires c κs = known-bounds _ _ (examined-passed _ _ (c .before 
 
 returns-3 : tie.Need-returns-3
 returns-3 c =
-    c .examine-wants .ensures ∙ sym (by-rest _ _ (examined-passed _ _ (c .before .before .enum-told .given .1) (c .before .before .before .before .examine-numbers .ensures)) (c .before .if1 .left))
+    c .examine-wants .ensures
+    ∙ sym (by-rest _ _ (examined-passed _ _ (c .before .before .enum-told .given .1) (c .before .before .before .before .examine-numbers .ensures))
+    (c .before .if1 .left))
 
 pub examine-job-spec : {M : Type 1} → statement M
 examine-job-spec =

@@ -17,7 +17,8 @@ unfolding examinedOutcome
 returns-2 c = sym (bad-places _ _ (omega arith) (sym (c .before .in-bounds .ensures) ∙ not-true _ (c .if2 .taken)))
 
 returns-3 : tie.Need-returns-3
-returns-3 c = c .examine-counts .ensures ∙ sym (numbers-counts _ _ (omega arith) (sym (c .before .before .in-bounds .ensures) ∙ not-false _ (c .before .if2 .left)))
+returns-3 c =
+    c .examine-counts .ensures ∙ sym (numbers-counts _ _ (omega arith) (sym (c .before .before .in-bounds .ensures) ∙ not-false _ (c .before .if2 .left)))
 
 pub examine-numbers-spec : {M : Type 1} → statement M
 examine-numbers-spec = tie.close (tie.spec returns (λ c κs. search needs) returns-2 (λ c κs. search needs) returns-3)

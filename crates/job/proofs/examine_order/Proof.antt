@@ -1,4 +1,5 @@
--- `job::examine_order` meets its contract. The invariant: a flag is set for each test of the first i positions, and the whole examination comes to that of the rest.
+-- `job::examine_order` meets its contract. The invariant: a flag is set for each test of the first i positions, and the whole examination comes to that of
+-- the rest.
 use mathlib.Core.Path.{_≡_, refl, sym, _∙_}
 use mathlib.Core.Bool.{false}
 use Prim.Native.Nat.{ℕ, _≤_, _<_, _-_}
@@ -54,7 +55,8 @@ unfolding examinedOutcome
 returns-3 c =
     let k = c .before .before .before .before .before in
     let a = k .before .args in
-    sym (k .loop .inv .goes ∙ order-again (a .tests) (now (a .order)) (k .loop .i) (omega arith) (omega arith) (omega arith) (sym (k .loop .inv .marks _) ∙ c .if3 .taken))
+    sym (k .loop .inv .goes
+    ∙ order-again (a .tests) (now (a .order)) (k .loop .i) (omega arith) (omega arith) (omega arith) (sym (k .loop .inv .marks _) ∙ c .if3 .taken))
 
 loop-again : tie.Need-loop-again Inv-loop μ-loop
 loop-again c =
@@ -75,14 +77,16 @@ unfolding examinedOutcome demand
 returns-4 c =
     let k = c .before .before in
     let a = k .before .args in
-    sym (k .loop .inv .goes ∙ order-end (a .tests) (now (a .order)) (k .loop .i) (omega arith) (omega arith) ∙ rw (lt-leb (a .tests) (k .loop .i) (c .if4 .taken)) refl)
+    sym (k .loop .inv .goes ∙ order-end (a .tests) (now (a .order)) (k .loop .i) (omega arith) (omega arith)
+    ∙ rw (lt-leb (a .tests) (k .loop .i) (c .if4 .taken)) refl)
 
 returns-5 : tie.Need-returns-5 Inv-loop μ-loop
 unfolding examinedOutcome demand
 returns-5 c =
     let k = c .before .before in
     let a = k .before .args in
-    sym (k .loop .inv .goes ∙ order-end (a .tests) (now (a .order)) (k .loop .i) (omega arith) (omega arith) ∙ rw (le-leb (a .tests) (k .loop .i) (c .if4 .left)) refl)
+    sym (k .loop .inv .goes ∙ order-end (a .tests) (now (a .order)) (k .loop .i) (omega arith) (omega arith)
+    ∙ rw (le-leb (a .tests) (k .loop .i) (c .if4 .left)) refl)
 
 pub examine-order-spec : {M : Type 1} → statement M
 examine-order-spec =

@@ -34,13 +34,16 @@ loop-again c = (
   c .before .before .before .before .loop .inv .1
       ∙ each-pass (λ w. leb (size w) (c .before .before .before .before .before .before .args .places)) 7 0
       (c .before .before .before .before .before .before .args .wants .now) (c .before .before .before .before .loop .t) (omega arith)
-      (le-leb (size (getD (c .before .before .before .before .before .before .args .wants .now) (c .before .before .before .before .loop .t) 0)) _ (omega arith)),
+      (le-leb (size (getD (c .before .before .before .before .before .before .args .wants .now) (c .before .before .before .before .loop .t) 0)) _
+      (omega arith)),
 )
 
 returns-2 : tie.Need-returns-2 Inv-loop μ-loop
 unfolding examinedOutcome wantsFit
 returns-2 c =
-    sym (c .before .loop .inv .1 ∙ each-end (λ w. leb (size w) (c .before .before .before .args .places)) 7 0 (c .before .before .before .args .wants .now) (c .before .loop .t) (omega arith))
+    sym (c .before .loop .inv .1
+    ∙ each-end (λ w. leb (size w) (c .before .before .before .args .places)) 7 0 (c .before .before .before .args .wants .now) (c .before .loop .t)
+    (omega arith))
 
 pub examine-sizes-spec : {M : Type 1} → statement M
 examine-sizes-spec =

@@ -17,7 +17,8 @@ all-curves : (n r : ℕ) → r ≡ below (min n 64) → n ≤ 64 → r ≡ allCu
 all-curves n r e h = e ∙ ap below (min-eq-left h)
 
 abbrev Inv-loop : tie.InvT-loop
-Inv-loop curves wants all t₀ t = (t ≤ length wants) × (each (λ w. inside w (allCurves curves)) 10 4 wants ≡ each (λ w. inside w (allCurves curves)) 10 (4 + t) (drop t wants))
+Inv-loop curves wants all t₀ t =
+    (t ≤ length wants) × (each (λ w. inside w (allCurves curves)) 10 4 wants ≡ each (λ w. inside w (allCurves curves)) 10 (4 + t) (drop t wants))
 
 abbrev μ-loop : tie.MeasureT-loop
 μ-loop curves wants all t₀ t = length wants - t
@@ -51,7 +52,8 @@ returns-2 : tie.Need-returns-2 Inv-loop μ-loop
 unfolding examinedOutcome wantsKnown
 returns-2 c =
     sym (c .before .loop .inv .1
-    ∙ each-end (λ w. inside w (allCurves (c .before .before .before .before .args .curves))) 10 4 (c .before .before .before .before .args .wants .now) (c .before .loop .t) (omega arith))
+    ∙ each-end (λ w. inside w (allCurves (c .before .before .before .before .args .curves))) 10 4 (c .before .before .before .before .args .wants .now)
+    (c .before .loop .t) (omega arith))
 
 pub examine-wants-spec : {M : Type 1} → statement M
 examine-wants-spec =

@@ -17,7 +17,8 @@ use Rattle.ordering.proofs.order_tests.Statement.{statement}
 use Rattle.ordering.proofs.order_tests.Tie as tie
 
 -- 5, 10 and 7 were asked
-known : (c : tie.After-enum-told) → let a = c .before .before .before .before .before .args in orderingKnown (a .method) (jobOf (a .rig) (now (a .wants))) ≡ done tt
+known : (c : tie.After-enum-told) → let a =
+    c .before .before .before .before .before .args in orderingKnown (a .method) (jobOf (a .rig) (now (a .wants))) ≡ done tt
 known c = examined-passed _ _ (c .enum-told .given .1) (c .before .before .examine-ordering .ensures)
 
 returns : tie.Need-returns
@@ -25,7 +26,8 @@ unfolding countOutcome orderAnswer orderList
 returns c =
     let k = c .before .before .before in
     let a = k .before .before .before .args in
-    made-refused _ _ _ _ (not-known (a .method) (jobOf (a .rig) (now (a .wants))) (length (now (a .order))) _ _ (examined-refused _ _ _ (c .before .r .given .1) (k .examine-ordering .ensures)))
+    made-refused _ _ _ _ (not-known (a .method) (jobOf (a .rig) (now (a .wants))) (length (now (a .order))) _ _
+    (examined-refused _ _ _ (c .before .r .given .1) (k .examine-ordering .ensures)))
 
 returns-2 : tie.Need-returns-2
 unfolding countOutcome orderAnswer orderList
@@ -45,7 +47,8 @@ unfolding countOutcome orderAnswer orderList
 returns-3 c =
     let k = c .before .before .before .before in
     let a = k .before .before .before .before .before .before .args in
-    let m = made-done _ (now (a .order)) _ (ordered (a .method) (jobOf (a .rig) (now (a .wants))) (length (now (a .order))) (known (k .before)) (omega arith)) in
+    let m = made-done _ (now (a .order)) _ (ordered (a .method) (jobOf (a .rig) (now (a .wants))) (length (now (a .order))) (known (k .before)) (omega arith))
+    in
     (rw (order-entries (a .method) (a .rig .places) (now (a .wants))) at (m .0), c .before .before .write-order .ensures ∙ m .1)
 
 pub order-tests-spec : {M : Type 1} → statement M

@@ -20,7 +20,8 @@ returns c =
     runs.flips-as (now (a .wants)) (a .places) (now (a .a)) (now (a .b)) (h .head .result) (t .tail .result) (h2 .head2 .result) (t2 .tail2 .result)
     (s .shared .result) (s2 .shared2 .result) (s3 .shared3 .result) (s4 .shared4 .result)
     (h .head .ensures) (t .tail .ensures) (h2 .head2 .ensures) (t2 .tail2 .ensures)
-    (s .shared .ensures) (s2 .shared2 .ensures) (s3 .shared3 .ensures) (s4 .shared4 .ensures) _ _ _ (c .before .before .more .ensures) (c .before .more2 .ensures) (c .more3 .ensures)
+    (s .shared .ensures) (s2 .shared2 .ensures) (s3 .shared3 .ensures) (s4 .shared4 .ensures) _ _ _ (c .before .before .more .ensures)
+    (c .before .more2 .ensures) (c .more3 .ensures)
 
 pub flips-spec : {M : Type 1} → statement M
 flips-spec =

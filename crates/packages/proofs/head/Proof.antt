@@ -40,7 +40,8 @@ loop-again c =
     let i = k .loop .k in
     let h : i < length ts = omega arith in (
       omega arith,
-      rw (add-one i) (k .loop .inv .1 ∙ runs.run-more (now (a .wants)) (a .places) (k .loop .run) _ _ (getD ts i 0) (drop i ts) (drop (suc i) ts) (drop-cons ts i 0 h)
+      rw (add-one i) (k .loop .inv .1
+          ∙ runs.run-more (now (a .wants)) (a .places) (k .loop .run) _ _ (getD ts i 0) (drop i ts) (drop (suc i) ts) (drop-cons ts i 0 h)
           (c .before .before .before .entry .ensures) (c .before .before .union .ensures) (omega (arith, c .before .size .ensures, c .if1 .left))),
     )
 

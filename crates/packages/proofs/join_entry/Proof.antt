@@ -33,7 +33,10 @@ mul-xs-2 : tie.Need-mul-xs-2 Inv-loop μ-loop
 mul-xs-2 c = omega (arith, length-set (now (c .before .before .args .xs)) (c .before .before .args .first) (c .before .before .args .value))
 
 add-k : tie.Need-add-k Inv-loop μ-loop
-add-k c = omega (arith, length-set (now (c .before .before .before .args .xs)) (c .before .before .before .args .first) (c .before .before .before .args .value))
+add-k c = omega (
+  arith,
+  length-set (now (c .before .before .before .args .xs)) (c .before .before .before .args .first) (c .before .before .before .args .value),
+)
 
 loop-again : tie.Need-loop-again Inv-loop μ-loop
 loop-again c =
@@ -41,8 +44,12 @@ loop-again c =
     let a = k .before .args in
     let ys = set (now (a .xs)) (a .first) (a .value) in
     let n : length (k .loop .xs) ≡ length ys = ap length (k .loop .inv .2) ∙ lists.length-moved ys (a .second) (k .loop .k - a .second) (omega arith) in
-    let h : k .loop .k + 1 < length ys = omega arith in
-    (omega arith, h, ap (λ (l : List ℕ). set l (k .loop .k) (getD l (k .loop .k + 1) 0)) (k .loop .inv .2) ∙ lists.moved-more ys (a .second) (k .loop .k) (k .loop .inv .0) h)
+    let h : k .loop .k + 1 < length ys = omega arith in (
+      omega arith,
+      h,
+      ap (λ (l : List ℕ). set l (k .loop .k) (getD l (k .loop .k + 1) 0)) (k .loop .inv .2)
+          ∙ lists.moved-more ys (a .second) (k .loop .k) (k .loop .inv .0) h,
+    )
 
 same-length : tie.Need-same-length Inv-loop μ-loop
 same-length c =

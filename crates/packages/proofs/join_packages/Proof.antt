@@ -13,7 +13,8 @@ use Rattle.packages.proofs.join_packages.Statement.{statement}
 use Rattle.packages.proofs.join_packages.Tie as tie
 
 -- the part of the tests that the join changes
-spans : (c : tie.After-total2) → let s = c .before .before .before .before .before .before .before .before .before in let ls = now (s .args .lengths) in let b = getD ls (s .args .second) 0 in
+spans : (c : tie.After-total2) → let s = c .before .before .before .before .before .before .before .before .before in let ls =
+    now (s .args .lengths) in let b = getD ls (s .args .second) 0 in
     (c .before .before .total .result + (getD ls (s .args .first) 0 + b) ≤ c .total2 .result + b) × (c .total2 .result + b ≤ sumOf ls)
 spans c =
     let s = c .before .before .before .before .before .before .before .before .before in
@@ -79,7 +80,8 @@ returns c =
     let jt = c .before .before .before .before .before .before .join-tests in
     let b = getD ls j 0 in (
       λ ps rest laid.
-          state.laid-join laid i j (s .pre .0) (s .pre .1) (getD ls i 0) b (one .result) (two .result + b) refl refl (one .ensures) (ap (λ (n : ℕ). n + b) (two .ensures))
+          state.laid-join laid i j (s .pre .0) (s .pre .1) (getD ls i 0) b (one .result) (two .result + b) refl refl (one .ensures)
+          (ap (λ (n : ℕ). n + b) (two .ensures))
           (s .args .flipping) (now (s .args .wants)) (s .args .places) (jt .last .1 .1 .1 .0) _ _ (jt .ensures) refl (c .before .before .join-entry .ensures),
       ap sumOf (c .before .before .join-entry .ensures) ∙ lists.sum-joined ls i j (s .pre .0) (s .pre .1),
     )

@@ -12,7 +12,8 @@ use Rattle.packages.proofs.join_tests.Statement.{statement}
 use Rattle.packages.proofs.join_tests.Tie as tie
 
 slice-aggregate-reverse-if : tie.Need-slice-aggregate-reverse-if
-slice-aggregate-reverse-if c = sym (length-take-le (c .before .before .before .before .before .args .a) (now (c .before .before .before .before .before .args .part)) (omega arith))
+slice-aggregate-reverse-if c =
+    sym (length-take-le (c .before .before .before .before .before .args .a) (now (c .before .before .before .before .before .args .part)) (omega arith))
 
 returns : tie.Need-returns
 returns c =
@@ -29,7 +30,8 @@ returns c =
     let front : take a p ≡ x = ap (take a) e ∙ take-at x (y ++ z) a f in
     let n : length (x ++ y) ≡ from = omega (arith, length-append x y, ap length e, length-append x (y ++ z), length-append y z) in
     let back : drop from p ≡ z = ap (drop from) (e ∙ sym (append-assoc x y z)) ∙ drop-at (x ++ y) z from n in
-    runs.joined-part (way .result .first) (way .result .second) p q r x y z (one .last .1 .0) (two .last .1 .0) (c .before .before .exchange .last .0) a (k .args .b) from e f g refl
+    runs.joined-part (way .result .first) (way .result .second) p q r x y z (one .last .1 .0) (two .last .1 .0) (c .before .before .exchange .last .0) a
+    (k .args .b) from e f g refl
     (one .ensures) refl (two .ensures) refl (c .before .before .exchange .ensures)
     ∙ ap (λ (l : List ℕ). l ++ y) (sym (rw (front, back) at (way .ensures)))
 

@@ -34,7 +34,8 @@ one-each c = length-take-le (tests c) ones (c .before .before .before .before .b
 first-long : (c : tie.After-join-all) → length (take (tests c) (c .before .before .before .before .first-curves .result)) ≡ tests c
 first-long c =
     let fc = c .before .before .before .before .first-curves in
-    length-take-le (tests c) (fc .result) (omega (arith, fc .ensures .0, c .before .before .before .before .before .before .before .before .before .before .before .pre))
+    length-take-le (tests c) (fc .result) (omega
+    (arith, fc .ensures .0, c .before .before .before .before .before .before .before .before .before .before .before .pre))
 
 left-few : (c : tie.After-join-all) → c .join-all .result ≤ tests c
 left-few c = omega (arith, c .join-all .ensures .0 .0, one-each c)
@@ -50,7 +51,8 @@ all-curves c =
 lengths-left : (c : tie.After-join-all) → take (c .join-all .result) (lengths c ++ drop (tests c) ones) ≡ take (c .join-all .result) (lengths c)
 lengths-left c = take-append-le (c .join-all .result) (lengths c) _ (omega (arith, left-few c, c .join-all .kept .1 .1 .1 .1 .0, one-each c))
 
-curves-left : (c : tie.After-join-all) → take (c .join-all .result) (curves c ++ drop (tests c) (c .before .before .before .before .first-curves .result)) ≡ take (c .join-all .result) (curves c)
+curves-left : (c : tie.After-join-all)
+    → take (c .join-all .result) (curves c ++ drop (tests c) (c .before .before .before .before .first-curves .result)) ≡ take (c .join-all .result) (curves c)
 curves-left c = take-append-le (c .join-all .result) (curves c) _ (omega (arith, left-few c, c .join-all .kept .1 .1 .1 .1 .1 .0, first-long c))
 
 slice-aggregate-join-all : tie.Need-slice-aggregate-join-all
@@ -85,7 +87,12 @@ array-borrow-prefix-lengths-2 c =
 slice-aggregate-join-all-3 : tie.Need-slice-aggregate-join-all-3
 slice-aggregate-join-all-3 c =
     let j = c .before .before .before .before .before .before in
-    sym (length-take-le _ _ (omega (arith, all-lengths j, left-few j, j .before .before .before .before .before .before .before .before .before .before .before .pre)))
+    sym (length-take-le _ _ (omega (
+      arith,
+      all-lengths j,
+      left-few j,
+      j .before .before .before .before .before .before .before .before .before .before .before .pre,
+    )))
 
 array-borrow-prefix-curves-2 : tie.Need-array-borrow-prefix-curves-2
 array-borrow-prefix-curves-2 c =
@@ -95,7 +102,12 @@ array-borrow-prefix-curves-2 c =
 slice-aggregate-join-all-4 : tie.Need-slice-aggregate-join-all-4
 slice-aggregate-join-all-4 c =
     let j = c .before .before .before .before .before .before .before in
-    sym (length-take-le _ _ (omega (arith, all-curves j, left-few j, j .before .before .before .before .before .before .before .before .before .before .before .pre)))
+    sym (length-take-le _ _ (omega (
+      arith,
+      all-curves j,
+      left-few j,
+      j .before .before .before .before .before .before .before .before .before .before .before .pre,
+    )))
 
 join-all-requires-2 : tie.Need-join-all-requires-2
 join-all-requires-2 c κs =
@@ -104,7 +116,8 @@ join-all-requires-2 c κs =
     let r = j .join-all .result in
     let few = left-few j in
     let ls = length-take-le r (lengths j ++ drop (tests j) ones) (omega (arith, all-lengths j, few, s .pre)) in
-    let cs = length-take-le r (curves j ++ drop (tests j) (j .before .before .before .before .first-curves .result)) (omega (arith, all-curves j, few, s .pre)) in
+    let cs = length-take-le r (curves j ++ drop (tests j) (j .before .before .before .before .first-curves .result))
+    (omega (arith, all-curves j, few, s .pre)) in
     let sum = ap sumOf (lengths-left j) ∙ j .join-all .ensures .0 .1 ∙ lists.sum-ones (tests j) 256 (s .pre .0) in (
       omega (arith, ls, few, s .pre),
       cs ∙ sym ls,

@@ -10,7 +10,9 @@ use Rattle.packages.proofs.ways.Statement.{statement}
 use Rattle.packages.proofs.ways.Tie as tie
 
 slice-aggregate-flips : tie.Need-slice-aggregate-flips
-slice-aggregate-flips c = sym (length-take-le (c .before .before .before .before .args .a) (now (c .before .before .before .before .args .part)) (c .before .before .before .before .pre .0))
+slice-aggregate-flips c =
+    sym (length-take-le (c .before .before .before .before .args .a) (now (c .before .before .before .before .args .part))
+    (c .before .before .before .before .pre .0))
 
 returns : tie.Need-returns
 returns c =

@@ -16,7 +16,9 @@ returns c = rw (counts-refused _ _ _ _ _ (examined-refused _ _ _ (c .before .r .
 
 returns-2 : tie.Need-returns-2
 returns-2 c =
-    c .examine-steps .ensures ∙ ap (mapped (λ _. tt)) (sym (counts-passed _ _ _ (examined-passed _ _ (c .before .enum-told .given .1) (c .before .before .before .examine-counts .ensures))))
+    c .examine-steps .ensures
+    ∙ ap (mapped (λ _. tt)) (sym (counts-passed _ _ _
+    (examined-passed _ _ (c .before .enum-told .given .1) (c .before .before .before .examine-counts .ensures))))
 
 pub examine-plan-spec : {M : Type 1} → statement M
 examine-plan-spec = tie.close (tie.spec (λ c κs. search needs) (λ c. search needs) (λ c. search needs) examine-steps-requires returns returns-2)

@@ -74,7 +74,8 @@ loop-again c =
     let i = l .inv .1 in (
       _,
       record {
-        behind = step-more (a .curves) (a .tests) (now (a .plan)) (l .k) (l .at) (l .inv .0) (i .behind) h _ (c .before .before .before .read-step .ensures) _ _ _ _ (c .before .test .given .1);
+        behind = step-more (a .curves) (a .tests) (now (a .plan)) (l .k) (l .at) (l .inv .0) (i .behind) h _ (c .before .before .before .read-step .ensures) _
+            _ _ _ (c .before .test .given .1);
         tests = fill-more _ (now (a .order)) (l .inv .0) (l .order) (l .k) _ (i .behind .count) (omega arith) (i .tests);
         drops = fill-more _ (now (a .drops)) (l .inv .0) (l .drops) (l .k) _ (i .behind .count) (omega arith) (i .drops);
         loads = fill-more _ (now (a .loads)) (l .inv .0) (l .loads) (l .k) _ (i .behind .count) (omega arith) (i .loads);

@@ -15,14 +15,23 @@ use Rattle.plan_bytes.proofs.find_step.Tie as tie
 
 abbrev Inv-loop : tie.InvT-loop
 Inv-loop curves tests plan position size start₀ count₀ at₀ i₀ start count at i =
-    (acc : List Placed) × record { behind : Behind curves tests i at plan acc; inside : at ≤ length plan; part : PartIs curves tests plan position acc start count }
+    (acc : List Placed)
+    × record { behind : Behind curves tests i at plan acc; inside : at ≤ length plan; part : PartIs curves tests plan position acc start count }
 
 abbrev μ-loop : tie.MeasureT-loop
 μ-loop curves tests plan position size start₀ count₀ at₀ i₀ start count at i = tests - i
 
 loop-holds : tie.Need-loop-holds Inv-loop μ-loop
 loop-holds c = let a =
-    c .before .args in ([], record { behind = begin (a .curves) (a .tests) (now (a .plan)); inside = omega arith; part = part-none (a .curves) (a .tests) (now (a .plan)) (a .position) })
+    c .before .args in (
+      [],
+      record {
+        behind = begin (a .curves) (a .tests) (now (a .plan));
+        inside = omega arith;
+        part = part-none (a .curves) (a .tests) (now (a .plan))
+            (a .position);
+      },
+    )
 
 returns : tie.Need-returns Inv-loop μ-loop
 returns c =
@@ -39,7 +48,8 @@ onward : (c : tie.After-known-told Inv-loop μ-loop) →
 onward c =
     let l = c .before .before .before .before .before .loop in
     let a = c .before .before .before .before .before .before .before .args in
-    step-inside (a .curves) (a .tests) (now (a .plan)) (l .at) _ _ _ _ _ (l .inv .1 .inside) (c .before .before .before .read-step .ensures) (c .before .next .given .1)
+    step-inside (a .curves) (a .tests) (now (a .plan)) (l .at) _ _ _ _ _ (l .inv .1 .inside) (c .before .before .before .read-step .ensures)
+    (c .before .next .given .1)
 
 sub-count : tie.Need-sub-count Inv-loop μ-loop
 sub-count c = omega (arith, onward (c .before) .0)

@@ -15,7 +15,8 @@ use Rattle.plan_bytes.proofs.put_step.Tie as tie
 drops-long : (c : tie.After-put-field) → length (c .put-field .last .1 .1 .0) ≡ length (now (c .before .before .before .before .args .out))
 drops-long c = ap length (c .put-field .ensures .1) ∙ simp (length-sets, length-set)
 
-loads-long : (c : tie.After-put-field2) → length (c .put-field2 .last .1 .1 .0) ≡ length (now (c .before .before .before .before .before .before .before .before .args .out))
+loads-long : (c : tie.After-put-field2)
+    → length (c .put-field2 .last .1 .1 .0) ≡ length (now (c .before .before .before .before .before .before .before .before .args .out))
 loads-long c = ap length (c .put-field2 .ensures .1) ∙ simp length-sets (drops-long (c .before .before .before .before))
 
 -- where the loads end
@@ -54,7 +55,8 @@ returns c =
     let a = q .before .before .before .before .args in
     let m = q .before .before .step-map in (
       omega (arith, ends p .0, step-length (a .test) (a .drops) (a .loads)),
-      rw (p .put-field2 .ensures .1, q .put-field .ensures .1, ends p .0, q .put-field .ensures .0) (step-stores (a .test) (a .drops) (a .loads) (m .result) (a .to) (now (a .out)) (m .ensures)),
+      rw (p .put-field2 .ensures .1, q .put-field .ensures .1, ends p .0, q .put-field .ensures .0)
+          (step-stores (a .test) (a .drops) (a .loads) (m .result) (a .to) (now (a .out)) (m .ensures)),
     )
 
 pub put-step-spec : {M : Type 1} → statement M

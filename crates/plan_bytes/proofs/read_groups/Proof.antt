@@ -18,7 +18,8 @@ use Rattle.plan_bytes.proofs.read_groups.Tie as tie
 abbrev Inv-loop : tie.InvT-loop
 Inv-loop plan start groups curves next₀ set₀ j₀ next set j =
     (j ≤ 8) × (next ≤ length plan)
-    × (readGroups 11 11 11 curves 8 0 groups 0 start (lib.ListN.drop start plan) ≡ readGroups 11 11 11 curves (8 - j) j groups set next (lib.ListN.drop next plan))
+    × (readGroups 11 11 11 curves 8 0 groups 0 start (lib.ListN.drop start plan)
+    ≡ readGroups 11 11 11 curves (8 - j) j groups set next (lib.ListN.drop next plan))
 
 abbrev μ-loop : tie.MeasureT-loop
 μ-loop plan start groups curves next₀ set₀ j₀ next set j = 8 - j
@@ -36,8 +37,11 @@ returns c =
     let l = k .loop in
     let s = k .before .before in
     let a = s .args in
-    sym (l .inv .2 ∙ group-faulty (a .curves) (a .groups) (l .set) (l .next) (l .j) (now (a .plan)) (s .pre .0) (c .before .before .loop-test .taken) (c .before .read-due .result)
-    (λ x e. ⊎-elim (λ z. absurd (omega arith)) (λ w. ⊎-elim (λ z. absurd (omega arith)) (λ z. absurd (omega arith)) w) (rw e at (c .match .keys2))) (c .before .read-due .ensures))
+    sym (l .inv .2
+    ∙ group-faulty (a .curves) (a .groups) (l .set) (l .next) (l .j) (now (a .plan)) (s .pre .0) (c .before .before .loop-test .taken)
+    (c .before .read-due .result)
+    (λ x e. ⊎-elim (λ z. absurd (omega arith)) (λ w. ⊎-elim (λ z. absurd (omega arith)) (λ z. absurd (omega arith)) w) (rw e at (c .match .keys2)))
+    (c .before .read-due .ensures))
 
 loop-again : tie.Need-loop-again Inv-loop μ-loop
 loop-again c =
@@ -45,7 +49,8 @@ loop-again c =
     let l = k .loop in
     let s = k .before .before in
     let a = s .args in
-    let f = subst (Answers (now (a .plan)) (l .next) (bit (l .j) (a .groups)) (l .j) (a .curves)) (c .before .group .given .1) (c .before .before .before .read-due .ensures) in
+    let f = subst (Answers (now (a .plan)) (l .next) (bit (l .j) (a .groups)) (l .j) (a .curves)) (c .before .group .given .1)
+    (c .before .before .before .read-due .ensures) in
     let h = c .before .before .before .before .loop-test .taken in
     let t = group-read (a .curves) (a .groups) (l .set) (l .next) (l .j) (now (a .plan)) (s .pre .0) h (c .before .group .given .0 .0) (l .inv .1) f in
     (omega arith, t .0, l .inv .2 ∙ t .1)

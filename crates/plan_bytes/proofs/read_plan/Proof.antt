@@ -17,10 +17,12 @@ unfolding countOutcome
 returns c =
     let a = c .before .before .before .before .before .before .before .before .args in
     plan-refused (a .curves) (a .tests) (now (a .plan)) (now (a .order)) (planOf (now (a .drops)) (now (a .loads))) _ _
-    (bad-bytes (a .curves) (a .tests) (now (a .plan)) _ _ _ (examined-refused _ _ _ (c .before .r .given .1) (c .before .before .before .examine-plan .ensures)))
+    (bad-bytes (a .curves) (a .tests) (now (a .plan)) _ _ _
+    (examined-refused _ _ _ (c .before .r .given .1) (c .before .before .before .examine-plan .ensures)))
 
 -- the bytes passed their examination
-passed : (c : tie.After-enum-told) → let a = c .before .before .before .before .before .before .before .args in mapped (λ _. tt) (planSteps (a .curves) (a .tests) (now (a .plan))) ≡ done (tt {0})
+passed : (c : tie.After-enum-told) → let a =
+    c .before .before .before .before .before .before .before .args in mapped (λ _. tt) (planSteps (a .curves) (a .tests) (now (a .plan))) ≡ done (tt {0})
 passed c = examined-passed _ _ (c .enum-told .given .1) (c .before .before .examine-plan .ensures)
 
 returns-2 : tie.Need-returns-2
@@ -64,8 +66,10 @@ returns-5 c =
     let a = k .before .before .before .before .before .before .before .before .before .before .args in
     let p = passed (k .before .before .before) in
     let f = c .before .before .before .before .before .before .fill-lists .ensures in
-    plan-given (a .curves) (a .tests) (now (a .plan)) (now (a .order)) (planOf (now (a .drops)) (now (a .loads))) _ _ _ (bytes-passed (a .curves) (a .tests) (now (a .plan)) p)
-    (all-fit (a .curves) (a .tests) (now (a .plan)) p _ (omega (arith, k .before .before .if1 .left, k .before .if2 .left, k .if3 .left))) (f .0) (f .1 .0) (f .1 .1)
+    plan-given (a .curves) (a .tests) (now (a .plan)) (now (a .order)) (planOf (now (a .drops)) (now (a .loads))) _ _ _
+    (bytes-passed (a .curves) (a .tests) (now (a .plan)) p)
+    (all-fit (a .curves) (a .tests) (now (a .plan)) p _ (omega (arith, k .before .before .if1 .left, k .before .if2 .left, k .if3 .left))) (f .0) (f .1 .0)
+    (f .1 .1)
 
 pub read-plan-spec : {M : Type 1} → statement M
 read-plan-spec =

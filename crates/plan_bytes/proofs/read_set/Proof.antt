@@ -14,7 +14,8 @@ returns c tests = let a = c .before .before .args in sym (set-absent (a .at) (no
 
 returns-2 : tie.Need-returns-2
 unfolding setOutcome
-returns-2 c tests = let a = c .before .before .before .args in sym (set-cut (a .at) (now (a .plan)) (a .curves) tests (a .stands) (omega (arith, c .before .if1 .left)) (c .if2 .taken))
+returns-2 c tests = let a =
+    c .before .before .before .args in sym (set-cut (a .at) (now (a .plan)) (a .curves) tests (a .stands) (omega (arith, c .before .if1 .left)) (c .if2 .taken))
 
 returns-3 : tie.Need-returns-3
 unfolding setOutcome

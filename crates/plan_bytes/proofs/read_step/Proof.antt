@@ -10,7 +10,8 @@ use Rattle.job_bytes.specs.SetBytes.{got}
 use Rattle.plan_bytes.specs.PlanBytes.{readSet}
 use denote.Ref.{now}
 use Rattle.plan_bytes.specs.Contracts.{stepOutcome}
-use Rattle.plan_bytes.proofs.Reading.{set-answered, set-refused, step-cut, step-low, step-high, drops-faulty, loads-faulty, test-cut, test-unknown, step-whole}
+use Rattle.plan_bytes.proofs.Reading.{set-answered, set-refused, step-cut, step-low, step-high, drops-faulty, loads-faulty, test-cut, test-unknown}
+use Rattle.plan_bytes.proofs.Reading.{step-whole}
 use Rattle.plan_bytes.proofs.read_step.Statement.{statement}
 use Rattle.plan_bytes.proofs.read_step.Tie as tie
 
@@ -43,7 +44,9 @@ returns-2 c = let a = c .before .before .before .before .args in sym (step-low (
 
 returns-3 : tie.Need-returns-3
 unfolding stepOutcome
-returns-3 c = let a = c .before .before .before .before .before .args in sym (step-high (a .curves) (a .tests) (a .at) (now (a .plan)) (omega arith) (omega arith) (c .if3 .taken))
+returns-3 c = let a =
+    c .before .before .before .before .before .args in sym
+    (step-high (a .curves) (a .tests) (a .at) (now (a .plan)) (omega arith) (omega arith) (c .if3 .taken))
 
 returns-4 : tie.Need-returns-4
 unfolding stepOutcome
@@ -51,7 +54,8 @@ returns-4 c =
     let l = c .before .before in
     let d = l .before .before .before .before in
     let a = d .before .before .before .before .before .before .before .before .args in
-    sym (test-cut (a .curves) (a .tests) (a .at) (now (a .plan)) (omega arith) (omega arith) (omega arith) (d .drops .given .0 .0) (d .drops .given .0 .1 .0) (drops-read d)
+    sym (test-cut (a .curves) (a .tests) (a .at) (now (a .plan)) (omega arith) (omega arith) (omega arith) (d .drops .given .0 .0) (d .drops .given .0 .1 .0)
+    (drops-read d)
     (l .loads .given .0 .0) (l .loads .given .0 .1 .0) (loads-read l) (c .if4 .taken))
 
 cast-if5 : tie.Need-cast-if5
@@ -63,7 +67,8 @@ returns-5 c =
     let l = c .before .before .before .before in
     let d = l .before .before .before .before in
     let a = d .before .before .before .before .before .before .before .before .args in
-    sym (test-unknown (a .curves) (a .tests) (a .at) (now (a .plan)) (omega arith) (omega arith) (omega arith) (d .drops .given .0 .0) (d .drops .given .0 .1 .0) (drops-read d)
+    sym (test-unknown (a .curves) (a .tests) (a .at) (now (a .plan)) (omega arith) (omega arith) (omega arith) (d .drops .given .0 .0)
+    (d .drops .given .0 .1 .0) (drops-read d)
     (l .loads .given .0 .0) (l .loads .given .0 .1 .0) (loads-read l) (omega arith) (c .if5 .taken))
 
 cast-t27 : tie.Need-cast-t27
@@ -90,7 +95,8 @@ returns-8 c =
     let l = c .before .before .before .before in
     let d = l .before .before .before .before in
     let a = d .before .before .before .before .before .before .before .before .args in
-    step-whole (a .curves) (a .tests) (a .at) (now (a .plan)) (omega arith) (omega arith) (omega arith) (d .drops .given .0 .0) (d .drops .given .0 .1 .0) (drops-read d)
+    step-whole (a .curves) (a .tests) (a .at) (now (a .plan)) (omega arith) (omega arith) (omega arith) (d .drops .given .0 .0) (d .drops .given .0 .1 .0)
+    (drops-read d)
     (l .loads .given .0 .0) (l .loads .given .0 .1 .0) (loads-read l) (omega arith) (c .if5 .left)
 
 pub read-step-spec : {M : Type 1} → statement M

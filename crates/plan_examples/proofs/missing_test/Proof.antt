@@ -15,12 +15,14 @@ returns-2 : tie.Need-returns-2
 unfolding rules
 returns-2 c =
     eq-eqb _ 2 (c .figure-of .ensures
-    ∙ figure-is _ _ (c .before .before .before .before .before .before .before .before .plan .ensures .0) _ 8 2 (c .before .before .before .before .r .given .1) refl)
+    ∙ figure-is _ _ (c .before .before .before .before .before .before .before .before .plan .ensures .0) _ 8 2
+    (c .before .before .before .before .r .given .1) refl)
 
 returns-3 : tie.Need-returns-3
 unfolding rules
 returns-3 c =
-    eq-eqb _ 8 (c .before .number-of .ensures ∙ number-is _ _ (c .before .before .before .before .before .before .before .plan .ensures .0) _ 8 2 (c .before .before .before .r .given .1) refl)
+    eq-eqb _ 8 (c .before .number-of .ensures
+    ∙ number-is _ _ (c .before .before .before .before .before .before .before .plan .ensures .0) _ 8 2 (c .before .before .before .r .given .1) refl)
 
 pub missing-test-spec : {M : Type 1} → statement M
 missing-test-spec =

@@ -22,7 +22,8 @@ returns c =
     let a = s .args in
     let q : Request = record { head = a .head; wants = now (a .wants) } in
     let t = c .before .before .before .before .before .order-tests in
-    let e = order-refused q (s .pre .0 .1) (now (a .order)) (omega (arith, s .pre .0 .0, s .pre .1 .0)) _ _ (count-refused _ _ _ (t .ensures .0) (c .before .r .given .1)) in
+    let e = order-refused q (s .pre .0 .1) (now (a .order)) (omega (arith, s .pre .0 .0, s .pre .1 .0)) _ _
+    (count-refused _ _ _ (t .ensures .0) (c .before .r .given .1)) in
     let w = t .ensures .1 ∙ order-left q (s .pre .0 .1) (now (a .order)) (omega (arith, s .pre .0 .0, s .pre .1 .0)) in
     let n = not-ordered q (s .pre .0 .1) _ _ e in
     (rw n refl, (w, rw n refl))
@@ -56,7 +57,11 @@ returns-2 c =
     let k = order-known q (s .pre .0 .1) _ (g .0) in
     let p = c .before .before .before .before .plan-tests .ensures in (
       rw o (p .0 ∙ tests-answer _ _ lent k ∙ plan-answer q (s .pre .0 .1) _ lent long),
-      (t .ensures .1 ∙ order-left q (s .pre .0 .1) (now (a .order)) (omega (arith, s .pre .0 .0, s .pre .1 .0)), rw o (p .1 ∙ tests-lists _ _ lent k ∙ plan-left q (s .pre .0 .1) _ lent long)),
+      (
+        t .ensures .1
+            ∙ order-left q (s .pre .0 .1) (now (a .order)) (omega (arith, s .pre .0 .0, s .pre .1 .0)),
+        rw o (p .1 ∙ tests-lists _ _ lent k ∙ plan-left q (s .pre .0 .1) _ lent long),
+      ),
     )
 
 pub order-and-plan-spec : {M : Type 1} → statement M

@@ -11,12 +11,14 @@ use Rattle.planned.proofs.plan_job.Tie as tie
 returns : tie.Need-returns
 unfolding plannedOutcome
 returns c = let a =
-    c .before .before .before .before .before .before .args in too-short (now (a .job)) (listsOf (now (a .wants)) (now (a .order)) (planOf (now (a .drops)) (now (a .loads)))) (omega arith)
+    c .before .before .before .before .before .before .args in too-short (now (a .job))
+    (listsOf (now (a .wants)) (now (a .order)) (planOf (now (a .drops)) (now (a .loads)))) (omega arith)
 
 returns-2 : tie.Need-returns-2
 unfolding plannedOutcome
 returns-2 c = let a =
-    c .before .before .before .before .before .before .before .args in too-short (now (a .job)) (listsOf (now (a .wants)) (now (a .order)) (planOf (now (a .drops)) (now (a .loads)))) (omega arith)
+    c .before .before .before .before .before .before .before .args in too-short (now (a .job))
+    (listsOf (now (a .wants)) (now (a .order)) (planOf (now (a .drops)) (now (a .loads)))) (omega arith)
 
 returns-3 : tie.Need-returns-3
 unfolding plannedOutcome
@@ -33,8 +35,10 @@ returns-4 c = let a =
 returns-5 : tie.Need-returns-5
 returns-5 c =
     let r = c .before .before .before .before .before .before .before .before .read-and-plan in
-    let a = c .before .before .before .before .before .before .before .before .before .before .before .before .before .before .before .before .before .before .before .before .before .before .args in
-    long-enough (now (a .job)) (listsOf (now (a .wants)) (now (a .order)) (planOf (now (a .drops)) (now (a .loads)))) (omega arith) _ _ (r .ensures .0) (r .ensures .1)
+    let a = c .before .before .before .before .before .before .before .before .before .before .before .before .before .before .before .before .before .before
+    .before .before .before .before .args in
+    long-enough (now (a .job)) (listsOf (now (a .wants)) (now (a .order)) (planOf (now (a .drops)) (now (a .loads)))) (omega arith) _ _ (r .ensures .0)
+    (r .ensures .1)
 
 pub plan-job-spec : {M : Type 1} → statement M
 plan-job-spec =

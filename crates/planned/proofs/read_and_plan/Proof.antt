@@ -51,8 +51,10 @@ returns c =
     let r = c .before .before .before .before .before .read-job in
     let all = bytes (c .before .before .before .before .before .before .before .before .before .before .before) in
     let e = answer-refused (now (a .job)) (now (a .wants)) all (s .pre .0) _ _ (read-refused _ _ _ (r .ensures .0) (c .before .r .given .1)) in
-    let old = listsOf (now (a .wants)) (now (a .order)) (planOf (now (a .drops)) (now (a .loads))) in
-    (refused-mapped told _ _ _ (unread (now (a .job)) _ _ e), unread-lists (now (a .job)) old _ (r .ensures .1 ∙ wants-left (now (a .job)) (now (a .wants)) all (s .pre .0)) _ _ e)
+    let old = listsOf (now (a .wants)) (now (a .order)) (planOf (now (a .drops)) (now (a .loads))) in (
+      refused-mapped told _ _ _ (unread (now (a .job)) _ _ e),
+      unread-lists (now (a .job)) old _ (r .ensures .1 ∙ wants-left (now (a .job)) (now (a .wants)) all (s .pre .0)) _ _ e,
+    )
 
 returns-2 : tie.Need-returns-2
 returns-2 c =
@@ -63,8 +65,11 @@ returns-2 c =
     let p = c .before .before .before .before .before .before .before .before .before .order-and-plan in
     let old = listsOf (now (a .wants)) (now (a .order)) (planOf (now (a .drops)) (now (a .loads))) in
     let w = k .before .before .before .before .before .read-job .ensures .1
-    ∙ wants-left (now (a .job)) (now (a .wants)) (bytes (k .before .before .before .before .before .before .before .before .before .before .before)) (s .pre .0) in
-    (tells-refusal (now (a .job)) _ e _ (p .ensures .0) _ (c .before .r2 .given .1), read-lists (now (a .job)) old _ w _ _ _ e (p .ensures .1 .0) (p .ensures .1 .1))
+    ∙ wants-left (now (a .job)) (now (a .wants)) (bytes (k .before .before .before .before .before .before .before .before .before .before .before))
+    (s .pre .0) in (
+      tells-refusal (now (a .job)) _ e _ (p .ensures .0) _ (c .before .r2 .given .1),
+      read-lists (now (a .job)) old _ w _ _ _ e (p .ensures .1 .0) (p .ensures .1 .1),
+    )
 
 returns-3 : tie.Need-returns-3
 returns-3 c =
@@ -75,8 +80,11 @@ returns-3 c =
     let p = c .before .before .before .before .before .before .before .before .before .order-and-plan in
     let old = listsOf (now (a .wants)) (now (a .order)) (planOf (now (a .drops)) (now (a .loads))) in
     let w = k .before .before .before .before .before .read-job .ensures .1
-    ∙ wants-left (now (a .job)) (now (a .wants)) (bytes (k .before .before .before .before .before .before .before .before .before .before .before)) (s .pre .0) in
-    (tells-count (now (a .job)) _ e _ (p .ensures .0) _ (c .before .count .given .1), read-lists (now (a .job)) old _ w _ _ _ e (p .ensures .1 .0) (p .ensures .1 .1))
+    ∙ wants-left (now (a .job)) (now (a .wants)) (bytes (k .before .before .before .before .before .before .before .before .before .before .before))
+    (s .pre .0) in (
+      tells-count (now (a .job)) _ e _ (p .ensures .0) _ (c .before .count .given .1),
+      read-lists (now (a .job)) old _ w _ _ _ e (p .ensures .1 .0) (p .ensures .1 .1),
+    )
 
 pub read-and-plan-spec : {M : Type 1} → statement M
 read-and-plan-spec =

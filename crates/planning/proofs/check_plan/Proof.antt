@@ -21,7 +21,8 @@ use Rattle.planning.proofs.check_plan.Statement.{statement}
 use Rattle.planning.proofs.check_plan.Tie as tie
 
 -- behind each examination
-passed : (c : tie.After-enum-told) → let a = c .before .before .before .before .before .before .before .args in checkingKnown (jobOf (a .rig) (now (a .wants))) (now (a .order)) ≡ done tt
+passed : (c : tie.After-enum-told) → let a =
+    c .before .before .before .before .before .before .before .args in checkingKnown (jobOf (a .rig) (now (a .wants))) (now (a .order)) ≡ done tt
 passed c = examined-passed _ _ (c .enum-told .given .1) (c .before .before .examine-checking .ensures)
 
 sets-passed : (c : tie.After-enum-told2)
@@ -35,11 +36,14 @@ returns c = sym (check-refused _ _ _ _ _ (examined-refused _ _ _ (c .before .r .
 
 returns-2 : tie.Need-returns-2
 unfolding countOutcome
-returns-2 c = sym (check-sets _ _ _ (passed (c .before .before .before .before)) _ _ (examined-refused _ _ _ (c .before .r2 .given .1) (c .before .before .before .examine-sets .ensures)))
+returns-2 c =
+    sym (check-sets _ _ _ (passed (c .before .before .before .before)) _ _
+    (examined-refused _ _ _ (c .before .r2 .given .1) (c .before .before .before .examine-sets .ensures)))
 
 -- the local list has an entry for each test
 enough : (c : tie.After-steps2)
-    → length (now (c .before .before .before .before .before .before .before .before .before .before .before .before .before .args .wants)) ≤ length (c .before .in-order .last .1 .1 .0)
+    → length (now (c .before .before .before .before .before .before .before .before .before .before .before .before .before .args .wants)) ≤ length
+    (c .before .in-order .last .1 .1 .0)
 enough c = omega (arith, c .before .in-order .kept .1 .1 .0, known-exact _ _ (passed (c .before .before .before .before .before .before)) .0 .tests-bounds)
 
 array-share-prefix-steps : tie.Need-array-share-prefix-steps
@@ -57,7 +61,8 @@ slice-aggregate-check-steps c =
 -- what was answered of the steps
 checked : (c : tie.After-check-steps)
     → let a = c .before .before .before .before .before .before .before .before .before .before .before .before .before .before .before .before .args in
-    c .check-steps .result ≡ checkFrom (capacity (a .rig)) (allCurves (a .rig .curves)) 0 0 (moves (inOrder (now (a .wants)) (now (a .order))) (now (a .drops)) (now (a .loads)))
+    c .check-steps .result ≡ checkFrom (capacity (a .rig)) (allCurves (a .rig .curves)) 0 0
+    (moves (inOrder (now (a .wants)) (now (a .order))) (now (a .drops)) (now (a .loads)))
 checked c =
     let s = c .before .before .before .before in
     let k = s .before .before .before .before .before in
@@ -90,7 +95,8 @@ unfolding countOutcome
 returns-4 c =
     let s = c .before .before .before in
     let t = s .before .before .before .before .before .before in
-    rw (c .count-curves .ensures) (sym (check-ended _ _ _ (passed (t .before .before .before)) (sets-passed t) _ (sym (checked s) ∙ c .before .enum-told3 .given .1)))
+    rw (c .count-curves .ensures) (sym (check-ended _ _ _ (passed (t .before .before .before)) (sets-passed t) _
+    (sym (checked s) ∙ c .before .enum-told3 .given .1)))
 
 pub check-plan-spec : {M : Type 1} → statement M
 check-plan-spec =

@@ -19,7 +19,8 @@ returns-2 c =
     let least : c .smaller2 .result ≡ min (min (a .drops) (a .loads)) (a .tests) =
     c .smaller2 .ensures ∙ ap (λ (x : ℕ). min x (a .tests)) (c .before .smaller .ensures) in
     rw least
-    (sym (⊎-elim (λ w. sets-loads (a .tests) (a .drops) (a .loads) (w .0 .taken) (w .1 .left)) (λ w. sets-drops (a .tests) (a .drops) (a .loads) (w .left)) (c .before .before .if1 .came)))
+    (sym (⊎-elim (λ w. sets-loads (a .tests) (a .drops) (a .loads) (w .0 .taken) (w .1 .left)) (λ w. sets-drops (a .tests) (a .drops) (a .loads) (w .left))
+    (c .before .before .if1 .came)))
 
 pub examine-sets-spec : {M : Type 1} → statement M
 examine-sets-spec = tie.close (tie.spec returns (λ c κs. search needs) (λ c κs. search needs) returns-2)

@@ -42,7 +42,8 @@ loop-again c =
       long = ap length (put .put .ensures) ∙ length-set (q .steps) (q .i) _ ∙ q .inv .long;
       goes =
           rw (put .put .ensures, put .before .entry .ensures)
-          (q .inv .goes ∙ ap (sets (q .steps) (q .i)) (wants-next ws os (q .i) (omega arith)) ∙ sets-cons (q .steps) (q .i) (getD ws (getD os (q .i) 0) 0) (inOrder ws (drop (q .i + 1) os)));
+          (q .inv .goes ∙ ap (sets (q .steps) (q .i)) (wants-next ws os (q .i) (omega arith))
+          ∙ sets-cons (q .steps) (q .i) (getD ws (getD os (q .i) 0) 0) (inOrder ws (drop (q .i + 1) os)));
     }
 
 same-length : tie.Need-same-length Inv-loop μ-loop

@@ -20,8 +20,11 @@ returns-2 c =
     let p = c .before .before .before .before in
     let k = p .before .before .before in
     let a = k .before .before .before .before .before .before .before .args in
-    tests-contract _ _ (planOf (now (a .drops)) (now (a .loads))) (examined-passed _ _ (k .enum-told .given .1) (k .before .before .examine-planning .ensures)) _ _
+    tests-contract _ _ (planOf (now (a .drops)) (now (a .loads)))
+    (examined-passed _ _ (k .enum-told .given .1) (k .before .before .examine-planning .ensures)) _ _
     (p .plan-tests .ensures .0) (p .plan-tests .ensures .1)
 
 pub plan-spec : {M : Type 1} → statement M
-plan-spec = tie.close (tie.spec (λ c κs. search needs) (λ c. search needs) returns (λ c. search needs) (λ c κs. search needs) (λ c. search needs) (λ c. search needs) returns-2)
+plan-spec =
+    tie.close (tie.spec (λ c κs. search needs) (λ c. search needs) returns (λ c. search needs) (λ c κs. search needs) (λ c. search needs) (λ c. search needs)
+    returns-2)

@@ -68,5 +68,6 @@ returns-4 c =
 
 pub plan-tests-spec : {M : Type 1} → statement M
 plan-tests-spec =
-    tie.close (tie.spec returns returns-2 returns-3 (λ c. search needs) (λ c κs. search needs) (λ c. search needs) slice-aggregate-plan-steps (λ c κs. search needs)
+    tie.close (tie.spec returns returns-2 returns-3 (λ c. search needs) (λ c κs. search needs) (λ c. search needs) slice-aggregate-plan-steps
+    (λ c κs. search needs)
     (λ c. search needs) slice-aggregate-count-curves count-curves-requires (λ c. search needs) (λ c. search needs) returns-4)

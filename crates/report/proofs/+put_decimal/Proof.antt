@@ -93,7 +93,8 @@ all : (t : ℕ) (c : put-decimal-lts.After-slice-known3 (
   put-byte-reads.Asked,
   put-byte-reads.Learnt,
 ) (put-decimal-at t) put-decimal.Post)
-    → let a = c .before .before .before .before .before .before .args in Wrote (now (a .out)) (a .at) (decimal (a .n)) (c .before .before .put-byte .last .0) (c .before .before .put-byte .result)
+    → let a = c .before .before .before .before .before .before .args in Wrote (now (a .out)) (a .at) (decimal (a .n)) (c .before .before .put-byte .last .0)
+    (c .before .before .put-byte .result)
 all t c =
     let f = front t (c .before .before .before .before) in
     rw (f .whole) (wrote-append (f .put) (c .before .before .put-byte .ensures))

@@ -18,12 +18,14 @@ put-number-requires-2 c κs = omega (arith, head-length (c .before .before .befo
 
 put-number-requires-3 : tie.Need-put-number-requires-3
 unfolding text
-put-number-requires-3 c κs = omega (arith, head-length (c .before .before .before .before .before .before .before .before .before .before .before .before .before .args .head) [] [] [])
+put-number-requires-3 c κs =
+    omega (arith, head-length (c .before .before .before .before .before .before .before .before .before .before .before .before .before .args .head) [] [] [])
 
 returns : tie.Need-returns
 unfolding text
 returns c =
-    rw (head-line (c .before .before .before .before .before .before .before .before .before .before .before .before .before .before .before .before .args .head) [] [] [])
+    rw (head-line (c .before .before .before .before .before .before .before .before .before .before .before .before .before .before .before .before .args
+    .head) [] [] [])
     (wrote-append (wrote-append (c .before .before .before .before .before .before .before .before .before .before .before .before .put-number .ensures)
     (c .before .before .before .before .before .before .before .put-number2 .ensures)) (c .before .before .put-number3 .ensures))
 

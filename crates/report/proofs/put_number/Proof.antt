@@ -12,7 +12,8 @@ put-decimal-requires : tie.Need-put-decimal-requires
 put-decimal-requires c κs = let a = c .before .before .before .args in omega (arith, length-append (decimal (a .n)) (now (a .text)))
 
 put-text-requires : tie.Need-put-text-requires
-put-text-requires c κs = let a = c .before .before .before .before .before .before .before .args in omega (arith, length-append (decimal (a .n)) (now (a .text)))
+put-text-requires c κs = let a =
+    c .before .before .before .before .before .before .before .args in omega (arith, length-append (decimal (a .n)) (now (a .text)))
 
 returns : tie.Need-returns
 returns c = wrote-append (c .before .before .before .before .before .before .put-decimal .ensures) (c .before .before .put-text .ensures)

@@ -9,14 +9,19 @@ use Rattle.report.proofs.put_plan.Tie as tie
 
 put-head-requires : tie.Need-put-head-requires
 put-head-requires c κs = let a =
-    c .before .before .before .before .before .args in omega (arith, c .before .before .before .before .before .pre, plan-length (a .head) (now (a .order)) (now (a .drops)) (now (a .loads)))
+    c .before .before .before .before .before .args in omega
+    (arith, c .before .before .before .before .before .pre, plan-length (a .head) (now (a .order)) (now (a .drops)) (now (a .loads)))
 
 put-steps-requires : tie.Need-put-steps-requires
 put-steps-requires c κs = let a =
     c .before .before .before .before .before .before .before .before .before .args
     in (
       c .before .before .before .before .before .before .before .before .before .pre .0,
-      omega (arith, c .before .before .before .before .before .before .before .before .before .pre, plan-length (a .head) (now (a .order)) (now (a .drops)) (now (a .loads))),
+      omega (
+        arith,
+        c .before .before .before .before .before .before .before .before .before .pre,
+        plan-length (a .head) (now (a .order)) (now (a .drops)) (now (a .loads)),
+      ),
     )
 
 put-loads-requires : tie.Need-put-loads-requires

@@ -30,8 +30,10 @@ put-number-requires-2 c κs =
 returns : tie.Need-returns
 unfolding text
 returns c =
-    let a = c .before .before .before .before .before .before .before .before .before .before .before .before .before .before .before .before .before .before .before .before .before .args in
-    let of = c .before .before .before .before .before .before .before .before .before .before .before .before .before .before .before .before .before .put-text .ensures in
+    let a = c .before .before .before .before .before .before .before .before .before .before .before .before .before .before .before .before .before .before
+    .before .before .before .args in
+    let of = c .before .before .before .before .before .before .before .before .before .before .before .before .before .before .before .before .before
+    .put-text .ensures in
     let line = wrote-append (wrote-append (c .before .before .before .before .before .before .before .before .before .before .before .before .put-text2
     .ensures) (c .before .before .before .before .before .before .before .put-number .ensures)) (c .before .before .put-number2 .ensures) in
     rw (refusal-line (a .number) (a .figure)) (wrote-append of line)

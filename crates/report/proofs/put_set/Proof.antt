@@ -56,7 +56,8 @@ turn c =
 room : (c : tie.In-loop Inv-loop μ-loop) → let l = c .before .loop in l .to + suc (length (decimal (trailingZeros 64 (l .left)))) < 2 ^ 64
 room c =
     let k = trailingZeros 64 (c .before .loop .left) in
-    rest-room ((32 ∷ []) ++ decimal k) (curvesText 64 0 (c .before .loop .left ∖ 2 ^ k)) (2 ^ 64) (turn c) (omega (arith, c .before .before .before .before .pre))
+    rest-room ((32 ∷ []) ++ decimal k) (curvesText 64 0 (c .before .loop .left ∖ 2 ^ k)) (2 ^ 64) (turn c)
+    (omega (arith, c .before .before .before .before .pre))
 
 put-byte-requires : tie.Need-put-byte-requires Inv-loop μ-loop
 put-byte-requires c κs = omega (arith, room (c .before))

@@ -13,12 +13,14 @@ put-number-requires c κs = let a = c .before .before .before .args in omega (ar
 
 put-number-requires-2 : tie.Need-put-number-requires-2
 unfolding text
-put-number-requires-2 c κs = let a = c .before .before .before .before .before .before .before .before .args in omega (arith, step-length (a .position) (a .test) (a .drops) (a .loads))
+put-number-requires-2 c κs = let a =
+    c .before .before .before .before .before .before .before .before .args in omega (arith, step-length (a .position) (a .test) (a .drops) (a .loads))
 
 put-set-requires : tie.Need-put-set-requires
 unfolding text
 put-set-requires c κs = let a =
-    c .before .before .before .before .before .before .before .before .before .before .before .before .args in omega (arith, step-length (a .position) (a .test) (a .drops) (a .loads))
+    c .before .before .before .before .before .before .before .before .before .before .before .before .args in omega
+    (arith, step-length (a .position) (a .test) (a .drops) (a .loads))
 
 put-text-requires : tie.Need-put-text-requires
 unfolding text

@@ -16,7 +16,8 @@ abbrev Inv-loop : tie.InvT-loop
 Inv-loop out₀ at order drops loads to₀ i₀ out to i =
     record {
       turns : i ≤ length order;
-      rest : Rest out₀ at (stepsText 0 (steps order drops loads)) out to (stepsText i (steps (lib.ListN.drop i order) (lib.ListN.drop i drops) (lib.ListN.drop i loads)));
+      rest : Rest out₀ at (stepsText 0 (steps order drops loads)) out to
+          (stepsText i (steps (lib.ListN.drop i order) (lib.ListN.drop i drops) (lib.ListN.drop i loads)));
     }
 
 abbrev μ-loop : tie.MeasureT-loop
@@ -52,7 +53,8 @@ put-step-requires c κs =
     (omega (arith, c .before .before .before .before .before .before .before .before .before .before .pre))
 
 loop-again : tie.Need-loop-again Inv-loop μ-loop
-loop-again c = record { turns = omega arith; rest = rest-put (turn (c .before .before .before .before .before .before .before)) (c .before .before .put-step .ensures) }
+loop-again c =
+    record { turns = omega arith; rest = rest-put (turn (c .before .before .before .before .before .before .before)) (c .before .before .put-step .ensures) }
 
 whole : (c : tie.After-loop Inv-loop μ-loop) →
     let a = c .before .before .before .before .before .before .args in

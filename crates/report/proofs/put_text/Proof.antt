@@ -29,7 +29,8 @@ put-byte-requires : tie.Need-put-byte-requires Inv-loop μ-loop
 put-byte-requires c κs =
     let l = c .before .before .before .loop in
     let a = c .before .before .before .before .before .before .args in
-    rest-room (getD (now (a .text)) (l .i) 0 ∷ []) (lib.ListN.drop (l .i + 1) (now (a .text))) (2 ^ 64) (rw (next (now (a .text)) (l .i) (omega arith)) at (l .inv .rest)) (omega arith)
+    rest-room (getD (now (a .text)) (l .i) 0 ∷ []) (lib.ListN.drop (l .i + 1) (now (a .text))) (2 ^ 64)
+    (rw (next (now (a .text)) (l .i) (omega arith)) at (l .inv .rest)) (omega arith)
 
 loop-again : tie.Need-loop-again Inv-loop μ-loop
 loop-again c =

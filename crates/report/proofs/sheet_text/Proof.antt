@@ -16,7 +16,8 @@ use Rattle.report.proofs.sheet_text.Tie as tie
 fits : (c : tie.After-write-report-arg) → let a = c .before .before .args in writeSheet (now (a .job)) (length (now (a .text))) ≡ done (sheet (now (a .job)))
 fits c =
     let a = c .before .before .args in
-    sheet-fits (now (a .job)) (length (now (a .text))) (bytes-of (now (a .job)) (λ k l. omega (arith, c .before .shared-slice-known .given k))) (omega (arith, c .write-report-arg .given))
+    sheet-fits (now (a .job)) (length (now (a .text))) (bytes-of (now (a .job)) (λ k l. omega (arith, c .before .shared-slice-known .given k)))
+    (omega (arith, c .write-report-arg .given))
 
 returns : tie.Need-returns
 unfolding sheetAnswer sheetBuffer

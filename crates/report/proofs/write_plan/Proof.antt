@@ -12,7 +12,8 @@ use Rattle.report.proofs.write_plan.Statement.{statement}
 use Rattle.report.proofs.write_plan.Tie as tie
 
 -- the text is short enough to be counted
-short : (c : tie.After-shared-slice-known) → let a = c .before .args in length (planText (shown (a .head) (now (a .order)) (now (a .drops)) (now (a .loads)))) < 2 ^ 64
+short : (c : tie.After-shared-slice-known) → let a =
+    c .before .args in length (planText (shown (a .head) (now (a .order)) (now (a .drops)) (now (a .loads)))) < 2 ^ 64
 short c =
     let a = c .before .args in
     let p = c .before .pre in
@@ -20,7 +21,8 @@ short c =
     (λ j l. omega (arith, c .shared-slice-known .given j)) (omega (arith, p .1 .0, c .before .fits .count))
 
 put-plan-requires : tie.Need-put-plan-requires
-put-plan-requires c κs = (c .before .before .before .before .before .pre .0, (c .before .before .before .before .before .pre .1 .0, short (c .before .before .before .before)))
+put-plan-requires c κs =
+    (c .before .before .before .before .before .pre .0, (c .before .before .before .before .before .pre .1 .0, short (c .before .before .before .before)))
 
 returns : tie.Need-returns
 returns c =
@@ -32,7 +34,10 @@ returns c =
 put-plan-requires-2 : tie.Need-put-plan-requires-2
 put-plan-requires-2 c κs = (
   c .before .before .before .before .before .before .before .before .before .pre .0,
-  (c .before .before .before .before .before .before .before .before .before .pre .1 .0, short (c .before .before .before .before .before .before .before .before)),
+  (
+    c .before .before .before .before .before .before .before .before .before .pre .1 .0,
+    short (c .before .before .before .before .before .before .before .before),
+  ),
 )
 
 returns-2 : tie.Need-returns-2

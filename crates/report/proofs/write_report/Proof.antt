@@ -38,21 +38,25 @@ slice-aggregate-write-plan : tie.Need-slice-aggregate-write-plan
 slice-aggregate-write-plan c = sym (given (c .before) .order-long)
 
 array-share-prefix-drops : tie.Need-array-share-prefix-drops
-array-share-prefix-drops c = omega (arith, given (c .before) .few, c .before .before .before .before .before .before .before .before .plan-job .kept .1 .1 .1 .0)
+array-share-prefix-drops c =
+    omega (arith, given (c .before) .few, c .before .before .before .before .before .before .before .before .plan-job .kept .1 .1 .1 .0)
 
 slice-aggregate-write-plan-2 : tie.Need-slice-aggregate-write-plan-2
 slice-aggregate-write-plan-2 c = sym (given (c .before .before) .drops-long)
 
 array-share-prefix-loads : tie.Need-array-share-prefix-loads
-array-share-prefix-loads c = omega (arith, given (c .before .before) .few, c .before .before .before .before .before .before .before .before .before .plan-job .kept .1 .1 .1 .1 .0)
+array-share-prefix-loads c =
+    omega (arith, given (c .before .before) .few, c .before .before .before .before .before .before .before .before .before .plan-job .kept .1 .1 .1 .1 .0)
 
 slice-aggregate-write-plan-3 : tie.Need-slice-aggregate-write-plan-3
 slice-aggregate-write-plan-3 c = sym (given (c .before .before .before) .loads-long)
 
 write-plan-requires : tie.Need-write-plan-requires
 write-plan-requires c κs =
-    let g = given (c .before .before .before .before) in
-    ((g .drops-long ∙ sym (g .order-long), g .loads-long ∙ sym (g .order-long)), (g .count, (g .few, g .places, g .method, omega (arith, g .few, g .order-long))))
+    let g = given (c .before .before .before .before) in (
+      (g .drops-long ∙ sym (g .order-long), g .loads-long ∙ sym (g .order-long)),
+      (g .count, (g .few, g .places, g .method, omega (arith, g .few, g .order-long))),
+    )
 
 returns : tie.Need-returns
 returns c =
@@ -65,7 +69,8 @@ returns c =
 
 returns-2 : tie.Need-returns-2
 returns-2 c =
-    let a = c .before .before .before .before .before .before .before .before .before .before .before .before .before .before .before .before .before .before .before .before .before .args in
+    let a = c .before .before .before .before .before .before .before .before .before .before .before .before .before .before .before .before .before .before
+    .before .before .before .args in
     let g = given (c .before .before .before .before .before .before .before) in
     sheet-planned (now (a .job)) (now (a .out)) (g .planned) _ _ _ _ (g .is) (g .head) (g .order) (g .plan) (c .before .before .write-plan .ensures)
 

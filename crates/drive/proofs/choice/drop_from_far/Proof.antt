@@ -20,7 +20,8 @@ abbrev Inv-loop : tie.InvT-loop
 Inv-loop excess unused found groups when chosen₀ count₀ more₀ chosen count more =
     record {
       few : count ≤ found;
-      far : (cs : ℕ) (ws : List ℕ) → Grouped cs unused found groups when ws → cs < 2 ^ 64 → excess ≤ size cs → Chosen cs found count chosen excess more groups ws;
+      far : (cs : ℕ) (ws : List ℕ) → Grouped cs unused found groups when ws → cs < 2 ^ 64 → excess ≤ size cs
+          → Chosen cs found count chosen excess more groups ws;
     }
 
 abbrev μ-loop : tie.MeasureT-loop

@@ -16,7 +16,8 @@ returns : tie.Need-returns
 returns c =
     let k = c .before .before in
     let a = k .before .before .before .before .args in
-    sym (no-drops (furthest 64) (a .capacity) (a .held) (a .want) (now (a .later)) (rw (c .before .size .ensures ∙ ap size (k .union .ensures)) at (c .if1 .taken)))
+    sym (no-drops (furthest 64) (a .capacity) (a .held) (a .want) (now (a .later))
+    (rw (c .before .size .ensures ∙ ap size (k .union .ensures)) at (c .if1 .taken)))
 
 -- what the candidates and the excess are
 by-rule : (c : tie.After-without) (x : ℕ)
@@ -31,7 +32,8 @@ by-rule c x e =
 returns-2 : tie.Need-returns-2
 returns-2 c =
     let w = c .before .before in
-    by-rule w _ (sym (all-victims 64 _ (w .without .result) _ (omega (arith, c .before .size2 .ensures, c .if2 .taken)) (in-range 64 (w .without .result) (omega (arith, w .without .ok)))))
+    by-rule w _ (sym (all-victims 64 _ (w .without .result) _ (omega (arith, c .before .size2 .ensures, c .if2 .taken))
+    (in-range 64 (w .without .result) (omega (arith, w .without .ok)))))
 
 find-uses-requires : tie.Need-find-uses-requires
 find-uses-requires c κs = c .before .before .before .before .before .before .before .before .before .before .before .pre

@@ -1,4 +1,5 @@
--- `find_uses` meets its contract. The invariant: the candidates that are not left are in groups, and those left are not wanted in the first k of the later steps.
+-- `find_uses` meets its contract. The invariant: the candidates that are not left are in groups, and those left are not wanted in the first k of the later
+-- steps.
 use Prim.Native.Nat.{ℕ, zero, suc, _+_, _-_, _≤_, _<_, min}
 use mathlib.Core.Path.{_≡_, refl, sym, ap, _∙_}
 use mathlib.Core.List.{List, [], _∷_}
@@ -65,7 +66,8 @@ within c =
     let q = c .before .loop in
     let b = c .before .before .before .before .before .before in
     let x = some (q .left) (omega (arith, c .loop-test .taken)) in
-    ends (x .0) (b .args .used) (q .k) _ (b .pre .0) (omega (arith, x .1, q .inv .part (x .0), bit-∩ (x .0) (b .args .candidates) (b .args .used))) (q .inv .ahead (x .0) (x .1))
+    ends (x .0) (b .args .used) (q .k) _ (b .pre .0) (omega (arith, x .1, q .inv .part (x .0), bit-∩ (x .0) (b .args .candidates) (b .args .used)))
+    (q .inv .ahead (x .0) (x .1))
 
 room : (c : tie.In-loop Inv-loop μ-loop) → c .before .loop .count < 64
 room c = omega (arith, c .before .loop .inv .room, some-size (c .before .loop .left) (c .loop-test .taken))
@@ -77,12 +79,22 @@ record Step (cs left hit k : ℕ) (later : List ℕ) : Type 0 where
   found : (c : ℕ) → bit c hit ≡ 1 → nextUse c later ≡ At k
   still : (c : ℕ) → bit c (left ∖ hit) ≡ 1 → nextUse c later ≡ stepOf (k + 1) (nextUse c (drop (k + 1) later))
 
-one-step : (cs used left hit k : ℕ) (later : List ℕ) → k < length later → left ≼ cs ∩ used → ((c : ℕ) → bit c left ≡ 1 → nextUse c later ≡ stepOf k (nextUse c (drop k later)))
+one-step : (cs used left hit k : ℕ) (later : List ℕ) → k < length later → left ≼ cs ∩ used
+    → ((c : ℕ) → bit c left ≡ 1 → nextUse c later ≡ stepOf k (nextUse c (drop k later)))
     → hit ≡ left ∩ getD later k 0 → Step cs left hit k later
 one-step cs used left hit k later h part ahead e =
     record {
       split = omega (arith, sizes-eq (left ∷ []) (hit ∷ left ∖ hit ∷ []) (λ c. omega (arith, wanted c, bit-∖ c left hit)));
-      others = same-by-bits _ _ (λ c. omega (arith, wanted c, part c, bit-∩ c cs used, bit-∖ c cs (left ∖ hit), bit-∖ c left hit, bit-∪ c (cs ∖ left) hit, bit-∖ c cs left));
+      others = same-by-bits _ _ (λ c. omega (
+        arith,
+        wanted c,
+        part c,
+        bit-∩ c cs used,
+        bit-∖ c cs (left ∖ hit),
+        bit-∖ c left hit,
+        bit-∪ c (cs ∖ left) hit,
+        bit-∖ c cs left,
+      ));
       found = λ c i. let b = wanted c in ahead c (omega arith) ∙ use-wanted c k later h (omega arith);
       still = λ c i. let b = wanted c in let d = bit-∖ c left hit in ahead c (omega arith) ∙ use-later c k later h (omega arith);
     }
@@ -138,7 +150,8 @@ taken c =
     one-step _ (l .before .before .before .before .before .before .args .used) _ _ _ _ (within l) (i .part) (i .ahead) (c .common2 .ensures)
 
 add-count : tie.Need-add-count Inv-loop μ-loop
-add-count c = omega (arith, c .before .before .before .before .loop .inv .room, any-size _ _ (c .any .ensures .0) (c .any .ensures .1), taken (c .before) .split)
+add-count c =
+    omega (arith, c .before .before .before .before .loop .inv .room, any-size _ _ (c .any .ensures .0) (c .any .ensures .1), taken (c .before) .split)
 
 add-k : tie.Need-add-k Inv-loop μ-loop
 add-k c = let l = c .before .before .before .before in omega (arith, within l, l .before .before .before .before .before .before .good)

@@ -1,4 +1,5 @@
--- `keep_from_near` meets its contract. The invariant: more are left than have to go, none of the groups before group j, and all of them go before those that stay.
+-- `keep_from_near` meets its contract. The invariant: more are left than have to go, none of the groups before group j, and all of them go before those that
+-- stay.
 use Prim.Native.Nat.{ℕ, _+_, _-_, _<_}
 use mathlib.Core.Path.{_≡_, ap, _∙_}
 use mathlib.Core.List.{List}
@@ -49,7 +50,14 @@ returns c =
     let stay = c .before .left-after .result in
     let f = rw (c .before .before .common .ensures) at (c .before .left-after .ensures) in
     let n : size stay + a .excess ≡ size (q .left) =
-    omega (arith, f .0, size-split (q .left) group, ap size (w .without .ensures), c .before .before .before .before .size .ensures, c .before .before .before .if1 .taken) in
+    omega (
+      arith,
+      f .0,
+      size-split (q .left) group,
+      ap size (w .without .ensures),
+      c .before .before .before .before .size .ensures,
+      c .before .before .before .if1 .taken,
+    ) in
     let own : stay ≼ q .left = λ x. omega (arith, f .1 .0 x, bit-∩ x (q .left) group) in
     λ u t ws g. let last = group-stays g (q .left) (q .j) (i .part) (i .passed) stay (w .before .before .loop-test .taken) (f .1 .0) (f .1 .1) in
     c .without2 .ensures ∙ stay-victims (a .candidates) (q .left) stay (a .excess) ws (search needs) (i .part) own n last (i .first u t ws g)

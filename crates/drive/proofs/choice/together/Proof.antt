@@ -23,7 +23,11 @@ loop-again : tie.Need-loop-again Inv-loop μ-loop
 loop-again c =
     let l = c .before .before .before .loop in
     let w = now (c .before .before .before .before .before .args .wants) in
-    record { turns = omega (arith, l .inv .turns); is = c .union .ensures ∙ together-back w (l .i) (l .all) (c .before .before .loop-test .taken) (l .inv .turns) (l .inv .is) }
+    record {
+      turns = omega (arith, l .inv .turns);
+      is = c .union .ensures
+          ∙ together-back w (l .i) (l .all) (c .before .before .loop-test .taken) (l .inv .turns) (l .inv .is);
+    }
 
 returns : tie.Need-returns Inv-loop μ-loop
 returns c =

@@ -15,7 +15,8 @@ use Rattle.job_bytes.proofs.reading.number_at.Tie as tie
 
 abbrev Inv-loop : tie.InvT-loop
 Inv-loop job at width value₀ k₀ value k =
-    (k ≤ width) × (value < 2 ^ (8 * (width - k))) × (readNumber (width - k) (at + k) (drop (at + k) job) ≡ done (got value (at + width) (drop (at + width) job)))
+    (k ≤ width) × (value < 2 ^ (8 * (width - k)))
+    × (readNumber (width - k) (at + k) (drop (at + k) job) ≡ done (got value (at + width) (drop (at + width) job)))
 
 abbrev μ-loop : tie.MeasureT-loop
 μ-loop job at width value₀ k₀ value k = k

@@ -32,7 +32,8 @@ returns-3 c =
     let a = c .before .before .before .before .before .before .args in
     let d : a .stands ≡ 1 = omega arith in
     let n : a .at + 1 * a .field .width ≡ a .at + a .field .width = omega arith in
-    rw (d, n) (field-judged (now (a .job)) (a .field) (a .at) _ (c .before .before .number-at .ensures) ∙ rw (sym (c .before .holds .ensures) ∙ c .if3 .taken) refl)
+    rw (d, n) (field-judged (now (a .job)) (a .field) (a .at) _ (c .before .before .number-at .ensures)
+    ∙ rw (sym (c .before .holds .ensures) ∙ c .if3 .taken) refl)
 
 returns-4 : tie.Need-returns-4
 unfolding holds mapped countOutcome demand _>>_

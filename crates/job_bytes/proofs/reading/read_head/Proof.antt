@@ -38,8 +38,11 @@ field : (c : tie.After-known-told2 Inv-loop μ-loop)
 field c =
     let k = c .before .before .before .before .before .before in
     let r = c .before .before .before .read-field in
-    let e = by-count _ _ (r .result) (r .ensures) (c .before .value .given .0 .0) (c .before .value .given .1) in
-    (e, field-within (now (k .before .before .before .before .before .before .args .job)) (c .before .before .before .before .row .result) (k .loop .at) _ _ _ (k .loop .inv .within) e)
+    let e = by-count _ _ (r .result) (r .ensures) (c .before .value .given .0 .0) (c .before .value .given .1) in (
+      e,
+      field-within (now (k .before .before .before .before .before .before .args .job)) (c .before .before .before .before .row .result) (k .loop .at) _ _ _
+          (k .loop .inv .within) e,
+    )
 
 returns : tie.Need-returns Inv-loop μ-loop
 unfolding mapped countOutcome

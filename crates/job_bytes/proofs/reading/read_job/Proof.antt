@@ -19,7 +19,8 @@ read-tests-requires c κs =
     let bs = now (c .before .before .before .before .before .before .before .before .before .before .before .args .job) in
     let r = c .before .before .before .before .before .before .before .read-head in
     let n = c .before .before .before .before .start .given .0 .0 in
-    by-count _ _ (r .result) (r .ensures) n (c .before .before .before .before .start .given .1) ∙ ap (λ (h : Head). done (got h n (drop n bs))) (sym (c .before .head-of .ensures))
+    by-count _ _ (r .result) (r .ensures) n (c .before .before .before .before .start .given .1)
+    ∙ ap (λ (h : Head). done (got h n (drop n bs))) (sym (c .before .head-of .ensures))
 
 returns : tie.Need-returns
 unfolding readOutcome

@@ -17,7 +17,8 @@ use Rattle.job_bytes.specs.JobBytes.{readRecords}
 use Rattle.job_bytes.proofs.Turns.{groups-end, records-end}
 use Rattle.job_bytes.proofs.Encoding.{rest-is, rest-long}
 use Rattle.job_bytes.proofs.GroupByte.{Answers, owed-end, answer-owed, answer-empty, answer-unknown, answer-curves}
-use Rattle.job_bytes.proofs.Records.{record-none, record-fault, record-read, list-more, LeftWith, left-refused, left-passed, promise-refused, promise-done}
+use Rattle.job_bytes.proofs.Records.{record-none, record-fault, record-read, list-more, LeftWith, left-refused, left-passed, promise-refused}
+use Rattle.job_bytes.proofs.Records.{promise-done}
 use Rattle.job_bytes.proofs.reading.read_records.Statement.{statement}
 use Rattle.job_bytes.proofs.reading.read_records.Tie as tie
 
@@ -93,7 +94,8 @@ tests-again c =
       fine = c .before .loop .inv .same ∙ q .inv .fine;
       goes =
           rw (list-more (q .list) (q .t) set (omega arith))
-          (q .inv .goes ∙ record-read job (a .curves) (a .tests) (q .t) (q .at) (take (q .t) (q .list)) (omega arith) rest (rest-is job (q .at)) some set u read);
+          (q .inv .goes
+          ∙ record-read job (a .curves) (a .tests) (q .t) (q .at) (take (q .t) (q .list)) (omega arith) rest (rest-is job (q .at)) some set u read);
     }
 
 -- the way out in the middle of a test's groups: the record's fault is the reading's
@@ -109,13 +111,15 @@ module _ (k : tie.At-tests Inv-loop μ-loop Inv-tests μ-tests) (more : k .tests
   fault n f some e =
       let a = k .before .before .before .args in
       let q = k .tests in
-      q .inv .goes ∙ record-fault (now (a .job)) (a .curves) (a .tests) (q .t) (q .at) (take (q .t) (q .list)) more rest (rest-is (now (a .job)) (q .at)) some n f e
+      q .inv .goes
+      ∙ record-fault (now (a .job)) (a .curves) (a .tests) (q .t) (q .at) (take (q .t) (q .list)) more rest (rest-is (now (a .job)) (q .at)) some n f e
 
 -- what the ways out of the loops say of the reading
 left : (k : tie.Left-tests Inv-loop μ-loop Inv-tests μ-tests)
     → let a = k .before .before .before .before .args in
     let q = k .before .tests in
-    LeftWith (k .tests-test .answer) (readRecords (a .curves) (a .tests) [] (a .start) (drop (a .start) (now (a .job)))) (got (take (a .tests) (q .list)) (q .at) (drop (q .at) (now (a .job))))
+    LeftWith (k .tests-test .answer) (readRecords (a .curves) (a .tests) [] (a .start) (drop (a .start) (now (a .job))))
+    (got (take (a .tests) (q .list)) (q .at) (drop (q .at) (now (a .job))))
 left k =
     let a = k .before .before .before .before .args in
     let pre = k .before .before .before .before .pre in
@@ -126,11 +130,19 @@ left k =
     ⊎-elim
     (λ w.
     let e : q .t ≡ a .tests = omega (arith, w .0 .left) in
-    inl (w .1 ∙ q .inv .fine, rw e at (q .inv .goes ∙ records-end (a .curves) (a .tests) (q .t) (take (q .t) (q .list)) (q .at) (drop (q .at) job) (w .0 .left))))
+    inl (
+      w .1 ∙ q .inv .fine,
+      rw e at (q .inv .goes ∙ records-end (a .curves) (a .tests) (q .t) (take (q .t) (q .list)) (q .at) (drop (q .at) job) (w .0 .left)),
+    ))
     (⊎-elim
     (λ w.
     let e : q .at ≡ length job = omega (arith, w .2 .taken) in
-    inr (Truncated (length job), w .3, q .inv .goes ∙ record-none job (a .curves) (a .tests) (q .t) (q .at) (take (q .t) (q .list)) (w .0 .taken) (omega arith) ∙ ap (refused 1) e))
+    inr (
+      Truncated (length job),
+      w .3,
+      q .inv .goes
+          ∙ record-none job (a .curves) (a .tests) (q .t) (q .at) (take (q .t) (q .list)) (w .0 .taken) (omega arith) ∙ ap (refused 1) e,
+    ))
     (⊎-elim
     (λ w.
     let p = w .4 in

@@ -29,7 +29,8 @@ sets c = take (c .before .before .before .before .before .before .before .before
 
 records : (c : tie.After-end)
     → let a = c .before .before .before .before .before .before .before .before .args in
-    readRecords (a .head .rig .curves) (a .head .tests) [] (a .start) (drop (a .start) (now (a .job))) ≡ done (got (sets c) (end c) (drop (end c) (now (a .job))))
+    readRecords (a .head .rig .curves) (a .head .tests) [] (a .start) (drop (a .start) (now (a .job)))
+    ≡ done (got (sets c) (end c) (drop (end c) (now (a .job))))
 records c =
     let k = c .before .before .before .before .before .before .before .before in
     let a = k .args in
@@ -89,7 +90,8 @@ returns-4 c =
     let old = now (a .wants) in
     let some : 0 < a .head .tests = omega (arith, c .before .before .before .before .before .before .if1 .left) in
     let r = c .before .before .before .before .read-records in
-    job-refused bs old _ _ (whole-fault bs (a .head) (a .start) (k .pre) some _ _ (mapped-refused _ _ _ _ (count-refused (r .result) _ _ (r .ensures .0) (c .before .r .given .1))))
+    job-refused bs old _ _ (whole-fault bs (a .head) (a .start) (k .pre) some _ _
+    (mapped-refused _ _ _ _ (count-refused (r .result) _ _ (r .ensures .0) (c .before .r .given .1))))
 
 returns-5 : tie.Need-returns-5
 unfolding readOutcome

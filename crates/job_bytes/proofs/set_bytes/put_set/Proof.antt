@@ -18,8 +18,11 @@ own : (c : tie.After-put-set-at) → let s = c .before .before .before .args .s 
     (p .result ≡ length (setBytes s)) × (p .result ≤ length (p .last .1 .1 .0)) × (take (p .result) (p .last .1 .1 .0) ≡ setBytes s)
 own c =
     let s = c .before .before .before .args .s in
-    let p = c .put-set-at .ensures .0 (omega arith) in
-    (omega (arith, p .0), own-fits (setBytes s) _ _ _ (p .0) (p .1) (omega (arith, set-le s)), own-bytes (setBytes s) _ _ _ (p .0) (p .1) (omega (arith, set-le s)))
+    let p = c .put-set-at .ensures .0 (omega arith) in (
+      omega (arith, p .0),
+      own-fits (setBytes s) _ _ _ (p .0) (p .1) (omega (arith, set-le s)),
+      own-bytes (setBytes s) _ _ _ (p .0) (p .1) (omega (arith, set-le s)),
+    )
 
 array-share-prefix-own : tie.Need-array-share-prefix-own
 array-share-prefix-own c = own (c .before) .1

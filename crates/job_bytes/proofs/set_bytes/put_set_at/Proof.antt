@@ -48,7 +48,15 @@ returns-2 c = (λ h. absurd (omega arith), λ h. (refl, refl))
 loop-holds : tie.Need-loop-holds Inv-loop μ-loop
 loop-holds c =
     let a = c .before .before .args in
-    record { turns = omega arith; place = refl; small = omega arith; whole = rw (zero-add, one-mul); long = refl; ends = omega (arith, set-length (a .s)); goes = refl }
+    record {
+      turns = omega arith;
+      place = refl;
+      small = omega arith;
+      whole = rw (zero-add, one-mul);
+      long = refl;
+      ends = omega (arith, set-length (a .s));
+      goes = refl;
+    }
 
 slice-write-out : tie.Need-slice-write-out Inv-loop μ-loop
 slice-write-out c = room c
@@ -81,7 +89,8 @@ loop-again c =
     }
 
 -- behind the last turn: where the bytes end, and the map
-end-is : (c : tie.After-loop Inv-loop μ-loop) → c .before .loop .end ≡ c .before .before .before .before .args .to + length (setBytes (c .before .before .before .before .args .s))
+end-is : (c : tie.After-loop Inv-loop μ-loop)
+    → c .before .loop .end ≡ c .before .before .before .before .args .to + length (setBytes (c .before .before .before .before .args .s))
 end-is c = let l = c .before .loop in omega (arith, l .inv .ends, ap length (bytes-end (l .j) (l .rest) (omega arith)))
 
 map-is : (c : tie.After-loop Inv-loop μ-loop) → groupMap 8 (c .before .before .before .before .args .s) ≡ c .before .loop .map

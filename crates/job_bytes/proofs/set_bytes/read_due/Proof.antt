@@ -17,10 +17,12 @@ returns : tie.Need-returns
 returns c =
     let s = c .before .before in
     let a = s .args in
-    due-none (now (a .rest)) (a .at) (a .group) (a .curves) (bit (a .group) (a .map)) (bit-beyond (a .group) (a .map) (omega (arith, s .fits .map, pow-mono {i = 8} (c .if1 .taken))))
+    due-none (now (a .rest)) (a .at) (a .group) (a .curves) (bit (a .group) (a .map))
+    (bit-beyond (a .group) (a .map) (omega (arith, s .fits .map, pow-mono {i = 8} (c .if1 .taken))))
 
 returns-2 : tie.Need-returns-2
-returns-2 c = let a = c .before .before .before .before .args in due-none (now (a .rest)) (a .at) (a .group) (a .curves) (bit (a .group) (a .map)) (c .if3 .taken)
+returns-2 c = let a =
+    c .before .before .before .before .args in due-none (now (a .rest)) (a .at) (a .group) (a .curves) (bit (a .group) (a .map)) (c .if3 .taken)
 
 returns-3 : tie.Need-returns-3
 returns-3 c =
@@ -28,7 +30,8 @@ returns-3 c =
     marked-owed (now (a .rest)) (a .at) (a .group) (a .curves) (bit (a .group) (a .map)) (omega arith) (omega (arith, c .if3 .left)) (c .before .if2 .taken)
 
 -- the byte, counted as often as its bit says
-small : (c : tie.After-shared-slice-known2) → let a = c .before .before .before .before .args in getD (now (a .rest)) (a .at) 0 * bit (a .group) (a .map) < 2 ^ 8
+small : (c : tie.After-shared-slice-known2) → let a =
+    c .before .before .before .before .args in getD (now (a .rest)) (a .at) 0 * bit (a .group) (a .map) < 2 ^ 8
 small c =
     let a = c .before .before .before .before .args in
     omega (arith, c .shared-slice-known2 .given (a .at), at-most (getD (now (a .rest)) (a .at) 0) (bit (a .group) (a .map)) (omega arith))
@@ -53,7 +56,8 @@ returns-5 c =
     let s = (b * 2 ^ (8 * a .group)) % 2 ^ 64 in
     let e : s ≡ b * 2 ^ (8 * a .group) = shl-exact 8 (8 * a .group) 64 (small k) (omega arith) in
     let t = sym (c .before .inside .ensures ∙ ap (inside s) (c .before .before .below .ensures)) ∙ c .if5 .taken in
-    marked-curves (now (a .rest)) (a .at) (a .group) (a .curves) (k .before .if2 .left) (bit (a .group) (a .map)) (omega arith) (c .before .before .before .if4 .left) s e t
+    marked-curves (now (a .rest)) (a .at) (a .group) (a .curves) (k .before .if2 .left) (bit (a .group) (a .map)) (omega arith)
+    (c .before .before .before .if4 .left) s e t
 
 returns-6 : tie.Need-returns-6
 returns-6 c =
@@ -63,7 +67,8 @@ returns-6 c =
     let s = (b * 2 ^ (8 * a .group)) % 2 ^ 64 in
     let e : s ≡ b * 2 ^ (8 * a .group) = shl-exact 8 (8 * a .group) 64 (small k) (omega arith) in
     let t = sym (c .before .inside .ensures ∙ ap (inside s) (c .before .before .below .ensures)) ∙ c .if5 .left in
-    marked-unknown (now (a .rest)) (a .at) (a .group) (a .curves) (k .before .if2 .left) (bit (a .group) (a .map)) (omega arith) (c .before .before .before .if4 .left) s e t
+    marked-unknown (now (a .rest)) (a .at) (a .group) (a .curves) (k .before .if2 .left) (bit (a .group) (a .map)) (omega arith)
+    (c .before .before .before .if4 .left) s e t
 
 pub read-due-spec : {M : Type 1} → statement M
 read-due-spec =

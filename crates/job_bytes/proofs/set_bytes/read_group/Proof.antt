@@ -32,7 +32,8 @@ returns-4 c =
     let k = c .before .before in
     let a = k .before .before .before .args in
     let p : 0 < getD (now (a .rest)) (a .at) 0 = omega (arith, c .if3 .left) in
-    due-unknown (now (a .rest)) (a .at) (a .group) (a .curves) (k .if2 .left) p (no-such-group (getD (now (a .rest)) (a .at) 0) (a .group) (a .curves) p (k .before .if1 .left))
+    due-unknown (now (a .rest)) (a .at) (a .group) (a .curves) (k .if2 .left) p
+    (no-such-group (getD (now (a .rest)) (a .at) 0) (a .group) (a .curves) p (k .before .if1 .left))
 
 pub read-group-spec : {M : Type 1} → statement M
 read-group-spec =

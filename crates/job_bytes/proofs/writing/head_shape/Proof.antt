@@ -13,7 +13,8 @@ use Rattle.job_bytes.proofs.writing.head_shape.Statement.{statement}
 use Rattle.job_bytes.proofs.writing.head_shape.Tie as tie
 
 abbrev Inv-loop : tie.InvT-loop
-Inv-loop values map₀ len₀ j₀ map len j = (j ≤ length fields) × (map ≡ mapFrom values j) × (len ≡ 1 + length (bytesFrom values j)) × (len ≤ 1 + 8 * (length fields - j))
+Inv-loop values map₀ len₀ j₀ map len j =
+    (j ≤ length fields) × (map ≡ mapFrom values j) × (len ≡ 1 + length (bytesFrom values j)) × (len ≤ 1 + 8 * (length fields - j))
 
 abbrev μ-loop : tie.MeasureT-loop
 μ-loop values map₀ len₀ j₀ map len j = j
@@ -33,7 +34,11 @@ shared-slice-read-if1 : tie.Need-shared-slice-read-if1 Inv-loop μ-loop
 shared-slice-read-if1 c = omega (arith, rows)
 
 add-map : tie.Need-add-map Inv-loop μ-loop
-add-map c = omega (arith, map-small (now (c .before .before .before .before .before .before .before .args .values)) (c .before .before .before .before .before .loop .j))
+add-map c =
+    omega (
+      arith,
+      map-small (now (c .before .before .before .before .before .before .before .args .values)) (c .before .before .before .before .before .loop .j),
+    )
 
 add-len : tie.Need-add-len Inv-loop μ-loop
 add-len c = omega (arith, c .before .before .before .before .row .ensures)
@@ -63,8 +68,10 @@ loop-again-2 c =
 returns : tie.Need-returns Inv-loop μ-loop
 unfolding headBytes fieldsMap
 returns c =
-    let z : c .before .loop .j ≡ 0 = omega arith in
-    (rw z at (c .before .loop .inv .1), (rw z at (c .before .loop .inv .2) ∙ sym (head-length (now (c .before .before .before .args .values))), omega (arith, rows)))
+    let z : c .before .loop .j ≡ 0 = omega arith in (
+      rw z at (c .before .loop .inv .1),
+      (rw z at (c .before .loop .inv .2) ∙ sym (head-length (now (c .before .before .before .args .values))), omega (arith, rows)),
+    )
 
 pub head-shape-spec : {M : Type 1} → statement M
 head-shape-spec =

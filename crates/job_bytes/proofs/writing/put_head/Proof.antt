@@ -30,7 +30,13 @@ slice-write-out c = omega (arith, head-length (now (c .before .before .args .val
 
 loop-holds : tie.Need-loop-holds Inv-loop μ-loop
 loop-holds c =
-    record { turns = omega arith; long = refl; fits = simp length-set (omega (arith, head-length (now (c .before .before .args .values)), c .before .before .pre .2)); goes = refl }
+    record {
+      turns = omega arith;
+      long = refl;
+      fits = simp length-set
+          (omega (arith, head-length (now (c .before .before .args .values)), c .before .before .pre .2));
+      goes = refl;
+    }
 
 row-requires : tie.Need-row-requires Inv-loop μ-loop
 row-requires c κs = omega (arith, rows)
@@ -48,7 +54,8 @@ put-number-requires : tie.Need-put-number-requires Inv-loop μ-loop
 put-number-requires c κs =
     let k = c .before .before .before .before .before .before in
     let r = c .before .before .before .before .row in
-    let more = stands-long (now (k .before .before .before .args .values)) (k .loop .j) (r .result) (r .ensures .0) (omega (arith, rows)) (c .before .if1 .taken) in
+    let more = stands-long (now (k .before .before .before .args .values)) (k .loop .j) (r .result) (r .ensures .0) (omega (arith, rows))
+    (c .before .if1 .taken) in
     omega (arith, k .loop .inv .long, k .loop .inv .fits)
 
 add-at : tie.Need-add-at Inv-loop μ-loop

@@ -28,8 +28,12 @@ loop-again c =
     let a = c .before .before .args in
     let l = c .before .loop in
     let w : a .width - l .k ≡ suc (a .width - (l .k + 1)) = omega arith in
-    let n : a .at + l .k + 1 ≡ a .at + (l .k + 1) = omega arith in
-    (omega arith, simp length-set (l .inv .1), l .inv .2 ∙ rw (w, ← n) (sets-cons (l .out) (a .at + l .k) (l .rest % 256) (numberBytes (a .width - (l .k + 1)) (l .rest / 256))))
+    let n : a .at + l .k + 1 ≡ a .at + (l .k + 1) = omega arith in (
+      omega arith,
+      simp length-set (l .inv .1),
+      l .inv .2
+          ∙ rw (w, ← n) (sets-cons (l .out) (a .at + l .k) (l .rest % 256) (numberBytes (a .width - (l .k + 1)) (l .rest / 256))),
+    )
 
 returns : tie.Need-returns Inv-loop μ-loop
 unfolding numberBytes

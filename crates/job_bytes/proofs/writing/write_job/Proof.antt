@@ -19,7 +19,8 @@ use Rattle.job_bytes.proofs.JobWritten.{records-le, job-length, job-set
 use Rattle.job_bytes.proofs.writing.write_job.Statement.{statement}
 use Rattle.job_bytes.proofs.writing.write_job.Tie as tie
 
-known : (c : tie.After-enum-told) → let a = c .before .before .before .before .before .args in jobKnownBy (a .method) (jobOf (a .rig) (now (a .wants))) ≡ done tt
+known : (c : tie.After-enum-told) → let a =
+    c .before .before .before .before .before .args in jobKnownBy (a .method) (jobOf (a .rig) (now (a .wants))) ≡ done tt
 known c = examined-passed (c .before .before .examine-job .result) _ (c .enum-told .given .1) (c .before .before .examine-job .ensures)
 
 few : (c : tie.After-enum-told) → length (now (c .before .before .before .before .before .args .wants)) ≤ 256
@@ -46,7 +47,9 @@ put-records-requires c κs =
 
 -- the buffer of its own has the bytes of the job in front
 abbrev bytes : tie.After-put-records → List ℕ
-bytes c = let a = c .before .before .before .before .before .before .before .before .before .before .before .before .before .args in jobBytes (request (a .method) (jobOf (a .rig) (now (a .wants))))
+bytes c = let a =
+    c .before .before .before .before .before .before .before .before .before .before .before .before .before .args in jobBytes
+    (request (a .method) (jobOf (a .rig) (now (a .wants))))
 
 own : (c : tie.After-put-records) → let p = c .put-records in
     (p .result ≡ length (bytes c)) × (p .result ≤ length (p .last .1 .1 .0)) × (take (p .result) (p .last .1 .1 .0) ≡ bytes c)
@@ -57,7 +60,8 @@ own c =
     let a = h .before .before .before .before .before .before .before .args in
     let q = request (a .method) (jobOf (a .rig) (now (a .wants))) in
     let n : c .put-records .result ≡ length (bytes c) = omega (arith, p .0, h .head-shape .ensures .1 .0, job-length q) in
-    let m : length (bytes c) ≤ 2337 = omega (arith, rows, h .head-shape .ensures .1 .0, h .head-shape .ensures .1 .1, job-length q, records-le (now (a .wants)), few (h .before .before)) in
+    let m : length (bytes c) ≤ 2337 =
+    omega (arith, rows, h .head-shape .ensures .1 .0, h .head-shape .ensures .1 .1, job-length q, records-le (now (a .wants)), few (h .before .before)) in
     let s = job-sets q _ _ _ (h .head-shape .result .len) (h .head-shape .ensures .1 .0) (k .put-head .ensures) (p .1) in
     let z : c .put-records .result ≡ 0 + length (bytes c) = omega arith in
     (n, own-fits (bytes c) _ _ _ z s (omega arith), own-bytes (bytes c) _ _ _ z s (omega arith))

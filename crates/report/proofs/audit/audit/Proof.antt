@@ -27,7 +27,8 @@ read : (c : tie.After-known-told2) →
 read c =
     let r = c .before .before .before .before .read-job in
     let x = answer-done (now (c .before .before .before .before .before .before .before .before .args .job)) _
-    (bytes (c .before .before .before .before .before .before .before)) (omega arith) _ _ (read-done _ _ _ (r .ensures .0) (c .before .head .given .1)) (r .ensures .1) in
+    (bytes (c .before .before .before .before .before .before .before)) (omega arith) _ _ (read-done _ _ _ (r .ensures .0) (c .before .head .given .1))
+    (r .ensures .1) in
     (x .read, x .tests, x .few)
 
 array-share-prefix-wants : tie.Need-array-share-prefix-wants
@@ -44,11 +45,13 @@ returns c =
     let a = c .before .before .before .before .before .before .before .before .args in
     let r = c .before .before .before .before .read-job in
     job-refused (now (a .job)) (now (a .plan)) _
-    (answer-refused (now (a .job)) _ (bytes (c .before .before .before .before .before .before .before)) (omega arith) _ _ (read-refused _ _ _ (r .ensures .0) (c .before .r .given .1)))
+    (answer-refused (now (a .job)) _ (bytes (c .before .before .before .before .before .before .before)) (omega arith) _ _
+    (read-refused _ _ _ (r .ensures .0) (c .before .r .given .1)))
 
 returns-2 : tie.Need-returns-2
 returns-2 c = let a =
-    c .before .before .before .before .before .before .before .before .before .before .args in c .audit-plan .ensures ∙ job-done (now (a .job)) (now (a .plan)) _ (read (c .before .before) .0)
+    c .before .before .before .before .before .before .before .before .before .before .args in c .audit-plan .ensures
+    ∙ job-done (now (a .job)) (now (a .plan)) _ (read (c .before .before) .0)
 
 pub audit-spec : {M : Type 1} → statement M
 audit-spec =

@@ -45,7 +45,8 @@ returns c =
     let s = c .before .before .before .before .before .before .before .before .before .before .before .before in
     let a = s .args in
     let r = c .before .before .before .before .before .before .read-plan in
-    plan-refused (record { head = a .head; wants = now (a .wants) }) (now (a .plan)) _ (planOf _ _) (omega (arith, s .pre .1)) (r .result) (r .ensures .0) _ (c .before .r .given .1)
+    plan-refused (record { head = a .head; wants = now (a .wants) }) (now (a .plan)) _ (planOf _ _) (omega (arith, s .pre .1)) (r .result) (r .ensures .0) _
+    (c .before .r .given .1)
 
 returns-2 : tie.Need-returns-2
 returns-2 c =

@@ -16,7 +16,8 @@ put-number-requires c κs =
     omega (
       arith,
       length-append (decimal (c .before .before .before .before .before .before .before .before .args .loads)) (text "\nfewest "),
-      decimal-word (c .before .before .before .before .before .before .before .before .args .loads) (omega (arith, c .before .before .before .before .before .before .before .before .fits .loads)),
+      decimal-word (c .before .before .before .before .before .before .before .before .args .loads)
+          (omega (arith, c .before .before .before .before .before .before .before .before .fits .loads)),
     )
 
 put-number-requires-2 : tie.Need-put-number-requires-2
@@ -75,7 +76,8 @@ put-number-requires-3 c κs =
 returns : tie.Need-returns
 unfolding text
 returns c =
-    let a = c .before .before .before .before .before .before .before .before .before .before .before .before .before .before .before .before .before .before .before .before .before .args in
+    let a = c .before .before .before .before .before .before .before .before .before .before .before .before .before .before .before .before .before .before
+    .before .before .before .args in
     rw (counts-lines (a .loads) (a .fewest)) (wrote-append
     (wrote-append (wrote-append (c .before .before .before .before .before .before .before .before .before .before .before .before .before .before .before
     .before .before .put-text .ensures) (c .before .before .before .before .before .before .before .before .before .before .before .before .put-number

@@ -16,27 +16,31 @@ unfolding auditedOutcome
 write-counts-requires c κs =
     let a = c .before .before .before .before .before .before .before .before .args in
     let bytes = bytes-of (now (a .job)) (λ k l. omega (arith, c .before .before .before .before .before .before .before .shared-slice-known .given k)) in
-    audit-fewer (now (a .job)) (now (a .plan)) _ bytes (audited (Audited.Counts _ _) (c .before .before .loads .given .1) (c .before .before .before .before .audit .ensures))
+    audit-fewer (now (a .job)) (now (a .plan)) _ bytes
+    (audited (Audited.Counts _ _) (c .before .before .loads .given .1) (c .before .before .before .before .audit .ensures))
 
 returns : tie.Need-returns
 unfolding auditedOutcome auditText
 returns c =
     let a = c .before .before .before .before .before .before .before .before .before .before .before .before .args in
-    let e = audited (Audited.JobRefused _) (c .before .before .before .before .before .before .r .given .1) (c .before .before .before .before .before .before .before .before .audit .ensures) in
+    let e = audited (Audited.JobRefused _) (c .before .before .before .before .before .before .r .given .1)
+    (c .before .before .before .before .before .before .before .before .audit .ensures) in
     audit-written (now (a .job)) (now (a .plan)) (now (a .out)) e (c .before .before .write-refusal .ensures)
 
 returns-2 : tie.Need-returns-2
 unfolding auditedOutcome auditText text
 returns-2 c =
     let a = c .before .before .before .before .before .before .before .before .before .before .before .before .args in
-    let e = audited (Audited.PlanRefused _) (c .before .before .before .before .before .before .r2 .given .1) (c .before .before .before .before .before .before .before .before .audit .ensures) in
+    let e = audited (Audited.PlanRefused _) (c .before .before .before .before .before .before .r2 .given .1)
+    (c .before .before .before .before .before .before .before .before .audit .ensures) in
     audit-written (now (a .job)) (now (a .plan)) (now (a .out)) e (c .before .before .write-refusal2 .ensures)
 
 returns-3 : tie.Need-returns-3
 unfolding auditedOutcome
 returns-3 c =
     let a = c .before .before .before .before .before .before .before .before .before .before .before .args in
-    let e = audited (Audited.Counts _ _) (c .before .before .before .before .before .loads .given .1) (c .before .before .before .before .before .before .before .audit .ensures) in
+    let e = audited (Audited.Counts _ _) (c .before .before .before .before .before .loads .given .1)
+    (c .before .before .before .before .before .before .before .audit .ensures) in
     audit-written (now (a .job)) (now (a .plan)) (now (a .out)) e (c .before .before .write-counts .ensures)
 
 pub write-audit-spec : {M : Type 1} → statement M
