@@ -9,13 +9,15 @@ use lib.Dec.{eqb}
 infixl 70 _∩_
 infixl 68 _∪_ _∖_
 infix 4 _∈_ _⊆_
--- what both have, what either has, what the first has and the second lacks
+-- what both have
 abbrev pub _∩_ : ℕ → ℕ → ℕ
 a ∩ b = bitAnd a b
 
+-- what either has
 abbrev pub _∪_ : ℕ → ℕ → ℕ
 a ∪ b = bitOr a b
 
+-- what the first has and the second lacks
 abbrev pub _∖_ : ℕ → ℕ → ℕ
 a ∖ b = a - bitAnd a b
 
@@ -27,9 +29,11 @@ size = ones
 abbrev pub bit : ℕ → ℕ → ℕ
 bit k s = s / 2 ^ k % 2
 
+-- k is an element of s
 abbrev pub _∈_ : ℕ → ℕ → Type 0
 k ∈ s = bit k s ≡ 1
 
+-- each element of a is one of b
 abbrev pub _⊆_ : ℕ → ℕ → Type 0
 a ⊆ b = a ∩ b ≡ a
 

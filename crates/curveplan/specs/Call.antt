@@ -22,9 +22,10 @@ unfoldable pub numberOf : Outcome (List ℕ) → ℕ
 numberOf (done bytes) = length bytes
 numberOf (refused number figure) = number * 65536 + figure
 
--- what the call answers, and what the lent plan holds afterwards
+-- what the call answers
 unfoldable pub callAnswer : List ℕ → List ℕ → ℕ
 callAnswer bs old = numberOf (jobToPlan bs (length old))
 
+-- what the lent plan holds afterwards
 unfoldable pub callPlan : List ℕ → List ℕ → List ℕ
 callPlan bs old = leaves (jobToPlan bs (length old)) old

@@ -32,6 +32,7 @@ pub record WrittenPlan (bs plan : List ℕ) : Type 0 where
       → checking (jobIn request) (orderBy (request .head .method) (capacity (request .head .rig)) (request .wants)) other ≡ done m
       → count ≤ curveCount (other .loads)
 
+-- what the library promises
 pub record Library : Type 0 where
   -- "Each refusal has exactly the condition shown": 5 and 10 are not given exactly for a job and a known method, 8 exactly for an order of its tests
   pub jobs : (method : ℕ) (j : Job) → jobKnownBy method j ≡ done tt ↔ (IsJob j × (method ≤ 3))

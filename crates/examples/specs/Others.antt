@@ -18,6 +18,7 @@ use Rattle.examples.specs.Starred.{job, a-bytes, a-wants, a-plan}
 abbrev pub sets : ℕ → ℕ → Sets
 sets d l = record { drops = d; loads = l }
 
+-- the examples without a star, and more that tell readings apart
 pub record Others : Type 0 where
   -- No bytes: 1 at 0. `01`: 1 at 1. `01 00`, `01 08`, `01 41`: 2 at 1. `00`: 5 at 0.
   pub no-bytes : readJob [] 256 ≡ refused 1 0

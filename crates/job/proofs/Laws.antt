@@ -4,7 +4,7 @@ use mathlib.Core.Bool.{Bool, true, false}
 use mathlib.Core.List.{List, [], _∷_}
 use Prim.Native.Nat.{ℕ, zero, suc, _+_, _≤_, _<_}
 use lib.Dec.{leb}
-use borrow.Author.Tests.{leb-true, le-leb}
+use borrow.Author.Tests.{leb-true, le-leb, lt-leb}
 use native.Mathlib.Omega.{arith}
 use lib.ListN.{length, getD, drop, drop-of-length-le}
 use lib.Seq.{drop-cons}
@@ -13,7 +13,8 @@ use Rattle.job.specs.declared.Refusal.{Refusal}
 use Rattle.job.specs.declared.Head.{Head}
 use Rattle.job.specs.declared.JobRead.{JobRead}
 use Rattle.job.specs.declared.Counted.{Counted}
-use Rattle.job.specs.Refusal.{Outcome, done, refused, number, figure, readOutcome, countOutcome, _>>=_, _>>_, mapped, demand, room, leaves, overwritten}
+use Rattle.job.specs.Refusal.{Outcome, done, refused, number, figure, readOutcome, countOutcome}
+use Rattle.job.specs.Refusal.{_>>=_, _>>_, mapped, demand, room, fitting, leaves, overwritten}
 use Rattle.job.specs.Handed.{each}
 pub use Rattle.lists.proofs.Tests.{both, and}
 
@@ -125,6 +126,15 @@ room-done lent needed e = leb-true needed lent (demand-true (leb needed lent) 9 
 pub done-room : (lent needed : ℕ) → needed ≤ lent → room lent needed ≡ done tt
 unfolding room
 done-room lent needed h = demand-done (leb needed lent) 9 needed (le-leb needed lent h)
+
+module _ (bytes : List ℕ) (lent : ℕ) where
+  pub fitting-short : lent < length bytes → fitting bytes lent ≡ refused 9 (length bytes)
+  unfolding room demand _>>_
+  fitting-short h = rw (lt-leb (length bytes) lent h) refl
+
+  pub fitting-whole : length bytes ≤ lent → fitting bytes lent ≡ done bytes
+  unfolding room demand _>>_
+  fitting-whole h = rw (le-leb (length bytes) lent h) refl
 
 pub leaves-done : {A : Type 0} (f : A → List ℕ) (a : Outcome A) (x : A) (old : List ℕ) → a ≡ done x → leaves (mapped f a) old ≡ overwritten (f x) old
 unfolding mapped leaves

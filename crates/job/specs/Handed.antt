@@ -38,15 +38,19 @@ someTests tests = demand (ltb 0 tests) 5 0
 unfoldable pub placesKnown : ℕ → Outcome (Unit {0})
 placesKnown places = demand (between 1 64 places) 10 0
 
+-- "1 curves"
 unfoldable pub curvesKnown : ℕ → Outcome (Unit {0})
 curvesKnown curves = demand (between 1 64 curves) 10 1
 
+-- "2 more than 256 tests"
 unfoldable pub testsKnown : ℕ → Outcome (Unit {0})
 testsKnown tests = demand (leb tests 256) 10 2
 
+-- "3 method"
 unfoldable pub methodKnown : ℕ → Outcome (Unit {0})
 methodKnown method = demand (leb method 3) 10 3
 
+-- "4 + t: wants of test t name a foreign curve"
 unfoldable pub wantsKnown : ℕ → List ℕ → Outcome (Unit {0})
 wantsKnown curves wants = each (λ w. inside w (allCurves curves)) 10 4 wants
 

@@ -4,6 +4,7 @@ use mathlib.Core.Bool.{Bool, true, false}
 use mathlib.Core.List.{List}
 use Prim.Native.Nat.{ℕ}
 use lib.Dec.{leb}
+use lib.ListN.{length}
 unfoldable pub use Rattle.lists.specs.Lent.{overwritten}
 use Rattle.job.specs.declared.Refusal.{Refusal}
 use Rattle.job.specs.declared.Refusal.the-variants.{Truncated, BadHeader, EmptyGroup, UnknownCurve, NoTests, TrailingBytes, TestTooLarge, BadOrder}
@@ -51,14 +52,17 @@ figure (PlanRejected i) = i
 
 -- ---- "Any answer that is an enum has a definition that gives this paper's number and values for each of the enum's cases."
 
+-- of reading a job
 unfoldable pub readOutcome : JobRead → Outcome Head
 readOutcome (JobRead.Read h) = done h
 readOutcome (JobRead.Refused r) = refused (number r) (figure r)
 
+-- of an examination
 unfoldable pub examinedOutcome : Examined → Outcome (Unit {0})
 examinedOutcome Examined.Passed = done tt
 examinedOutcome (Examined.Refused r) = refused (number r) (figure r)
 
+-- of a function that answers a count
 unfoldable pub countOutcome : Counted → Outcome ℕ
 countOutcome (Counted.Count n) = done n
 countOutcome (Counted.Refused r) = refused (number r) (figure r)
@@ -89,6 +93,12 @@ demand false k i = refused k i
 -- 9: "a lent list or buffer can't take the result", with the entries needed
 unfoldable pub room : ℕ → ℕ → Outcome (Unit {0})
 room lent needed = demand (leb needed lent) 9 needed
+
+-- bytes that are written to a lent buffer of so many
+abbrev pub fitting : List ℕ → ℕ → Outcome (List ℕ)
+fitting bytes lent = do
+  room lent (length bytes)
+  done bytes
 
 -- ---- "Nothing lent changes under a refusal; on success entries beyond the result keep their contents."
 

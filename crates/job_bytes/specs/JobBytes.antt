@@ -5,7 +5,7 @@ use Prim.Native.Nat.{ℕ, zero, suc, _+_, _*_, _/_, _%_, _^_}
 use lib.ListN.{length, getD}
 use lib.Dec.{ltb, eqb}
 use Rattle.job.specs.declared.Head.{Head}
-use Rattle.job.specs.Refusal.{Outcome, done, refused, _>>=_, _>>_, mapped, demand, room, leaves}
+use Rattle.job.specs.Refusal.{Outcome, done, refused, _>>=_, _>>_, mapped, demand, room, fitting, leaves}
 use Rattle.job.specs.Words.{Job, jobOf}
 use Rattle.job.specs.Handed.{between, someTests, jobKnownBy}
 use Rattle.job_bytes.specs.declared.fields.Field.{Field}
@@ -111,6 +111,7 @@ readJob bs lent = do
 unfoldable pub readJobAnswer : List ℕ → List ℕ → Outcome Head
 readJobAnswer bs old = mapped (λ j. j .head) (readJob bs (length old))
 
+-- what the lent wants hold afterwards
 unfoldable pub readJobWants : List ℕ → List ℕ → List ℕ
 readJobWants bs old = leaves (mapped (λ j. j .wants) (readJob bs (length old))) old
 
@@ -140,12 +141,12 @@ jobBytes q = headBytes (valuesOf (q .head)) ++ recordBytes (q .wants)
 unfoldable pub writeJob : ℕ → Job → ℕ → Outcome (List ℕ)
 writeJob method j lent = do
   jobKnownBy method j
-  room lent (length (jobBytes (request method j)))
-  done (jobBytes (request method j))
+  fitting (jobBytes (request method j)) lent
 
--- what writing answers, and what the lent buffer holds afterwards
+-- what writing answers: the count of bytes
 unfoldable pub writeJobAnswer : ℕ → Job → List ℕ → Outcome ℕ
 writeJobAnswer method j old = mapped length (writeJob method j (length old))
 
+-- what the lent buffer holds afterwards
 unfoldable pub writeJobBuffer : ℕ → Job → List ℕ → List ℕ
 writeJobBuffer method j old = leaves (writeJob method j (length old)) old

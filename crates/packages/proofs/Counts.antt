@@ -69,10 +69,10 @@ module _ (cs sizes : List ℕ) (sized : sizes ≡ map size cs) where
   size-at k =
       ap (λ (l : List ℕ). getD l k 0) sized ∙ ap (λ (d : ℕ). getD (map size cs) k d) (sym size-empty) ∙ List·getD-map size cs k 0
 
-  -- what `together` asks of the sizes and of what two packages have in common
-  pub together-asks : ((k : ℕ) → getD cs k 0 < 2 ^ 64) → (i j n : ℕ) → n ≡ common (getD cs i 0) (getD cs j 0)
+  -- what `union_size` asks of the sizes and of what two packages have in common
+  pub union-size-asks : ((k : ℕ) → getD cs k 0 < 2 ^ 64) → (i j n : ℕ) → n ≡ common (getD cs i 0) (getD cs j 0)
       → (getD sizes i 0 ≤ 64) × (getD sizes j 0 ≤ 64) × (n ≤ getD sizes i 0)
-  together-asks small i j n e = (
+  union-size-asks small i j n e = (
     omega (arith, size-at i, size-le 64 (getD cs i 0) (small i)),
     omega (arith, size-at j, size-le 64 (getD cs j 0) (small j)),
     omega (arith, size-at i, e, size-∩-le (getD cs i 0) (getD cs j 0)),

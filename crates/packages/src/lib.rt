@@ -241,7 +241,7 @@ fn count_behind(curves: &[u64], counts: &mut [u16], k: usize)
 }
 
 // The size of a union, by the sizes of the two sets and of what they have in common.
-fn together(a: u64, b: u64, both: u16) -> usize
+fn union_size(a: u64, b: u64, both: u16) -> usize
     requires { ⌜ (a ≤ 64) × (b ≤ 64) × (both ≤ a) ⌝ }
     ensures { λ r. ⌜ ((x y : ℕ) → a ≡ size x → b ≡ size y → both ≡ common x y → r ≡ size (x ∪ y)) ⌝ }
 {
@@ -269,7 +269,7 @@ fn best_partner(
     while j < curves.len() {
         let score = 1 + counts[j];
         if most < score {
-            if together(sizes[first], sizes[j], counts[j]) <= bound {
+            if union_size(sizes[first], sizes[j], counts[j]) <= bound {
                 second = j;
                 most = score;
             }
@@ -422,7 +422,7 @@ fn renew_before(
     let mut row: usize = 0;
     while row < first {
         let both = counts[row];
-        let fits = together(sizes[row], sizes[first], both) <= bound;
+        let fits = union_size(sizes[row], sizes[first], both) <= bound;
         ratings[row] = renewed(fits, both, first, second, ratings[row]);
         row += 1;
     }

@@ -8,7 +8,7 @@ use lib.ListN.{length, getD, take, drop, set, length-append, drop-of-length-le}
 use lib.Seq.{sets, length-sets, drop-cons}
 use borrow.Author.Tests.{lt-leb}
 use Rattle.lists.proofs.Overwritten.{sets-front}
-use Rattle.job.specs.Refusal.{Outcome, done, refused, _>>=_, _>>_, room}
+use Rattle.job.specs.Refusal.{Outcome, done, refused, _>>=_, _>>_, room, fitting}
 use Rattle.job_bytes.specs.SetBytes.{stands, setBytes}
 use Rattle.job.proofs.Laws.{demand-refused, both-done, done-both, done-room}
 use Rattle.job.proofs.Examination.{refused-both, few-tests, tests-few}
@@ -23,7 +23,7 @@ use Rattle.planning.proofs.CheckExact.{Passes, passed}
 use Rattle.planning.proofs.Sequence.{sets-known, sets-long}
 use Rattle.job.proofs.Orders.{order-length}
 use Rattle.plan_bytes.specs.PlanBytes.{setField, stepBytes, stepsBytes, planBytes, writePlan}
-use Rattle.plan_bytes.specs.Contracts.{fitting, writeSteps}
+use Rattle.plan_bytes.specs.Contracts.{writeSteps}
 
 -- ---- a set
 
@@ -96,15 +96,6 @@ module _ (new l out : List ℕ) (n : ℕ) (count : n ≡ length new) (stored : o
 
   pub own-front : take n out ≡ new
   own-front = ap (take n) stored ∙ sets-front new l n (sym count) (omega arith)
-
--- ---- bytes and a buffer
-module _ (bytes : List ℕ) (lent : ℕ) where
-  pub too-short : lent < length bytes → fitting bytes lent ≡ refused 9 (length bytes)
-  unfolding room
-  too-short h = refused-both _ _ 9 _ (demand-refused _ 9 _ (lt-leb (length bytes) lent h))
-
-  pub long-enough : length bytes ≤ lent → fitting bytes lent ≡ done bytes
-  long-enough h = done-both _ _ (done-room lent (length bytes) h)
 
 -- ---- what is written of a plan
 module _ (j : Job) (order : List ℕ) (p : Plan) where

@@ -3,7 +3,7 @@
 use mathlib.Core.List.{List}
 use Prim.Native.Nat.{ℕ}
 use lib.ListN.{length, drop}
-use Rattle.job.specs.Refusal.{Outcome, done, refused, _>>_, mapped, room, leaves}
+use Rattle.job.specs.Refusal.{Outcome, done, refused, _>>_, mapped, fitting, leaves}
 use Rattle.job.specs.Calls.{orderAloneKnown}
 use Rattle.job_bytes.specs.SetBytes.{Got, got}
 use Rattle.planning.specs.Plan.{Plan}
@@ -22,12 +22,6 @@ unfoldable pub stepOutcome : List ℕ → ℕ → StepRead → Outcome (Got Plac
 stepOutcome bs from (StepRead.Step t d l next) =
     done (got (record { step = record { test = t; drops = d; loads = l }; from = from; until = next }) next (drop next bs))
 stepOutcome bs from (StepRead.Fault i) = refused 11 i
-
--- bytes that a buffer of so many takes: the end of every writing
-abbrev pub fitting : List ℕ → ℕ → Outcome (List ℕ)
-fitting bytes lent = do
-  room lent (length bytes)
-  done bytes
 
 -- the steps of lists that were made here: they are written as they are, without a look at what they do to the drive. 10, 8, 12 and 9 of the lists alone
 unfoldable pub writeSteps : List ℕ → Plan → ℕ → Outcome (List ℕ)

@@ -4,7 +4,7 @@ use Prim.Native.Nat.{ℕ, zero, suc, _+_, _-_, _*_, min}
 use lib.ListN.{length, take, drop}
 use lib.Dec.{ltb}
 use Rattle.bitset.specs.Set.{bit}
-use Rattle.job.specs.Refusal.{Outcome, done, refused, _>>=_, _>>_, mapped, demand, room, leaves}
+use Rattle.job.specs.Refusal.{Outcome, done, refused, _>>=_, _>>_, mapped, demand, room, fitting, leaves}
 use Rattle.lists.specs.Choice.{Found, nobody, found}
 use Rattle.job.specs.Words.{Job}
 use Rattle.job.specs.Handed.{between, countsKnown}
@@ -38,14 +38,14 @@ planBytes order drops loads = stepsBytes (steps order drops loads)
 unfoldable pub writePlan : Job → List ℕ → Plan → ℕ → Outcome (List ℕ)
 writePlan j order p lent = do
   _ ← checking j order p
-  room lent (length (planBytes order (p .drops) (p .loads)))
-  done (planBytes order (p .drops) (p .loads))
+  fitting (planBytes order (p .drops) (p .loads)) lent
 
--- what writing answers, and what the lent buffer holds afterwards
 module _ (j : Job) (order : List ℕ) (p : Plan) (old : List ℕ) where
+  -- what writing answers: the count of bytes
   unfoldable pub writePlanAnswer : Outcome ℕ
   writePlanAnswer = mapped length (writePlan j order p (length old))
 
+  -- what the lent buffer holds afterwards
   unfoldable pub writePlanBuffer : List ℕ
   writePlanBuffer = leaves (writePlan j order p (length old)) old
 
@@ -57,10 +57,11 @@ pub record Placed : Type 0 where
   pub from : ℕ
   pub until : ℕ
 
--- the steps' tests, and their sets as a plan is handed over
+-- the steps' tests
 abbrev pub testsOf : List Placed → List ℕ
 testsOf = map (λ s. s .step .test)
 
+-- their sets, as a plan is handed over
 abbrev pub planIn : List Placed → Plan
 planIn ss = planOf (map (λ s. s .step .drops) ss) (map (λ s. s .step .loads) ss)
 
@@ -112,17 +113,20 @@ module _ (curves tests : ℕ) where
     room lent tests
     done ss
 
-  -- what reading answers, the number of steps; and what the lent order, drops and loads hold afterwards
   module _ (bs order : List ℕ) (lent : Plan) where
+    -- what is read, into lists of these lengths
     abbrev pub planRead : Outcome (List Placed)
     planRead = readPlan bs (min (length order) (entries lent))
 
+    -- what reading answers: the number of steps
     unfoldable pub readPlanAnswer : Outcome ℕ
     readPlanAnswer = mapped length planRead
 
+    -- what the lent order holds afterwards
     unfoldable pub readPlanOrder : List ℕ
     readPlanOrder = leaves (mapped testsOf planRead) order
 
+    -- what the lent drops and loads hold afterwards
     unfoldable pub readPlanLists : Plan
     readPlanLists = planOf (leaves (mapped (λ ss. planIn ss .drops) planRead) (lent .drops)) (leaves (mapped (λ ss. planIn ss .loads) planRead) (lent .loads))
 

@@ -27,11 +27,12 @@ planning j order lent = do
   _ ← room lent (length (j .wants))
   done (ourPlan j order)
 
--- what planning answers, "the load count .. beside its plan", and what the lent drops and loads hold afterwards
 module _ (j : Job) (order : List ℕ) (lent : Plan) where
+  -- what planning answers: "the load count .. beside its plan"
   unfoldable pub planAnswer : Outcome ℕ
   planAnswer = mapped loadCount (planning j order (entries lent))
 
+  -- what the lent drops and loads hold afterwards
   unfoldable pub planLists : Plan
   planLists =
       planOf (leaves (mapped dropsOf (planning j order (entries lent))) (lent .drops)) (leaves (mapped loadsOf (planning j order (entries lent))) (lent .loads))

@@ -20,7 +20,7 @@ use Rattle.planned.proofs.Stages.{planning-room}
 use Rattle.report.specs.declared.audit.Audited.{Audited}
 use Rattle.report.specs.Audit.{Audit, auditSteps, auditPlan, audit, auditedOutcome, auditText, writeAudit, auditAnswer, auditBuffer}
 use Rattle.report.specs.Report.{text, decimal}
-use Rattle.report.specs.Contracts.{fitted, Filled}
+use Rattle.report.specs.Contracts.{Filled}
 
 -- ---- outcomes
 
@@ -148,5 +148,5 @@ audited y p q = sym q ∙ ap auditedOutcome p
 pub audit-written : (job plan old : List ℕ) {answer : Outcome ℕ} {new : List ℕ} {o : Outcome (Outcome Audit)} → audit job plan ≡ o
     → Filled (auditText o) old answer new
     → (answer ≡ auditAnswer job plan old) × (new ≡ auditBuffer job plan old)
-unfolding auditAnswer auditBuffer writeAudit fitted
+unfolding auditAnswer auditBuffer writeAudit
 audit-written job plan old e f = rw e (f .answers, f .holds)

@@ -5,28 +5,19 @@ use Prim.Native.Nat.{ℕ, _+_, _≤_, _<_}
 use native.Mathlib.Omega.{arith}
 use lib.ListN.{length, take, drop, length-append}
 use lib.Seq.{sets-eq, length-take-le}
-use borrow.Author.Tests.{le-leb, lt-leb}
 use Rattle.job.specs.declared.Counted.{Counted}
 use Rattle.job.specs.declared.Refusal.{Refusal}
-use Rattle.job.specs.Refusal.{Outcome, done, refused, countOutcome, _>>_, mapped, demand, room, overwritten, leaves}
-use Rattle.job.proofs.Laws.{done-same, refused≢done, done-mapped, count-done, count-refused}
-use Rattle.report.specs.Contracts.{Wrote, fitted, Filled}
+use Rattle.job.specs.Refusal.{Outcome, done, countOutcome, mapped, overwritten, leaves}
+use Rattle.job.proofs.Laws.{fitting-short, fitting-whole, done-same, refused≢done, done-mapped, count-done, count-refused}
+use Rattle.report.specs.Contracts.{Wrote, Filled}
 
 module _ (text old : List ℕ) where
-  fitted-short : length old < length text → fitted text (length old) ≡ refused 9 (length text)
-  unfolding fitted room demand _>>_
-  fitted-short h = rw (lt-leb (length text) (length old) h) refl
-
-  fitted-whole : length text ≤ length old → fitted text (length old) ≡ done text
-  unfolding fitted room demand _>>_
-  fitted-whole h = rw (le-leb (length text) (length old) h) refl
-
   module _ {dummy measured : List ℕ} {n : ℕ} (first : Wrote dummy 0 text measured n) where
     pub fill-short : length old < n → Filled text old (countOutcome (Counted.Refused (Refusal.BufferTooSmall n))) old
     unfolding countOutcome mapped leaves
     fill-short h =
         let e : n ≡ length text = omega (arith, first .behind) in
-        let f = fitted-short (omega arith) in
+        let f = fitting-short text (length old) (omega arith) in
         record { answers = rw (f, e) refl; holds = rw f refl }
 
     pub fill-whole : {new : List ℕ} {m : ℕ} → n ≤ length old → Wrote old 0 text new m → Filled text old (countOutcome (Counted.Count m)) new
@@ -35,7 +26,7 @@ module _ (text old : List ℕ) where
         let l : length text ≤ length old = omega (arith, first .behind) in
         let e : m ≡ length text = omega (arith, second .behind) in
         let z : 0 + length text ≡ length text = omega arith in
-        let f = fitted-whole l in
+        let f = fitting-whole text (length old) l in
         record { answers = rw (f, e) refl; holds = second .written ∙ rw f (rw z at (sets-eq text old 0 (omega arith))) }
 
 -- a text for which there is always room: its length is answered, and the buffer begins with it

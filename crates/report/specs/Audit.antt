@@ -2,7 +2,7 @@
 use mathlib.Core.List.{List, _++_}
 use Prim.Native.Nat.{ℕ, _-_}
 use lib.ListN.{length}
-use Rattle.job.specs.Refusal.{Outcome, done, refused, _>>=_, _>>_, mapped, room, leaves, number, figure}
+use Rattle.job.specs.Refusal.{Outcome, done, refused, _>>=_, _>>_, mapped, fitting, leaves, number, figure}
 use Rattle.job_bytes.specs.JobBytes.{Request, jobIn, readBytes}
 use Rattle.drive.specs.Steps.{loadCount}
 use Rattle.planning.specs.Plan.{Plan}
@@ -49,12 +49,12 @@ auditText (refused k i) = printed (refused k i)
 
 -- the same text in a lent buffer: 9 where it is too short
 unfoldable pub writeAudit : List ℕ → List ℕ → ℕ → Outcome (List ℕ)
-writeAudit job plan lent = do
-  room lent (length (auditText (audit job plan)))
-  done (auditText (audit job plan))
+writeAudit job plan lent = fitting (auditText (audit job plan)) lent
 
+-- what writing answers: the count of bytes
 unfoldable pub auditAnswer : List ℕ → List ℕ → List ℕ → Outcome ℕ
 auditAnswer job plan old = mapped length (writeAudit job plan (length old))
 
+-- what the lent buffer holds afterwards
 unfoldable pub auditBuffer : List ℕ → List ℕ → List ℕ → List ℕ
 auditBuffer job plan old = leaves (writeAudit job plan (length old)) old

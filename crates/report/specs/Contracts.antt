@@ -5,7 +5,7 @@ use Prim.Native.Nat.{ℕ, _+_}
 use lib.ListN.{length}
 use lib.Seq.{sets}
 use Rattle.job.specs.declared.Head.{Head}
-use Rattle.job.specs.Refusal.{Outcome, done, _>>_, mapped, room, leaves}
+use Rattle.job.specs.Refusal.{Outcome, mapped, fitting, leaves}
 use Rattle.planning.specs.Plan.{planOf}
 use Rattle.planned.specs.Planned.{Planned}
 
@@ -20,11 +20,6 @@ abbrev pub shown : Head → List ℕ → List ℕ → List ℕ → Planned
 shown head order drops loads = record { request = record { head = head; wants = [] }; order = order; plan = planOf drops loads }
 
 -- a lent buffer is filled with a text: the count of its bytes is answered and the buffer holds them, or 9 where it is too short
-unfoldable pub fitted : List ℕ → ℕ → Outcome (List ℕ)
-fitted text lent = do
-  room lent (length text)
-  done text
-
 pub record Filled (text old : List ℕ) (answer : Outcome ℕ) (new : List ℕ) : Type 0 where
-  pub answers : answer ≡ mapped length (fitted text (length old))
-  pub holds : new ≡ leaves (fitted text (length old)) old
+  pub answers : answer ≡ mapped length (fitting text (length old))
+  pub holds : new ≡ leaves (fitting text (length old)) old

@@ -5,7 +5,7 @@ use Prim.Native.Char.{code}
 use Prim.Native.String.{String}
 use lib.ListN.{length}
 use Rattle.bitset.specs.Set.{bit}
-use Rattle.job.specs.Refusal.{Outcome, done, refused, _>>=_, _>>_, mapped, room, leaves}
+use Rattle.job.specs.Refusal.{Outcome, done, refused, _>>=_, _>>_, mapped, fitting, leaves}
 use Rattle.job.specs.Words.{capacity}
 use Rattle.drive.specs.Steps.{curveCount}
 use Rattle.planning.specs.Plan.{Step, steps}
@@ -72,12 +72,12 @@ sheet bs = printed (planJob bs)
 
 -- the same text in a lent buffer: 9 where it is too short
 unfoldable pub writeSheet : List ℕ → ℕ → Outcome (List ℕ)
-writeSheet bs lent = do
-  room lent (length (sheet bs))
-  done (sheet bs)
+writeSheet bs lent = fitting (sheet bs) lent
 
+-- what writing answers: the count of bytes
 unfoldable pub sheetAnswer : List ℕ → List ℕ → Outcome ℕ
 sheetAnswer bs old = mapped length (writeSheet bs (length old))
 
+-- what the lent buffer holds afterwards
 unfoldable pub sheetBuffer : List ℕ → List ℕ → List ℕ
 sheetBuffer bs old = leaves (writeSheet bs (length old)) old

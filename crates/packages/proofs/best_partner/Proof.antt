@@ -13,7 +13,7 @@ use Rattle.bitset.specs.Set.{_∪_, size}
 use Rattle.packages.specs.Packages.{shared}
 use Rattle.packages.specs.Contracts.{at, within}
 use Rattle.packages.proofs.Rows as rows
-use Rattle.packages.proofs.Counts.{sizes-long, size-at, together-asks}
+use Rattle.packages.proofs.Counts.{sizes-long, size-at, union-size-asks}
 use Rattle.packages.proofs.best_partner.Statement.{statement}
 use Rattle.packages.proofs.best_partner.Tie as tie
 
@@ -54,23 +54,23 @@ asks c =
     let q = c .before in
     let k = q .before .before .before .before .before .before .before in
     let a = k .before .args in
-    together-asks (now (a .curves)) (now (a .sizes)) (k .before .pre .1 .2) (λ i. k .shared-slice-known .given i .fits) (a .first) (q .loop .j) _ (counted c)
+    union-size-asks (now (a .curves)) (now (a .sizes)) (k .before .pre .1 .2) (λ i. k .shared-slice-known .given i .fits) (a .first) (q .loop .j) _ (counted c)
 
 add-score : tie.Need-add-score Inv-loop μ-loop
 add-score c = let h = asks (c .before) in omega (arith, h .0, h .2)
 
-shared-slice-read-together : tie.Need-shared-slice-read-together Inv-loop μ-loop
-shared-slice-read-together c =
+shared-slice-read-union-size : tie.Need-shared-slice-read-union-size Inv-loop μ-loop
+shared-slice-read-union-size c =
     let s = c .before .before .before .before .before .before .before .before .before .before .before .before in
     omega (arith, sizes-long (now (s .args .curves)) (now (s .args .sizes)) (s .pre .1 .2), s .pre .0)
 
-shared-slice-read-together-2 : tie.Need-shared-slice-read-together-2 Inv-loop μ-loop
-shared-slice-read-together-2 c =
+shared-slice-read-union-size-2 : tie.Need-shared-slice-read-union-size-2 Inv-loop μ-loop
+shared-slice-read-union-size-2 c =
     let s = c .before .before .before .before .before .before .before .before .before .before .before .before .before in
     omega (arith, sizes-long (now (s .args .curves)) (now (s .args .sizes)) (s .pre .1 .2), c .before .before .before .before .before .loop .inv .inside)
 
-together-requires : tie.Need-together-requires Inv-loop μ-loop
-together-requires c κs = asks (c .before .before .before .before .before)
+union-size-requires : tie.Need-union-size-requires Inv-loop μ-loop
+union-size-requires c κs = asks (c .before .before .before .before .before)
 
 loop-again : tie.Need-loop-again Inv-loop μ-loop
 loop-again c =
@@ -148,5 +148,5 @@ returns c =
 pub best-partner-spec : {M : Type 1} → statement M
 best-partner-spec =
     tie.close (tie.spec Inv-loop μ-loop (λ c κs. search needs) (λ c. search needs) loop-holds (λ c. search needs) (λ c. search needs) add-score
-    (λ c. search needs) shared-slice-read-together (λ c. search needs) shared-slice-read-together-2 (λ c. search needs) (λ c. search needs) together-requires
+    (λ c. search needs) shared-slice-read-union-size (λ c. search needs) shared-slice-read-union-size-2 (λ c. search needs) (λ c. search needs) union-size-requires
     (λ c. search needs) (λ c. search needs) loop-again cast-result mul-result add-result (λ c. search needs) returns)

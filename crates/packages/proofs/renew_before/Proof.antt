@@ -14,7 +14,7 @@ use Rattle.bitset.specs.Set.{size}
 use Rattle.packages.specs.Tests.{common}
 use Rattle.packages.specs.Packages.{shared}
 use Rattle.packages.specs.Contracts.{at, within, joinedCurves, Rated}
-use Rattle.packages.proofs.Counts.{mapped-at, sizes-long, size-at, together-asks}
+use Rattle.packages.proofs.Counts.{mapped-at, sizes-long, size-at, union-size-asks}
 use Rattle.packages.proofs.renew_before.Statement.{statement}
 use Rattle.packages.proofs.renew_before.Tie as tie
 
@@ -63,21 +63,21 @@ slice-read-both c =
     let s = c .before .before .before .before .before .before .before .before .before .before .before .before .before in
     omega (arith, c .before .before .before .before .before .write-common .kept .1 .1 .0, s .pre .0, s .pre .1 .1)
 
-shared-slice-read-together : tie.Need-shared-slice-read-together Inv-loop μ-loop
-shared-slice-read-together c =
+shared-slice-read-union-size : tie.Need-shared-slice-read-union-size Inv-loop μ-loop
+shared-slice-read-union-size c =
     let s = c .before .before .before .before .before .before .before .before .before .before .before .before .before .before in
     omega (arith, sizes-long (now (s .args .curves)) (now (s .args .sizes)) (s .pre .1 .2), s .pre .0)
 
-shared-slice-read-together-2 : tie.Need-shared-slice-read-together-2 Inv-loop μ-loop
-shared-slice-read-together-2 c =
+shared-slice-read-union-size-2 : tie.Need-shared-slice-read-union-size-2 Inv-loop μ-loop
+shared-slice-read-union-size-2 c =
     let s = c .before .before .before .before .before .before .before .before .before .before .before .before .before .before .before in
     omega (arith, sizes-long (now (s .args .curves)) (now (s .args .sizes)) (s .pre .1 .2), s .pre .0)
 
-together-requires : tie.Need-together-requires Inv-loop μ-loop
-together-requires c κs =
+union-size-requires : tie.Need-union-size-requires Inv-loop μ-loop
+union-size-requires c κs =
     let k = c .before .before .before .before .before .before .before .before .before .before .before .before .before .before in
     let a = k .before .args in
-    together-asks (now (a .curves)) (now (a .sizes)) (k .before .pre .1 .2) (λ i. k .shared-slice-known .given i .fits)
+    union-size-asks (now (a .curves)) (now (a .sizes)) (k .before .pre .1 .2) (λ i. k .shared-slice-known .given i .fits)
     (c .before .before .before .before .loop .row) (a .first) _ (counted (c .before .before .before))
 
 renewed-requires : tie.Need-renewed-requires Inv-loop μ-loop
@@ -97,7 +97,7 @@ loop-again c =
     let long : i < length rs = omega (arith, v .long, s .pre .0) in
     let ours = size-at ds (now (a .sizes)) (s .pre .1 .2) in
     let both = counted (c .before .before .before .before .before .before) in
-    let fit = ap (λ (n : ℕ). leb n (a .bound)) (c .before .before .together .ensures (getD ds i 0) (getD ds (a .first) 0) (ours i) (ours (a .first)) both) in
+    let fit = ap (λ (n : ℕ). leb n (a .bound)) (c .before .before .union-size .ensures (getD ds i 0) (getD ds (a .first) 0) (ours i) (ours (a .first)) both) in
     record {
       turns = omega arith;
       long = simp length-set (v .long);
@@ -119,6 +119,6 @@ returns c = (λ cs n e k l w. c .before .loop .inv .done cs n e k (omega arith) 
 pub renew-before-spec : {M : Type 1} → statement M
 renew-before-spec =
     tie.close (tie.spec Inv-loop μ-loop (λ c. search needs) (λ c. search needs) slice-aggregate-write-common write-common-requires loop-holds
-    (λ c. search needs) slice-read-both (λ c. search needs) shared-slice-read-together (λ c. search needs) shared-slice-read-together-2
-    together-requires (λ c. search needs) (λ c. search needs) renewed-requires (λ c. search needs) (λ c. search needs) (λ c. search needs)
+    (λ c. search needs) slice-read-both (λ c. search needs) shared-slice-read-union-size (λ c. search needs) shared-slice-read-union-size-2
+    union-size-requires (λ c. search needs) (λ c. search needs) renewed-requires (λ c. search needs) (λ c. search needs) (λ c. search needs)
     (λ c. search needs) loop-again (λ c. search needs) same-length-2 returns)

@@ -8,10 +8,10 @@ use lib.Seq.{length-take-le}
 use denote.Ref.{now}
 use borrow.Author.Needs.{needs}
 use Rattle.job.specs.Refusal.{overwritten, countOutcome}
-use Rattle.job.proofs.Laws.{made-refused, made-done}
+use Rattle.job.proofs.Laws.{fitting-short, fitting-whole, made-refused, made-done}
 use Rattle.job_bytes.proofs.Encoding.{put, put-front}
 use Rattle.plan_bytes.specs.PlanBytes.{planBytes}
-use Rattle.plan_bytes.proofs.Writing.{own-long, own-front, too-short, long-enough}
+use Rattle.plan_bytes.proofs.Writing.{own-long, own-front}
 use Rattle.plan_bytes.proofs.PlanLength.{bytes-le}
 use Rattle.plan_bytes.proofs.write_fitting.Statement.{statement}
 use Rattle.plan_bytes.proofs.write_fitting.Tie as tie
@@ -32,7 +32,7 @@ returns : tie.Need-returns
 unfolding countOutcome
 returns c =
     let p = c .before .before in
-    rw (p .put-plan .ensures .0) (made-refused _ _ _ _ (too-short (bytes p) _ (omega (arith, p .put-plan .ensures .0))))
+    rw (p .put-plan .ensures .0) (made-refused _ _ _ _ (fitting-short (bytes p) _ (omega (arith, p .put-plan .ensures .0))))
 
 array-share-prefix-bytes : tie.Need-array-share-prefix-bytes
 array-share-prefix-bytes c = own (c .before .before) .0
@@ -47,7 +47,7 @@ returns-2 c =
     let old = now (p .before .before .before .before .before .before .args .out) in
     let e = p .put-plan .ensures .0 in
     let h : length (bytes p) ≤ length old = omega (arith, e, c .before .before .before .before .before .if1 .left) in
-    let g = made-done _ old _ (long-enough (bytes p) (length old) h) in
+    let g = made-done _ old _ (fitting-whole (bytes p) (length old) h) in
     (rw e (g .0), c .before .before .put-front .ensures ∙ ap (λ (x : List ℕ). put x old) (own p .1) ∙ put-front (bytes p) old h ∙ g .1)
 
 pub write-fitting-spec : {M : Type 1} → statement M
