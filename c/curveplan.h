@@ -1,12 +1,13 @@
 /*
- * The rig's curve planner. The formats, the orders, the plan and the refusals are those of document 01.
+ * The rig's curve planner. The formats, the orders, the plan and the refusals are those of document 01, with the end step of document 02 (wish 1).
  *
  * One call goes from a job's bytes to its plan's bytes: curveplan_plan, in the archive libcurveplan.a. The other functions take the steps between one by one,
  * and are in libexports.a; the smaller parts of these are declared in curveplan_parts.h.
  *
  * For every function here:
  * - A set of curves is a 64-bit number, with bit k for curve k. Tests and curves are numbered from 0. A list of wants has an entry for each test; drops and
- *   loads have an entry for each step, and an order names each step's test.
+ *   loads have an entry for each step, and an order names each step's test. A plan's end set is one set beside them: the curves that are dropped behind the
+ *   last test, 0 for none.
  * - All lists and buffers belong to the caller. Nothing is kept of them after the call, and what is `const` is only read.
  * - Under a refusal nothing lent changes. On success the entries behind the result keep their contents.
  * - The first condition that is met is the one that is answered; the refusals of a function are listed in the order in which they are asked.
@@ -28,7 +29,7 @@ extern "C" {
 /* Lists and buffers of these sizes are never refused as too short. */
 #define CURVEPLAN_TESTS 256          /* entries of a list with one for each test */
 #define CURVEPLAN_JOB_BYTES 2310     /* a job: 6 bytes of the head, and 9 for each of 256 tests */
-#define CURVEPLAN_PLAN_BYTES 5120    /* a plan: 20 bytes for each of 256 steps */
+#define CURVEPLAN_PLAN_BYTES 5130    /* a plan: 20 bytes for each of 256 steps, and 10 for the end step */
 #define CURVEPLAN_SHEET_BYTES 105000 /* a sheet */
 #define CURVEPLAN_AUDIT_BYTES 128    /* an audit */
 
@@ -49,7 +50,7 @@ enum curveplan_refusal {
                                        method plan_order, check_plan, write_plan; curves and tests only read_plan) */
     CURVEPLAN_BAD_PLAN_BYTES = 11,  /* figure: the offset of the first malformed or surplus byte; the length if a byte is owed (read_plan) */
     CURVEPLAN_PLAN_REJECTED = 12    /* figure: the first missing or surplus position of the drops or loads, the smaller; else the first step that breaks a
-                                       rule of the check (check_plan, write_plan) */
+                                       rule of the check; else the number of tests, where the end set is not what is held (check_plan, write_plan) */
 };
 
 /* ---- the one call: archive libcurveplan.a */
@@ -57,10 +58,11 @@ enum curveplan_refusal {
 /*
  * Reads a job, orders its tests by the job's method, plans the drops and loads, and writes the plan's bytes to `plan`, which has room for `plan_len` bytes.
  *
- * The plan is one with the fewest loads for its order of the tests.
+ * The plan is one with the fewest loads for its order of the tests. It ends with an empty drive: where something is held behind the last test, an end step
+ * drops it.
  *
  * Answers
- *   below 65,536      the count of plan bytes written, at most 5,120
+ *   below 65,536      the count of plan bytes written, at most 5,121
  *   65,536 and above  a refusal: its number × 65,536 plus its figure. Take it apart by the three functions below
  *
  * Refusals: those of curveplan_read_job but 9; 7; 9 with the count of the bytes. It takes less than 25 kB of stack.
@@ -110,33 +112,34 @@ uint64_t curveplan_write_job(size_t places, size_t curves, size_t method, const 
 uint64_t curveplan_order_tests(size_t places, size_t curves, size_t method, const uint64_t *wants, size_t tests, uint16_t *order, size_t order_len);
 
 /*
- * Plans an order of the tests. The drops and loads of each step go to `drops` and `loads`; answers the load count. No plan for this order has fewer loads.
+ * Plans an order of the tests. The drops and loads of each step go to `drops` and `loads`, and the end set to `*end`; answers the load count. No plan for this
+ * order that ends with an empty drive has fewer loads.
  * Refusals: 5; 10; 8; 7; 9 with the number of tests.
  */
 uint64_t curveplan_plan_order(size_t places, size_t curves, const uint64_t *wants, size_t tests, const uint16_t *order, size_t order_len, uint64_t *drops,
-                              size_t drops_len, uint64_t *loads, size_t loads_len);
+                              size_t drops_len, uint64_t *loads, size_t loads_len, uint64_t *end);
 
 /*
- * Checks a plan from anywhere, and answers its load count.
+ * Checks a plan from anywhere, with its end set, and answers its load count.
  * Refusals: 5; 10; 8; 12.
  */
 uint64_t curveplan_check_plan(size_t places, size_t curves, const uint64_t *wants, size_t tests, const uint16_t *order, size_t order_len,
-                              const uint64_t *drops, size_t drops_len, const uint64_t *loads, size_t loads_len);
+                              const uint64_t *drops, size_t drops_len, const uint64_t *loads, size_t loads_len, uint64_t end);
 
 /*
- * Writes a plan that passes the check to `out` as plan bytes, and answers their count.
+ * Writes a plan that passes the check to `out` as plan bytes, and answers their count. An end set of 0 has no bytes.
  * Refusals: 5; 10; 8; 12; 9 with the count of the bytes.
  */
 uint64_t curveplan_write_plan(size_t places, size_t curves, const uint64_t *wants, size_t tests, const uint16_t *order, size_t order_len,
-                              const uint64_t *drops, size_t drops_len, const uint64_t *loads, size_t loads_len, uint8_t *out, size_t out_len);
+                              const uint64_t *drops, size_t drops_len, const uint64_t *loads, size_t loads_len, uint64_t end, uint8_t *out, size_t out_len);
 
 /*
- * Reads the plan bytes of a job with so many curves and tests. Each step's test, drops and loads go to the three lists; answers how many steps they are. That
- * the plan passes the check is not asked.
+ * Reads the plan bytes of a job with so many curves and tests. Each step's test, drops and loads go to the three lists, and the end set to `*end`, 0 where
+ * there is no end step; answers the number of tests. That the plan passes the check is not asked.
  * Refusals: 5; 10; 11; 9 with the number of tests.
  */
 uint64_t curveplan_read_plan(size_t curves, size_t tests, const uint8_t *plan, size_t plan_len, uint16_t *order, size_t order_len, uint64_t *drops,
-                             size_t drops_len, uint64_t *loads, size_t loads_len);
+                             size_t drops_len, uint64_t *loads, size_t loads_len, uint64_t *end);
 
 /* A part of the caller's bytes: `count` bytes from offset `start` on. */
 struct curveplan_part {
@@ -145,14 +148,14 @@ struct curveplan_part {
 };
 
 /*
- * Where the bytes of the step at a position lie in `plan`. Where the plan has no such step, does not read, or is handed with counts out of range, it is the
- * empty part at the end: start `plan_len`, count 0. It refuses nothing.
+ * Where the bytes of the step at a position lie in `plan`; the position of the end step is the number of tests. Where the plan has no such step, does not read,
+ * or is handed with counts out of range, it is the empty part at the end: start `plan_len`, count 0. It refuses nothing.
  */
 struct curveplan_part curveplan_step_bytes(size_t curves, size_t tests, const uint8_t *plan, size_t plan_len, size_t position);
 
 /*
- * Writes the sheet of a job to `out`, and answers how many bytes it has: test count, places and method, a line for each step, the load count. A job that is
- * refused has the sheet `refused N at F`, which is no refusal of this call.
+ * Writes the sheet of a job to `out`, and answers how many bytes it has: test count, places and method, a line for each step, the end step's among them, and
+ * the load count. A job that is refused has the sheet `refused N at F`, which is no refusal of this call.
  * Refusals: 9 with the count of the bytes.
  */
 uint64_t curveplan_sheet(const uint8_t *job, size_t job_len, uint8_t *out, size_t out_len);

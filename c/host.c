@@ -43,8 +43,9 @@ int main(void)
     static const char *method[] = {"method 1", "method 2", "method 3"};
 
     plan("job A", a, sizeof a, CURVEPLAN_PLAN_BYTES);
-    plan("22 bytes of room", a, sizeof a, 22);
-    plan("21 bytes of room", a, sizeof a, 21);
+    plan("25 bytes of room", a, sizeof a, 25);
+    plan("24 bytes of room", a, sizeof a, 24);
+    plan("room for the steps, not for the end step", a, sizeof a, 22);
     plan("no room", a, sizeof a, 0);
     for (uint8_t m = 1; m <= 3; m++) {
         uint8_t b[sizeof a + 1] = {0x0f, 0x02, 0x04, 0x04, 0x00, m};

@@ -11,6 +11,14 @@
 
 static const uint8_t job_a[] = {0x07, 0x02, 0x04, 0x04, 0x00, 0x01, 0x03, 0x01, 0x06, 0x01, 0x03, 0x01, 0x08};
 
+/* What a plan is read into. */
+struct lists {
+    uint16_t order[TESTS];
+    uint64_t drops[TESTS];
+    uint64_t loads[TESTS];
+    uint64_t end;
+};
+
 /* The curves of a set, in rising order. */
 static void print_curves(uint64_t set)
 {
@@ -22,13 +30,19 @@ static void print_curves(uint64_t set)
     }
 }
 
-static void print_steps(const uint16_t *order, const uint64_t *drops, const uint64_t *loads)
+/* The steps, and the end step if something is held at the end. */
+static void print_steps(const uint16_t *order, const uint64_t *drops, const uint64_t *loads, uint64_t end)
 {
     for (unsigned i = 0; i < TESTS; i++) {
         printf("%u: test %u drop", i, order[i]);
         print_curves(drops[i]);
         printf(" load");
         print_curves(loads[i]);
+        printf("\n");
+    }
+    if (end != 0) {
+        printf("%u: end drop", TESTS);
+        print_curves(end);
         printf("\n");
     }
 }
@@ -65,16 +79,60 @@ static void print_text(const char *what, uint64_t answer, const uint8_t *text)
     }
 }
 
+/* What is refused, and changes nothing in the lists and the end set that are lent. */
+static void print_refusals_of_lists(const uint64_t *wants, const uint16_t *order, const uint8_t *plan, size_t plan_len)
+{
+    static const uint16_t twice[TESTS] = {0, 3, 3, 2};
+    struct lists lent;
+    uint64_t answer;
+    mark(&lent, sizeof lent);
+    print_answer("a byte of the job missing", curveplan_read_job(job_a, sizeof job_a - 1, lent.drops, TESTS).answer, "tests");
+    answer = curveplan_plan_order(PLACES, CURVES, wants, TESTS, twice, TESTS, lent.drops, TESTS, lent.loads, TESTS, &lent.end);
+    print_answer("a test twice in the order", answer, "loads");
+    answer = curveplan_plan_order(PLACES, CURVES, wants, TESTS, order, TESTS, lent.drops, TESTS, lent.loads, TESTS - 1, &lent.end);
+    print_answer("planned with an entry of the loads missing", answer, "loads");
+    answer = curveplan_read_plan(CURVES, TESTS, plan, plan_len - 1, lent.order, TESTS, lent.drops, TESTS, lent.loads, TESTS, &lent.end);
+    print_answer("a byte of the plan missing", answer, "steps");
+    answer = curveplan_read_plan(CURVES, TESTS, plan, plan_len, lent.order, TESTS, lent.drops, TESTS, lent.loads, TESTS - 1, &lent.end);
+    print_answer("read with an entry of the loads missing", answer, "steps");
+    print_change(&lent, sizeof lent);
+}
+
+/* What is refused in writing and checking a plan. */
+static void print_refusals_of_plans(const uint64_t *wants, const uint16_t *order, const uint64_t *drops, const uint64_t *loads, uint64_t end, size_t plan_len)
+{
+    /* 0 and 1 are held at the end: the one set lacks 1, the other has 4, which is no curve of the job */
+    static const uint64_t short_end = 0x1, foreign_end = 0x13;
+    uint64_t fewer_loads[TESTS] = {loads[0], 0, loads[2], loads[3]};
+    uint8_t bytes[CURVEPLAN_PLAN_BYTES];
+    uint64_t answer;
+    mark(bytes, sizeof bytes);
+    answer = curveplan_write_plan(PLACES, CURVES, wants, TESTS, order, TESTS, drops, TESTS, loads, TESTS, end, bytes, plan_len - 1);
+    print_answer("a byte of room missing", answer, "bytes");
+    answer = curveplan_write_plan(PLACES, CURVES, wants, TESTS, order, TESTS, drops, TESTS, loads, TESTS, short_end, bytes, sizeof bytes);
+    print_answer("written with a curve missing in the end set", answer, "bytes");
+    print_change(bytes, sizeof bytes);
+    answer = curveplan_check_plan(PLACES, CURVES, wants, TESTS, order, TESTS, drops, TESTS, loads, TESTS, short_end);
+    print_answer("checked with a curve missing in the end set", answer, "loads");
+    answer = curveplan_check_plan(PLACES, CURVES, wants, TESTS, order, TESTS, drops, TESTS, loads, TESTS, 0);
+    print_answer("checked without an end set", answer, "loads");
+    answer = curveplan_check_plan(PLACES, CURVES, wants, TESTS, order, TESTS, drops, TESTS, loads, TESTS, foreign_end);
+    print_answer("checked with an unknown curve in the end set", answer, "loads");
+    answer = curveplan_check_plan(PLACES, CURVES, wants, TESTS, order, TESTS, drops, TESTS, fewer_loads, TESTS, end);
+    print_answer("no loads in step 1", answer, "loads");
+}
+
 int main(void)
 {
     static const uint16_t order[TESTS] = {0, 3, 1, 2};
-    static const uint16_t twice[TESTS] = {0, 3, 3, 2};
     /* step 1 drops curve 1, which step 2 wants, instead of 0 */
     static const uint64_t worse_drops[TESTS] = {0x0, 0x2, 0x9, 0x4};
     static const uint64_t worse_loads[TESTS] = {0x3, 0x8, 0x6, 0x1};
+    static const uint64_t worse_end = 0x3;
     static uint8_t text[CURVEPLAN_SHEET_BYTES];
-    uint64_t wants[TESTS], drops[TESTS], loads[TESTS], drops_back[TESTS], loads_back[TESTS];
-    uint16_t by_method[TESTS], order_back[TESTS];
+    uint64_t wants[TESTS], drops[TESTS], loads[TESTS], end;
+    uint16_t by_method[TESTS];
+    struct lists back;
     uint8_t job[sizeof job_a], plan[CURVEPLAN_PLAN_BYTES], worse[CURVEPLAN_PLAN_BYTES];
     uint64_t answer;
 
@@ -100,17 +158,19 @@ int main(void)
         printf("\n");
     }
 
-    print_answer("order 0 3 1 2 planned", curveplan_plan_order(PLACES, CURVES, wants, TESTS, order, TESTS, drops, TESTS, loads, TESTS), "loads");
-    print_steps(order, drops, loads);
-    print_answer("checked", curveplan_check_plan(PLACES, CURVES, wants, TESTS, order, TESTS, drops, TESTS, loads, TESTS), "loads");
-    answer = curveplan_write_plan(PLACES, CURVES, wants, TESTS, order, TESTS, drops, TESTS, loads, TESTS, plan, sizeof plan);
+    print_answer("order 0 3 1 2 planned", curveplan_plan_order(PLACES, CURVES, wants, TESTS, order, TESTS, drops, TESTS, loads, TESTS, &end), "loads");
+    print_steps(order, drops, loads, end);
+    print_answer("checked", curveplan_check_plan(PLACES, CURVES, wants, TESTS, order, TESTS, drops, TESTS, loads, TESTS, end), "loads");
+    answer = curveplan_write_plan(PLACES, CURVES, wants, TESTS, order, TESTS, drops, TESTS, loads, TESTS, end, plan, sizeof plan);
     print_answer("written", answer, "bytes");
     size_t plan_len = (size_t)answer;
 
-    answer = curveplan_read_plan(CURVES, TESTS, plan, plan_len, order_back, TESTS, drops_back, TESTS, loads_back, TESTS);
-    int same = memcmp(order_back, order, sizeof order) == 0 && memcmp(drops_back, drops, sizeof drops) == 0 && memcmp(loads_back, loads, sizeof loads) == 0;
+    answer = curveplan_read_plan(CURVES, TESTS, plan, plan_len, back.order, TESTS, back.drops, TESTS, back.loads, TESTS, &back.end);
+    int same = memcmp(back.order, order, sizeof order) == 0 && memcmp(back.drops, drops, sizeof drops) == 0 && memcmp(back.loads, loads, sizeof loads) == 0;
     print_answer("read back", answer, same ? "steps, the same" : "steps, others");
-    for (unsigned position = 0; position <= TESTS; position++) {
+    printf("end set read back: %s\n", back.end == end ? "the same" : "another");
+    /* position TESTS is the end step, and nothing is behind it */
+    for (unsigned position = 0; position <= TESTS + 1; position++) {
         struct curveplan_part part = curveplan_step_bytes(CURVES, TESTS, plan, plan_len, position);
         printf("step %u at %u:%s", position, (unsigned)part.start, part.count == 0 ? " no bytes" : "");
         for (size_t i = 0; i < part.count; i++) {
@@ -120,26 +180,15 @@ int main(void)
     }
     print_text("audit", curveplan_audit(job_a, sizeof job_a, plan, plan_len, text, sizeof text), text);
 
-    answer = curveplan_check_plan(PLACES, CURVES, wants, TESTS, order, TESTS, worse_drops, TESTS, worse_loads, TESTS);
+    answer = curveplan_check_plan(PLACES, CURVES, wants, TESTS, order, TESTS, worse_drops, TESTS, worse_loads, TESTS, worse_end);
     print_answer("a worse plan for the same order", answer, "loads");
-    print_steps(order, worse_drops, worse_loads);
-    answer = curveplan_write_plan(PLACES, CURVES, wants, TESTS, order, TESTS, worse_drops, TESTS, worse_loads, TESTS, worse, sizeof worse);
+    print_steps(order, worse_drops, worse_loads, worse_end);
+    answer = curveplan_write_plan(PLACES, CURVES, wants, TESTS, order, TESTS, worse_drops, TESTS, worse_loads, TESTS, worse_end, worse, sizeof worse);
     print_text("audit", curveplan_audit(job_a, sizeof job_a, worse, (size_t)answer, text, sizeof text), text);
 
     print_text("sheet", curveplan_sheet(job_a, sizeof job_a, text, sizeof text), text);
 
-    mark(drops_back, sizeof drops_back);
-    mark(loads_back, sizeof loads_back);
-    print_answer("a byte of the job missing", curveplan_read_job(job_a, sizeof job_a - 1, drops_back, TESTS).answer, "tests");
-    answer = curveplan_plan_order(PLACES, CURVES, wants, TESTS, twice, TESTS, drops_back, TESTS, loads_back, TESTS);
-    print_answer("a test twice in the order", answer, "loads");
-    print_change(drops_back, sizeof drops_back);
-    print_change(loads_back, sizeof loads_back);
-    mark(worse, sizeof worse);
-    answer = curveplan_write_plan(PLACES, CURVES, wants, TESTS, order, TESTS, drops, TESTS, loads, TESTS, worse, plan_len - 1);
-    print_answer("a byte of room missing", answer, "bytes");
-    print_change(worse, sizeof worse);
-    loads[1] = 0;
-    print_answer("no loads in step 1", curveplan_check_plan(PLACES, CURVES, wants, TESTS, order, TESTS, drops, TESTS, loads, TESTS), "loads");
+    print_refusals_of_lists(wants, order, plan, plan_len);
+    print_refusals_of_plans(wants, order, drops, loads, end, plan_len);
     return 0;
 }

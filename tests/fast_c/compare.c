@@ -1,6 +1,7 @@
 /*
  * Compares the C program with the library's call on random, damaged, boundary and two-fault jobs: the answer, and every byte of the plan's buffer. Fails on the
- * first difference, and if some refusal or some method's success never came up. The same jobs in every run.
+ * first difference, and if some refusal, some method's success, an end with nothing held, with some places taken or with a full drive, or the longest plan
+ * never came up. The same jobs in every run.
  */
 #include <stdio.h>
 #include <string.h>
@@ -12,6 +13,7 @@
 #define LARGE_JOBS 3000
 #define JOB_ROOM (CURVEPLAN_JOB_BYTES + 64)
 #define PLAN_ROOM (CURVEPLAN_PLAN_BYTES + 64)
+#define LONGEST_PLAN 5121 /* of the call: 11 bytes for step 0, which has no drops, 20 for each other step, 10 for the end step */
 #define FILL 0xa5
 
 static uint64_t state = 20261116;
@@ -106,7 +108,7 @@ static void random_job(struct bytes *job, int large)
     unsigned curves = large ? PICK(64, 64, 64, 63, 40, 9, 1) : between(1, 64);
     unsigned places = large ? PICK(1, 2, 7, 8, 8, 16, 32, 33, 48, 63, 64) : PICK(1, 2, 3, 4, 5, 8, 8, 12, 20, 40, 64);
     unsigned most = places < curves ? places : curves;
-    unsigned kind = below(7);
+    unsigned kind = below(8);
     uint64_t families[4];
     for (unsigned i = 0; i < 4; i++) {
         families[i] = some_curves(curves, most);
@@ -133,6 +135,9 @@ static void random_job(struct bytes *job, int large)
             break;
         case 5: /* the same few sets again and again */
             set = families[below(4)] & (families[0] | families[1]);
+            break;
+        case 6: /* nothing to load */
+            set = 0;
             break;
         default:
             set = some_curves(curves, between(most < 3 ? 0 : most - 2, most));
@@ -209,7 +214,63 @@ static void damage(struct bytes *job)
     }
 }
 
-static unsigned long refused[16], planned[4], compared;
+/* ---- the end of a plan */
+
+/* Where a set ends whose group map is at `at`. */
+static size_t behind_set(const uint8_t *plan, size_t at)
+{
+    unsigned map = plan[at++];
+    for (; map != 0; map &= map - 1) {
+        at++;
+    }
+    return at;
+}
+
+/* Where the end step of a plan begins; the plan's length if it has none. */
+static size_t end_step(const uint8_t *plan, size_t length)
+{
+    size_t at = 0;
+    while (at < length && (plan[at] & 4) != 0) {
+        unsigned map = plan[at++];
+        if (map & 1) {
+            at = behind_set(plan, at);
+        }
+        if (map & 2) {
+            at = behind_set(plan, at);
+        }
+        at++;
+    }
+    return at;
+}
+
+/* How many curves the end step drops. */
+static unsigned end_size(const uint8_t *plan, size_t length)
+{
+    unsigned size = 0;
+    for (size_t at = end_step(plan, length) + 2; at < length; at++) {
+        for (unsigned byte = plan[at]; byte != 0; byte &= byte - 1) {
+            size++;
+        }
+    }
+    return size;
+}
+
+/* ---- comparing */
+
+enum ending { NOTHING, SOME, FULL };
+
+static unsigned long refused[16], planned[4], ended[3], compared;
+static size_t longest;
+
+/* Counts a job that is planned, by its method and by what is held at the end. */
+static void count_planned(const struct bytes *job, const uint8_t *plan, size_t length)
+{
+    unsigned map = job->at[0], fields = (map & 1) + (map >> 1 & 1) + 2 * (map >> 2 & 1);
+    unsigned places = map & 1 ? job->at[1] : 8, size = end_size(plan, length);
+    planned[map & 8 ? job->at[1 + fields] : 0]++;
+    ended[size == 0 ? NOTHING : size == places ? FULL : SOME]++;
+    longest = length > longest ? length : longest;
+}
 
 static int differs(const struct bytes *job, size_t room)
 {
@@ -221,8 +282,7 @@ static int differs(const struct bytes *job, size_t room)
     compared++;
     if (library == fast && memcmp(ours, theirs, sizeof ours) == 0) {
         if (!curveplan_refused_16(fast)) {
-            unsigned fields = (job->at[0] & 1u) + (job->at[0] >> 1 & 1u) + 2 * (job->at[0] >> 2 & 1u);
-            planned[job->at[0] & 8 ? job->at[1 + fields] : 0]++;
+            count_planned(job, ours, (size_t)fast);
         } else {
             refused[curveplan_number_16(fast) & 15]++;
         }
@@ -255,7 +315,7 @@ static int any_differs(const struct bytes *job)
         return differs(job, PICK(0, 1, 20));
     }
     size_t room = (size_t)answer;
-    switch (below(5)) {
+    switch (below(6)) {
     case 0:
         return differs(job, room);
     case 1:
@@ -264,14 +324,83 @@ static int any_differs(const struct bytes *job)
         return differs(job, room + 1);
     case 3:
         return differs(job, below((unsigned)room));
+    case 4: /* enough for the steps, not for the end step */
+        return differs(job, end_step(plan, room));
     default:
         return differs(job, 0);
     }
 }
 
+/* ---- jobs whose plans have a known number of bytes */
+
+#define FIRST ((uint64_t)1)
+#define LAST (FIRST << 63)
+#define ALL (~(uint64_t)0)
+#define LOWER 0x0f0f0f0f0f0f0f0f /* four of each group */
+
+struct known {
+    unsigned places, tests;
+    unsigned methods;   /* by each method below this one */
+    uint64_t even, odd; /* what the tests want in turn */
+    size_t length;      /* of the plan */
+};
+
+static const struct known KNOWN[] = {
+    /* Nothing is held at the end: two bytes for each step. */
+    {8, 1, 4, 0, 0, 2},
+    {64, 256, 4, 0, 0, 256 * 2},
+    /* One place is taken at the end, of eight and of one. */
+    {8, 1, 4, LAST, 0, 4 + 3},
+    {1, 1, 4, LAST, 0, 4 + 3},
+    /* All 64 places are taken from step 0 on. */
+    {64, 1, 4, ALL, 0, 11 + 10},
+    {64, 256, 4, ALL, ALL, 11 + 255 * 2 + 10},
+    /* As listed, each step drops what the one before has loaded: one curve, or half of all curves. */
+    {1, 256, 1, FIRST, LAST, 4 + 255 * 6 + 3},
+    {32, 256, 1, LOWER, ~LOWER, LONGEST_PLAN},
+};
+
+static void known_job(struct bytes *job, const struct known *known, unsigned method)
+{
+    job->length = 0;
+    put_head(job, known->places, 64, known->tests, method);
+    for (unsigned t = 0; t < known->tests; t++) {
+        put_record(job, t % 2 == 0 ? known->even : known->odd);
+    }
+}
+
+/* The job with no room, room for the steps without the end step, one byte too few, just enough, one more, and the most. */
+static int every_room_differs(const struct bytes *job, size_t length)
+{
+    uint8_t plan[CURVEPLAN_PLAN_BYTES];
+    uint64_t answer = fast_plan(job->at, job->length, plan, sizeof plan);
+    if (answer != length) {
+        printf("a plan of %zu bytes: the C program answers %llu\n", length, (unsigned long long)answer);
+        return 1;
+    }
+    return differs(job, 0) || differs(job, end_step(plan, length)) || differs(job, length - 1) || differs(job, length) || differs(job, length + 1) ||
+           differs(job, CURVEPLAN_PLAN_BYTES);
+}
+
+static int some_known_differs(struct bytes *job)
+{
+    for (size_t i = 0; i < sizeof KNOWN / sizeof *KNOWN; i++) {
+        for (unsigned method = 0; method < KNOWN[i].methods; method++) {
+            known_job(job, &KNOWN[i], method);
+            if (every_room_differs(job, KNOWN[i].length)) {
+                return 1;
+            }
+        }
+    }
+    return 0;
+}
+
 int main(void)
 {
     static struct bytes job;
+    if (some_known_differs(&job)) {
+        return 1;
+    }
     for (unsigned i = 0; i < SMALL_JOBS + LARGE_JOBS; i++) {
         int large = i >= SMALL_JOBS;
         unsigned kind = below(10);
@@ -301,6 +430,8 @@ int main(void)
             missing |= refused[number] == 0;
         }
     }
+    printf("; held at the end nothing: %lu, some: %lu, a full drive: %lu; longest plan %zu", ended[NOTHING], ended[SOME], ended[FULL], longest);
+    missing |= ended[NOTHING] == 0 || ended[SOME] == 0 || ended[FULL] == 0 || longest != LONGEST_PLAN;
     printf("\n");
     if (missing) {
         printf("fast_c: some outcome never came up\n");

@@ -11,7 +11,7 @@ uint64_t fast_plan(const uint8_t *job, size_t job_len, uint8_t *plan, size_t pla
 /* ---- its stages, each by itself, for the benchmark */
 
 #define FAST_TESTS 256
-#define FAST_BYTES (20 * FAST_TESTS + 16) /* of a plan; a set is written by eight stores, whatever it holds */
+#define FAST_BYTES (20 * FAST_TESTS + 16) /* of a plan: 20 for each step, 10 for the end step, 6 to spare; a set is written by nine stores, whatever it holds */
 
 struct fast_job {
     unsigned places;
@@ -27,7 +27,7 @@ uint64_t fast_read(const uint8_t *bytes, size_t length, struct fast_job *job);
 /* The order of the tests by the job's method. */
 void fast_order(const struct fast_job *job, uint8_t *order);
 
-/* Plans the steps and writes them to `out`, which takes FAST_BYTES; answers the count of bytes. */
+/* Plans the steps and the end step and writes them to `out`, which takes FAST_BYTES; answers the count of bytes. */
 size_t fast_steps(const struct fast_job *job, const uint8_t *order, uint8_t *out);
 
 #endif

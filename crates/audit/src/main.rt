@@ -7,10 +7,10 @@ ghost use Rattle.io.specs.Counts.{Counts};
 ghost use Rattle.report.specs.Audit.{audit};
 ghost use Rattle.report.specs.Input.{Enough};
 
-// How many bytes of a job and of a plan can matter: one that reads has at most 2,310 and 5,120, and the next byte tells that there are more.
+// How many bytes of a job and of a plan can matter: one that reads has at most 2,310 and 5,130, and the next byte tells that there are more.
 const JOB_INPUT: usize = 2_311;
 
-const PLAN_INPUT: usize = 5_121;
+const PLAN_INPUT: usize = 5_131;
 
 // Opens the file that an argument names, or says why it cannot and answers -1.
 fn open_argument(i: usize) -> i32 {

@@ -45,7 +45,7 @@ sizes places wants = go (each-examines (λ w. leb (size w) places) 7 0 wants)
 
 -- 8, 10, 11 and 12 never come out, and a figure takes no more than 16 bits
 abbrev pub CallRefusal : ℕ → ℕ → Type 0
-CallRefusal k i = (((1 ≤ k) × (k ≤ 7)) ⊎ (k ≡ 9)) × (i ≤ 5120)
+CallRefusal k i = (((1 ≤ k) × (k ≤ 7)) ⊎ (k ≡ 9)) × (i ≤ 5121)
 
 module _ (bs : List ℕ) (all : Bytes bs) (lent : ℕ) where
   pub call-refuses : Refuses CallRefusal (jobToPlan bs lent)
@@ -68,33 +68,33 @@ module _ (bs : List ℕ) (all : Bytes bs) (lent : ℕ) where
           rw (call-unread bs k i e lent) (inl (n .0, omega (arith, n .1)), omega (arith, figure-short bs k i e .0))
       go (done j) e = by-size j e (sizes (capacity (j .head .rig)) (j .wants))
 
-  -- a plan takes no more than 5,120 bytes
-  pub call-counts : (plan : List ℕ) → jobToPlan bs lent ≡ done plan → length plan ≤ 5120
+  -- a plan takes no more than 5,121 bytes
+  pub call-counts : (plan : List ℕ) → jobToPlan bs lent ≡ done plan → length plan ≤ 5121
   call-counts plan p = go (readBytes bs) refl
     where
       by-size : (j : Request) → readBytes bs ≡ done j
           → (wantsFit (capacity (j .head .rig)) (j .wants) ≡ done tt)
-          ⊎ ((t : ℕ) × (t < length (j .wants)) × (wantsFit (capacity (j .head .rig)) (j .wants) ≡ refused 7 t)) → length plan ≤ 5120
+          ⊎ ((t : ℕ) × (t < length (j .wants)) × (wantsFit (capacity (j .head .rig)) (j .wants) ≡ refused 7 t)) → length plan ≤ 5121
       by-size j e (inr x) = absurd (refused≢done (sym (call-too-large bs j all e 7 (x .0) (x .2) lent) ∙ p))
       by-size j e (inl f) =
           let w = both-done (room lent (length (bytesOf j))) (done (bytesOf j)) plan (sym (call-written bs j all e f lent) ∙ p) in
           rw (sym (done-same (w .1))) (passed-length _ _ _ _ (checked j (read-exact bs j all e) f))
 
-      go : (o : Outcome Request) → readBytes bs ≡ o → length plan ≤ 5120
+      go : (o : Outcome Request) → readBytes bs ≡ o → length plan ≤ 5121
       go (refused k i) e = absurd (refused≢done (sym (call-unread bs k i e lent) ∙ p))
       go (done j) e = by-size j e (sizes (capacity (j .head .rig)) (j .wants))
 
   -- COUNTS AND REFUSALS NEVER MEET: an answer below 65,536 is the count of the bytes written, any other tells the refusal's number and figure
-  pub call-tells : ((plan : List ℕ) → jobToPlan bs lent ≡ done plan → (numberOf (jobToPlan bs lent) ≡ length plan) × (length plan < 65536))
+  pub call-tells : ((plan : List ℕ) → jobToPlan bs lent ≡ done plan → (numberOf (jobToPlan bs lent) ≡ length plan) × (length plan ≤ 5121))
       × ((k i : ℕ) → jobToPlan bs lent ≡ refused k i
       → (65536 ≤ numberOf (jobToPlan bs lent)) × (numberOf (jobToPlan bs lent) / 65536 ≡ k) × (numberOf (jobToPlan bs lent) % 65536 ≡ i))
   unfolding numberOf
   call-tells = (
-    (λ plan e. rw e (refl, omega (arith, call-counts plan e))),
+    (λ plan e. rw e (refl, call-counts plan e)),
     (λ k i e. let r = refuses CallRefusal (jobToPlan bs lent) k i call-refuses e in rw e (told k i (r .0) (r .1))),
   )
     where
-      told : (k i : ℕ) → ((1 ≤ k) × (k ≤ 7)) ⊎ (k ≡ 9) → i ≤ 5120 → (65536 ≤ k * 65536 + i) × ((k * 65536 + i) / 65536 ≡ k) × ((k * 65536 + i) % 65536 ≡ i)
+      told : (k i : ℕ) → ((1 ≤ k) × (k ≤ 7)) ⊎ (k ≡ 9) → i ≤ 5121 → (65536 ≤ k * 65536 + i) × ((k * 65536 + i) / 65536 ≡ k) × ((k * 65536 + i) % 65536 ≡ i)
       told k i (inl b) l = (omega (arith, b .0), omega arith, omega arith)
       told k i (inr b) l = (omega (arith, b), omega arith, omega arith)
 
@@ -112,7 +112,7 @@ module _ (bs : List ℕ) (all : Bytes bs) (lent : ℕ) where
           record {
             request = q;
             read = e;
-            steps = b .0;
+            contents = b .0;
             reads-back = b .1;
             in-order = b .2;
             count = loadCount (setsOf q);
@@ -143,7 +143,7 @@ module _ (bs old : List ℕ) (x : Counted) (given : countOutcome x ≡ mapped le
   answers-refusal r e = rw (refusal r e) refl
 
   -- it fits in 64 bits
-  pub refusal-bounds : Bytes bs → (r : Refusal) → x ≡ Counted.Refused r → (number r ≤ 9) × (figure r ≤ 5120)
+  pub refusal-bounds : Bytes bs → (r : Refusal) → x ≡ Counted.Refused r → (number r ≤ 9) × (figure r ≤ 5121)
   refusal-bounds all r e = let b =
       refuses CallRefusal (jobToPlan bs (length old)) (number r) (figure r) (call-refuses bs all (length old)) (refusal r e) in (below (b .0), b .1)
     where

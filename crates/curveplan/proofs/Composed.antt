@@ -22,7 +22,7 @@ use Rattle.curveplan.specs.Call.{written, jobToPlan, callPlan}
 
 -- the plan bytes of a job
 abbrev pub bytesOf : Request → List ℕ
-bytesOf q = planBytes (orderOf q) (handed (setsOf q) .drops) (handed (setsOf q) .loads)
+bytesOf q = planBytes (orderOf q) (handed (setsOf q))
 
 -- ---- the whole, of bytes that read
 module _ (bs : List ℕ) (q : Request) (all : Bytes bs) (read : readBytes bs ≡ done q) where

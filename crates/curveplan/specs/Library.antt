@@ -2,7 +2,7 @@
 use mathlib.Core.Path.{_≡_}
 use mathlib.Core.Logic.{_↔_}
 use mathlib.Core.List.{List}
-use Prim.Native.Nat.{ℕ, _/_, _%_, _≤_, _<_}
+use Prim.Native.Nat.{ℕ, _/_, _%_, _≤_}
 use lib.ListN.{length}
 use Rattle.job.specs.Refusal.{done, refused}
 use Rattle.job.specs.Words.{Job, capacity, IsJob, IsOrder}
@@ -12,10 +12,10 @@ use Rattle.job_bytes.specs.SetBytes.{Bytes}
 use Rattle.job_bytes.specs.JobBytes.{Request, jobIn, request, readBytes, writeJob}
 use Rattle.ordering.specs.Methods.{orderBy}
 use Rattle.drive.specs.Steps.{curveCount}
-use Rattle.planning.specs.Plan.{Plan}
+use Rattle.planning.specs.Plan.{Plan, SetLists}
 use Rattle.planning.specs.Planning.{planAnswer, planLists, checking}
 use Rattle.planning.specs.Demand3.{Demand3}
-use Rattle.plan_bytes.specs.PlanBytes.{Placed, testsOf, planIn, planSteps, writePlan}
+use Rattle.plan_bytes.specs.PlanBytes.{Contents, testsOf, planIn, planSteps, writePlan}
 use Rattle.curveplan.specs.Call.{jobToPlan, numberOf}
 
 -- the plan bytes that the call wrote for a job's bytes read back to a plan that passes the check, for the order of the job's method, and no plan for that order
@@ -23,11 +23,11 @@ use Rattle.curveplan.specs.Call.{jobToPlan, numberOf}
 pub record WrittenPlan (bs plan : List ℕ) : Type 0 where
   pub request : Request
   pub read : readBytes bs ≡ done request
-  pub steps : List Placed
-  pub reads-back : planSteps (request .head .rig .curves) (length (request .wants)) plan ≡ done steps
-  pub in-order : testsOf steps ≡ orderBy (request .head .method) (capacity (request .head .rig)) (request .wants)
+  pub contents : Contents
+  pub reads-back : planSteps (request .head .rig .curves) (length (request .wants)) plan ≡ done contents
+  pub in-order : testsOf contents ≡ orderBy (request .head .method) (capacity (request .head .rig)) (request .wants)
   pub count : ℕ
-  pub passes : checking (jobIn request) (orderBy (request .head .method) (capacity (request .head .rig)) (request .wants)) (planIn steps) ≡ done count
+  pub passes : checking (jobIn request) (orderBy (request .head .method) (capacity (request .head .rig)) (request .wants)) (planIn contents) ≡ done count
   pub least : (other : Plan) (m : ℕ)
       → checking (jobIn request) (orderBy (request .head .method) (capacity (request .head .rig)) (request .wants)) other ≡ done m
       → count ≤ curveCount (other .loads)
@@ -40,18 +40,18 @@ pub record Library : Type 0 where
   -- each method's order names each test exactly once
   pub complete : (method places : ℕ) (wants : List ℕ) → IsOrder (length wants) (orderBy method places wants)
   -- DEMAND 3, of what planning answers and leaves in the lists lent to it: for every job, every order and all lists
-  pub demand-3 : (j : Job) (order : List ℕ) (lent : Plan) → Demand3 j order (planAnswer j order lent) (planLists j order lent)
+  pub demand-3 : (j : Job) (order : List ℕ) (lent : SetLists) → Demand3 j order (planAnswer j order lent) (planLists j order lent)
   -- writing and reading undo each other: a job ..
   pub job-back : (method : ℕ) (j : Job) (lent : ℕ) (bytes : List ℕ) → writeJob method j lent ≡ done bytes → readBytes bytes ≡ done (request method j)
   pub job-read : (bs : List ℕ) (q : Request) → Bytes bs → readBytes bs ≡ done q → writeJob (q .head .method) (jobIn q) (length bs) ≡ done bs
-  -- .. and a plan
+  -- .. and a plan, with its end set
   pub plan-back : (j : Job) (order : List ℕ) (p : Plan) (lent : ℕ) (bytes : List ℕ) → writePlan j order p lent ≡ done bytes
-      → (ss : List Placed) × (planSteps (j .rig .curves) (length (j .wants)) bytes ≡ done ss) × (testsOf ss ≡ order) × (planIn ss ≡ p)
-  pub plan-read : (j : Job) (bs : List ℕ) (ss : List Placed) → Bytes bs → planSteps (j .rig .curves) (length (j .wants)) bs ≡ done ss
-      → (n : ℕ) → checking j (testsOf ss) (planIn ss) ≡ done n → writePlan j (testsOf ss) (planIn ss) (length bs) ≡ done bs
-  -- the call: an answer below 65,536 is the count of the bytes written, which are a plan with the fewest loads for its order ..
+      → (c : Contents) × (planSteps (j .rig .curves) (length (j .wants)) bytes ≡ done c) × (testsOf c ≡ order) × (planIn c ≡ p)
+  pub plan-read : (j : Job) (bs : List ℕ) (c : Contents) → Bytes bs → planSteps (j .rig .curves) (length (j .wants)) bs ≡ done c
+      → (n : ℕ) → checking j (testsOf c) (planIn c) ≡ done n → writePlan j (testsOf c) (planIn c) (length bs) ≡ done bs
+  -- the call: an answer below 65,536 is the count of the bytes written, at most 5,121, which are a plan with the fewest loads for its order ..
   pub call-writes : (bs : List ℕ) → Bytes bs → (lent : ℕ) (plan : List ℕ) → jobToPlan bs lent ≡ done plan
-      → (numberOf (jobToPlan bs lent) ≡ length plan) × (length plan < 65536) × WrittenPlan bs plan
+      → (numberOf (jobToPlan bs lent) ≡ length plan) × (length plan ≤ 5121) × WrittenPlan bs plan
   -- .. and any other tells the refusal's number and figure
   pub call-refuses : (bs : List ℕ) → Bytes bs → (lent k i : ℕ) → jobToPlan bs lent ≡ refused k i
       → (65536 ≤ numberOf (jobToPlan bs lent)) × (numberOf (jobToPlan bs lent) / 65536 ≡ k) × (numberOf (jobToPlan bs lent) % 65536 ≡ i)

@@ -19,10 +19,10 @@ fn job_to_plan(job: &[u8], plan: &mut [u8]) -> Counted
     let mut loads = [0u64; MOST_TESTS];
     match planned::plan_job(job, &mut wants, &mut order, &mut drops, &mut loads) {
         JobPlanned::Refused(r) => Counted::Refused(r),
-        JobPlanned::Planned(head, _) => {
+        JobPlanned::Planned(head, _, end) => {
             let n = head.tests;
             // without the check: it is proved that our plan passes
-            plan_bytes::write_steps(&order[..n], &drops[..n], &loads[..n], plan)
+            plan_bytes::write_steps(&order[..n], &drops[..n], &loads[..n], end, plan)
         }
     }
 }

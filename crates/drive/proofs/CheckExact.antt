@@ -45,6 +45,12 @@ pub data FirstFault (capacity all : ℕ) : ℕ → List Move → ℕ → Type 0 
 pub moved-≼ : (h : ℕ) (x : Sets) (s : ℕ) → h ≼ s → x .loads ≼ s → moved h x ≼ s
 moved-≼ h x s i j c = simp bitwise (omega (arith, i c, j c))
 
+-- .. and so is what is held at the end
+pub held-≼ : {capacity all h : ℕ} {ms : List Move} → h ≼ all → AllKept capacity all h ms → heldAfter h (setsOf ms) ≼ all
+unfolding heldAfter
+held-≼ s none = s
+held-≼ {all = all} s (step {h = h} {m = m} ok r) = held-≼ (moved-≼ h (m .sets) all s (ok .known)) r
+
 module _ (capacity all h : ℕ) (m : Move) where
   kept : keeps capacity all h m ≡ true → Kept capacity all h m
   unfolding keeps

@@ -1,6 +1,7 @@
 -- What the rules of one drive mean.
 --     CheckExact  the check ends exactly where every step keeps the rules, and breaks at the first that does not
 --     Moves       three lists as one list of moves
+--     Balance     held at the start plus loads equals drops plus held at the end
 --     Holdings    plans by what they hold
 --     Fewest      THE OPTIMUM: the load count of any good choice of victims is the least
 --     Best        the furthest next use is a good choice
@@ -12,6 +13,7 @@
 --     Turns       one turn of a loop
 pub mod CheckExact
 pub mod Moves
+pub mod Balance
 pub mod Holdings
 pub mod Fewest
 pub mod Best

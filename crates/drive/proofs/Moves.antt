@@ -22,13 +22,20 @@ wants-of (w ∷ ws) ds ls = ap {B = List ℕ} (λ x. w ∷ x) (wants-of ws _ _)
 pub length-moves : (ws ds ls : List ℕ) → length (moves ws ds ls) ≡ length ws
 length-moves ws ds ls = sym (length-map (moves ws ds ls) (λ m. m .want)) ∙ ap length (wants-of ws ds ls)
 
--- their sets, and their loads, where there is one for each want
+-- their sets, their drops and their loads, where there is one for each want
 pub sets-of : (ws : List ℕ) (ss : List Sets) → length ss ≡ length ws → setsOf (movesOf ws ss) ≡ ss
 unfolding moves
 sets-of [] [] e = refl
 sets-of [] (s ∷ ss) e = absurd (omega arith)
 sets-of (w ∷ ws) [] e = absurd (omega arith)
 sets-of (w ∷ ws) (s ∷ ss) e = ap {B = List Sets} (λ x. s ∷ x) (sets-of ws ss (omega arith))
+
+pub drops-of : (ws ds ls : List ℕ) → length ds ≡ length ws → dropsOf (setsOf (moves ws ds ls)) ≡ ds
+unfolding moves
+drops-of [] [] ls e = refl
+drops-of [] (d ∷ ds) ls e = absurd (omega arith)
+drops-of (w ∷ ws) [] ls e = absurd (omega arith)
+drops-of (w ∷ ws) (d ∷ ds) ls e = ap {B = List ℕ} (λ x. d ∷ x) (drops-of ws ds (drop 1 ls) (omega arith))
 
 pub loads-of : (ws ds ls : List ℕ) → length ls ≡ length ws → loadsOf (setsOf (moves ws ds ls)) ≡ ls
 unfolding moves

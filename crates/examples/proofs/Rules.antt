@@ -16,16 +16,17 @@ use Rattle.packages.specs.Packages.{flat, bestPair, without, joined, onPair, cu
 use Rattle.ordering.specs.Methods.{weight, weights, degree, appended, grown, bestUnlisted, orElse, neighbour, nextOf, cuthillMcKee, reverseCuthillMcKee}
 use Rattle.ordering.specs.Methods.{reach, spanningTree, orderBy}
 use Rattle.ordering.specs.Ordering.{ordering, orderAnswer, orderList}
-use Rattle.drive.specs.Steps.{moves, curveCount}
+use Rattle.drive.specs.Steps.{heldAfter, moves, curveCount}
 use Rattle.drive.specs.Check.{orBreaks, keeps, checkFrom}
 use Rattle.drive.specs.Uses.{later, useBy, nextUse, further}
 use Rattle.drive.specs.Plan.{furthest, andThen, victims, dropsFor, planFrom}
 use Rattle.planning.specs.Plan.{steps, inOrder}
-use Rattle.planning.specs.Planning.{ourPlan, planning, planAnswer, planLists, setsKnown, checkedOutcome, checking}
-use Rattle.plan_bytes.specs.PlanBytes.{setField, stepBytes, stepsBytes, writePlan, writePlanAnswer, writePlanBuffer, readSet, readStep, readSteps}
-use Rattle.plan_bytes.specs.PlanBytes.{readPlanBytes, planSteps, readPlan, readPlanAnswer, readPlanOrder, readPlanLists, placedAt, fetched, partOf, stepPart}
-use Rattle.report.specs.Report.{text, highDigits, decimal, curveText, curvesText, setText, stepText, stepsText, headText, planText, printed, sheet}
-use Rattle.report.specs.Report.{writeSheet, sheetAnswer, sheetBuffer}
+use Rattle.planning.specs.Planning.{ourPlan, planning, planAnswer, planLists, setsKnown, checkedOutcome, endKnown, checking}
+use Rattle.plan_bytes.specs.PlanBytes.{setField, stepBytes, stepsBytes, endBytes, writePlan, writePlanAnswer, writePlanBuffer, readSet, readStep, readSteps}
+use Rattle.plan_bytes.specs.PlanBytes.{readEnd, readPlanBytes, planSteps, readPlan, readPlanAnswer, readPlanOrder, readPlanLists, endParts, partAt, fetched}
+use Rattle.plan_bytes.specs.PlanBytes.{orEmpty, stepPart}
+use Rattle.report.specs.Report.{text, highDigits, decimal, curveText, curvesText, setText, stepText, stepsText, endText, headText, planText, printed}
+use Rattle.report.specs.Report.{sheet, writeSheet, sheetAnswer, sheetBuffer}
 use Rattle.planned.specs.Planned.{orderRequest, planInOrder, orderAndPlan, planJob}
 use Rattle.curveplan.specs.Call.{written, jobToPlan, numberOf, callAnswer, callPlan}
 
@@ -35,10 +36,10 @@ unfolding ones readOutcome countOutcome _>>=_ _>>_ mapped demand room overwritte
     groupBytes groupMap setBytes byteAt readGroup readGroups fields readNumber readField readFields readHead readRecord readRecords atEnd readBytes readJob
     readJobAnswer readJobWants numberBytes zipWith flatten headBytes recordBytes jobBytes writeJob writeJobAnswer writeJobBuffer weight weights degree
     upTo appended grown bestUnlisted orElse neighbour nextOf cuthillMcKee reverseCuthillMcKee reach spanningTree flat bestPair without joined onPair
-    curvesOf joinAll try pickTry _orMore_ longer runFrom flipped packages orderBy ordering orderAnswer orderList orderFrom moves curveCount
+    curvesOf joinAll try pickTry _orMore_ longer runFrom flipped packages orderBy ordering orderAnswer orderList orderFrom heldAfter moves curveCount
     orBreaks keeps checkFrom later useBy nextUse further furthest andThen victims dropsFor planFrom steps inOrder ourPlan planning
-    planAnswer planLists setsKnown checkedOutcome checking setField stepBytes stepsBytes writePlan writePlanAnswer writePlanBuffer
-    readSet readStep readSteps readPlanBytes planSteps readPlan readPlanAnswer readPlanOrder readPlanLists placedAt fetched partOf
-    stepPart text highDigits decimal curveText curvesText setText stepText stepsText headText planText printed sheet writeSheet
+    planAnswer planLists setsKnown checkedOutcome endKnown checking setField stepBytes stepsBytes endBytes writePlan writePlanAnswer writePlanBuffer
+    readSet readStep readSteps readEnd readPlanBytes planSteps readPlan readPlanAnswer readPlanOrder readPlanLists endParts partAt fetched orEmpty
+    stepPart text highDigits decimal curveText curvesText setText stepText stepsText endText headText planText printed sheet writeSheet
     sheetAnswer sheetBuffer orderRequest planInOrder orderAndPlan planJob written jobToPlan numberOf callAnswer callPlan
 rules = tt

@@ -7,12 +7,12 @@ use Rattle.job.specs.Refusal.{done, refused}
 use Rattle.job_bytes.specs.JobBytes.{request, readJob, writeJob}
 use Rattle.ordering.specs.Ordering.{ordering}
 use Rattle.drive.specs.declared.Sets.{Sets}
-use Rattle.planning.specs.Plan.{planOf}
+use Rattle.planning.specs.Plan.{planOf, setLists}
 use Rattle.planning.specs.Planning.{planning, planAnswer, planLists, checking}
 use Rattle.plan_bytes.specs.PlanBytes.{readPlan, writePlan, stepAt}
 use Rattle.curveplan.specs.Call.{callAnswer}
 use Rattle.report.specs.Report.{text, sheet}
-use Rattle.examples.specs.Starred.{job, a-bytes, a-wants, a-plan}
+use Rattle.examples.specs.Starred.{job, a-bytes, a-wants, a-plan, loads}
 
 -- a step's drops and loads
 abbrev pub sets : ℕ → ℕ → Sets
@@ -32,27 +32,31 @@ pub record Others : Type 0 where
   -- Order 0 1 1 or 0 1 for three tests: 8 at 2.
   pub plan-repeated-test : planning (job 2 4 (0 ∷ 0 ∷ 0 ∷ [])) (0 ∷ 1 ∷ 1 ∷ []) 3 ≡ refused 8 2
   pub plan-missing-test : planning (job 2 4 (0 ∷ 0 ∷ 0 ∷ [])) (0 ∷ 1 ∷ []) 3 ≡ refused 8 2
-  pub check-repeated-test : checking (job 2 4 (0 ∷ 0 ∷ 0 ∷ [])) (0 ∷ 1 ∷ 1 ∷ []) (planOf (0 ∷ 0 ∷ 0 ∷ []) (0 ∷ 0 ∷ 0 ∷ [])) ≡ refused 8 2
-  pub check-missing-test : checking (job 2 4 (0 ∷ 0 ∷ 0 ∷ [])) (0 ∷ 1 ∷ []) (planOf (0 ∷ 0 ∷ 0 ∷ []) (0 ∷ 0 ∷ 0 ∷ [])) ≡ refused 8 2
+  pub check-repeated-test : checking (job 2 4 (0 ∷ 0 ∷ 0 ∷ [])) (0 ∷ 1 ∷ 1 ∷ []) (planOf (0 ∷ 0 ∷ 0 ∷ []) (0 ∷ 0 ∷ 0 ∷ []) 1) ≡ refused 8 2
+  pub check-missing-test : checking (job 2 4 (0 ∷ 0 ∷ 0 ∷ [])) (0 ∷ 1 ∷ []) (planOf (0 ∷ 0 ∷ 0 ∷ []) (0 ∷ 0 ∷ 0 ∷ []) 0) ≡ refused 8 2
   -- the sheet of job A
   pub a-sets : planning (job 2 4 a-wants) (0 ∷ 1 ∷ 2 ∷ 3 ∷ []) 4 ≡ done (sets 0 3 ∷ sets 1 4 ∷ sets 4 1 ∷ sets 1 8 ∷ [])
-  pub a-loads : planAnswer (job 2 4 a-wants) (0 ∷ 1 ∷ 2 ∷ 3 ∷ []) (planOf (0 ∷ 0 ∷ 0 ∷ 0 ∷ []) (0 ∷ 0 ∷ 0 ∷ 0 ∷ 0 ∷ [])) ≡ done 5
-  pub a-lent-loads : planLists (job 2 4 a-wants) (0 ∷ 1 ∷ 2 ∷ 3 ∷ []) (planOf (0 ∷ 0 ∷ 0 ∷ 0 ∷ []) (9 ∷ 9 ∷ 9 ∷ 9 ∷ 9 ∷ [])) .loads ≡ (3 ∷ 4 ∷ 1 ∷ 8 ∷ 9 ∷ [])
+  pub a-loads : planAnswer (job 2 4 a-wants) (0 ∷ 1 ∷ 2 ∷ 3 ∷ []) (setLists (0 ∷ 0 ∷ 0 ∷ 0 ∷ []) (0 ∷ 0 ∷ 0 ∷ 0 ∷ 0 ∷ [])) ≡ done (loads 5 10)
+  pub a-lent-loads : planLists (job 2 4 a-wants) (0 ∷ 1 ∷ 2 ∷ 3 ∷ []) (setLists (0 ∷ 0 ∷ 0 ∷ 0 ∷ []) (9 ∷ 9 ∷ 9 ∷ 9 ∷ 9 ∷ [])) .loads ≡ (3 ∷ 4 ∷ 1 ∷ 8 ∷ 9 ∷ [])
   pub a-read : readJob a-bytes 4 ≡ done (request 0 (job 2 4 a-wants))
   pub a-written : writeJob 0 (job 2 4 a-wants) 13 ≡ done a-bytes
   pub a-written-short : writeJob 0 (job 2 4 a-wants) 12 ≡ refused 9 13
-  pub a-call : callAnswer a-bytes (replicate 22 0) ≡ 22
-  pub a-call-short : callAnswer a-bytes (replicate 21 0) ≡ 589846
-  pub a-plan-written : writePlan (job 2 4 a-wants) (0 ∷ 1 ∷ 2 ∷ 3 ∷ []) (planOf (0 ∷ 1 ∷ 4 ∷ 1 ∷ []) (3 ∷ 4 ∷ 1 ∷ 8 ∷ [])) 22 ≡ done a-plan
+  pub a-call : callAnswer a-bytes (replicate 25 0) ≡ 25
+  pub a-call-short : callAnswer a-bytes (replicate 24 0) ≡ 589849
+  pub a-plan-written : writePlan (job 2 4 a-wants) (0 ∷ 1 ∷ 2 ∷ 3 ∷ []) (planOf (0 ∷ 1 ∷ 4 ∷ 1 ∷ []) (3 ∷ 4 ∷ 1 ∷ 8 ∷ []) 10) 25 ≡ done a-plan
   pub a-step-0 : stepAt 4 4 a-plan 0 ≡ (0x06 ∷ 0x01 ∷ 0x03 ∷ 0x00 ∷ [])
   pub a-step-1 : stepAt 4 4 a-plan 1 ≡ (0x07 ∷ 0x01 ∷ 0x01 ∷ 0x01 ∷ 0x04 ∷ 0x01 ∷ [])
   pub a-step-3 : stepAt 4 4 a-plan 3 ≡ (0x07 ∷ 0x01 ∷ 0x01 ∷ 0x01 ∷ 0x08 ∷ 0x03 ∷ [])
-  pub a-step-4 : stepAt 4 4 a-plan 4 ≡ []
+  -- 02, wish 1: the end step is the step at position 4
+  pub a-step-4 : stepAt 4 4 a-plan 4 ≡ (0x01 ∷ 0x01 ∷ 0x0a ∷ [])
+  pub a-step-5 : stepAt 4 4 a-plan 5 ≡ []
+  pub no-end-step : stepAt 4 1 (0x04 ∷ 0x00 ∷ []) 1 ≡ []
   pub a-step-surplus : stepAt 4 4 (a-plan ++ (0x00 ∷ [])) 0 ≡ []
   pub a-step-no-curves : stepAt 0 4 a-plan 0 ≡ []
   pub a-step-257-tests : stepAt 4 257 a-plan 0 ≡ []
   pub a-sheet : sheet a-bytes
-      ≡ text "4 tests, 2 places, method 0\n0: test 0 drop none load 0 1\n1: test 1 drop 0 load 2\n2: test 2 drop 2 load 0\n3: test 3 drop 0 load 3\nloads 5\n"
+      ≡ text "4 tests, 2 places, method 0\n0: test 0 drop none load 0 1\n1: test 1 drop 0 load 2\n2: test 2 drop 2 load 0\n3: test 3 drop 0 load 3\n"
+      ++ text "4: end drop 1 3\nloads 5\n"
   pub sheet-refused : sheet (0x05 ∷ 0x02 ∷ 0x01 ∷ 0x00 ∷ 0x01 ∷ 0x07 ∷ []) ≡ text "refused 7 at 0\n"
   -- job bytes that tell readings apart
   pub map-bits : readJob (0xf1 ∷ []) 256 ≡ refused 2 0
@@ -87,18 +91,25 @@ pub record Others : Type 0 where
   pub places-before-order : planning (job 65 4 (15 ∷ [])) (0 ∷ []) 1 ≡ refused 10 0
   pub order-before-sizes : planning (job 2 4 (7 ∷ [])) (1 ∷ []) 1 ≡ refused 8 0
   pub sizes-before-short : planning (job 2 4 (3 ∷ 7 ∷ 7 ∷ [])) (2 ∷ 1 ∷ 0 ∷ []) 0 ≡ refused 7 1
-  pub short-drops : planAnswer (job 2 4 (3 ∷ 3 ∷ 3 ∷ [])) (2 ∷ 1 ∷ 0 ∷ []) (planOf (0 ∷ 0 ∷ []) (0 ∷ 0 ∷ 0 ∷ [])) ≡ refused 9 3
-  pub short-loads : planAnswer (job 2 4 (3 ∷ 3 ∷ 3 ∷ [])) (2 ∷ 1 ∷ 0 ∷ []) (planOf (0 ∷ 0 ∷ 0 ∷ []) (0 ∷ 0 ∷ [])) ≡ refused 9 3
+  pub short-drops : planAnswer (job 2 4 (3 ∷ 3 ∷ 3 ∷ [])) (2 ∷ 1 ∷ 0 ∷ []) (setLists (0 ∷ 0 ∷ []) (0 ∷ 0 ∷ 0 ∷ [])) ≡ refused 9 3
+  pub short-loads : planAnswer (job 2 4 (3 ∷ 3 ∷ 3 ∷ [])) (2 ∷ 1 ∷ 0 ∷ []) (setLists (0 ∷ 0 ∷ 0 ∷ []) (0 ∷ 0 ∷ [])) ≡ refused 9 3
   pub surplus-position : planning (job 2 4 (3 ∷ 3 ∷ 3 ∷ [])) (2 ∷ 1 ∷ 0 ∷ 0 ∷ []) 3 ≡ refused 8 3
   -- the check
-  pub length-faults-smaller : checking (job 2 4 (0 ∷ 0 ∷ [])) (0 ∷ 1 ∷ []) (planOf (1 ∷ 0 ∷ 0 ∷ []) (0 ∷ [])) ≡ refused 12 1
-  pub surplus-drops : checking (job 2 4 (0 ∷ 0 ∷ [])) (0 ∷ 1 ∷ []) (planOf (0 ∷ 0 ∷ 0 ∷ []) (0 ∷ 0 ∷ [])) ≡ refused 12 2
-  pub surplus-both : checking (job 2 4 (0 ∷ 0 ∷ [])) (0 ∷ 1 ∷ []) (planOf (0 ∷ 0 ∷ 0 ∷ []) (0 ∷ 0 ∷ 0 ∷ [])) ≡ refused 12 2
-  pub reloaded : checking (job 2 4 (1 ∷ 1 ∷ [])) (0 ∷ 1 ∷ []) (planOf (0 ∷ 1 ∷ []) (1 ∷ 1 ∷ [])) ≡ done 2
-  pub check-too-large : checking (job 2 4 (1 ∷ 7 ∷ [])) (0 ∷ 1 ∷ []) (planOf (0 ∷ 0 ∷ []) (1 ∷ 6 ∷ [])) ≡ refused 12 1
-  pub early-load : checking (job 2 4 (1 ∷ 2 ∷ [])) (0 ∷ 1 ∷ []) (planOf (0 ∷ 0 ∷ []) (3 ∷ 0 ∷ [])) ≡ done 2
-  pub unheld-drop : checking (job 2 4 (1 ∷ [])) (0 ∷ []) (planOf (16 ∷ []) (1 ∷ [])) ≡ refused 12 0
-  pub foreign-load : checking (job 2 4 (1 ∷ [])) (0 ∷ []) (planOf (0 ∷ []) (17 ∷ [])) ≡ refused 12 0
+  pub length-faults-smaller : checking (job 2 4 (0 ∷ 0 ∷ [])) (0 ∷ 1 ∷ []) (planOf (1 ∷ 0 ∷ 0 ∷ []) (0 ∷ []) 0) ≡ refused 12 1
+  pub surplus-drops : checking (job 2 4 (0 ∷ 0 ∷ [])) (0 ∷ 1 ∷ []) (planOf (0 ∷ 0 ∷ 0 ∷ []) (0 ∷ 0 ∷ []) 0) ≡ refused 12 2
+  pub surplus-both : checking (job 2 4 (0 ∷ 0 ∷ [])) (0 ∷ 1 ∷ []) (planOf (0 ∷ 0 ∷ 0 ∷ []) (0 ∷ 0 ∷ 0 ∷ []) 0) ≡ refused 12 2
+  pub reloaded : checking (job 2 4 (1 ∷ 1 ∷ [])) (0 ∷ 1 ∷ []) (planOf (0 ∷ 1 ∷ []) (1 ∷ 1 ∷ []) 1) ≡ done 2
+  pub check-too-large : checking (job 2 4 (1 ∷ 7 ∷ [])) (0 ∷ 1 ∷ []) (planOf (0 ∷ 0 ∷ []) (1 ∷ 6 ∷ []) 7) ≡ refused 12 1
+  pub early-load : checking (job 2 4 (1 ∷ 2 ∷ [])) (0 ∷ 1 ∷ []) (planOf (0 ∷ 0 ∷ []) (3 ∷ 0 ∷ []) 3) ≡ done 2
+  pub unheld-drop : checking (job 2 4 (1 ∷ [])) (0 ∷ []) (planOf (16 ∷ []) (1 ∷ []) 1) ≡ refused 12 0
+  pub foreign-load : checking (job 2 4 (1 ∷ [])) (0 ∷ []) (planOf (0 ∷ []) (17 ∷ []) 17) ≡ refused 12 0
+  -- 02, wish 1: the end set. It forgets a held curve, names one that is not held, names a foreign one; lengths and steps come before it
+  pub end-forgotten : checking (job 2 4 (1 ∷ [])) (0 ∷ []) (planOf (0 ∷ []) (1 ∷ []) 0) ≡ refused 12 1
+  pub end-not-held : checking (job 2 4 (1 ∷ [])) (0 ∷ []) (planOf (0 ∷ []) (1 ∷ []) 3) ≡ refused 12 1
+  pub end-foreign : checking (job 2 4 (1 ∷ [])) (0 ∷ []) (planOf (0 ∷ []) (1 ∷ []) 17) ≡ refused 12 1
+  pub lengths-before-end : checking (job 2 4 (1 ∷ [])) (0 ∷ []) (planOf [] (1 ∷ []) 0) ≡ refused 12 0
+  pub step-before-end : checking (job 2 4 (1 ∷ 2 ∷ [])) (0 ∷ 1 ∷ []) (planOf (0 ∷ 0 ∷ []) (1 ∷ 0 ∷ []) 0) ≡ refused 12 1
+  pub end-before-short : writePlan (job 2 4 (1 ∷ [])) (0 ∷ []) (planOf (0 ∷ []) (1 ∷ []) 0) 0 ≡ refused 12 1
   -- plan bytes
   pub step-bit-3 : readPlan 4 4 (0x08 ∷ []) 4 ≡ refused 11 0
   pub step-without-test : readPlan 4 4 (0x03 ∷ []) 4 ≡ refused 11 0
@@ -108,6 +119,17 @@ pub record Others : Type 0 where
   pub plan-cut : readPlan 4 4 (0x06 ∷ 0x01 ∷ 0x03 ∷ 0x00 ∷ []) 4 ≡ refused 11 4
   pub plan-short-list : readPlan 4 1 (0x04 ∷ 0x00 ∷ []) 0 ≡ refused 9 1
   pub plan-trailing-before-short : readPlan 4 1 (0x04 ∷ 0x00 ∷ 0x04 ∷ []) 0 ≡ refused 11 2
+  -- an end step: any set of the job's curves reads, another map does not, nor a zero map, a foreign curve, a cut one, a second one, one too early
+  pub end-reads : readPlan 4 1 (0x04 ∷ 0x00 ∷ 0x01 ∷ 0x01 ∷ 0x0f ∷ []) 1
+      ≡ done (record { steps = record { step = record { test = 0; drops = 0; loads = 0 }; from = 0; until = 2 } ∷ []; behind = 2; end = 15 })
+  pub end-other-map : readPlan 4 1 (0x04 ∷ 0x00 ∷ 0x03 ∷ 0x01 ∷ 0x0f ∷ []) 1 ≡ refused 11 2
+  pub end-with-test : readPlan 4 1 (0x04 ∷ 0x00 ∷ 0x05 ∷ 0x01 ∷ 0x0f ∷ 0x00 ∷ []) 1 ≡ refused 11 2
+  pub end-empty-map : readPlan 4 1 (0x04 ∷ 0x00 ∷ 0x01 ∷ 0x00 ∷ []) 1 ≡ refused 11 3
+  pub end-empty-group : readPlan 4 1 (0x04 ∷ 0x00 ∷ 0x01 ∷ 0x01 ∷ 0x00 ∷ []) 1 ≡ refused 11 4
+  pub end-foreign-curve : readPlan 4 1 (0x04 ∷ 0x00 ∷ 0x01 ∷ 0x01 ∷ 0x10 ∷ []) 1 ≡ refused 11 4
+  pub end-cut : readPlan 4 1 (0x04 ∷ 0x00 ∷ 0x01 ∷ 0x01 ∷ []) 1 ≡ refused 11 4
+  pub end-twice : readPlan 4 1 (0x04 ∷ 0x00 ∷ 0x01 ∷ 0x01 ∷ 0x0f ∷ 0x01 ∷ 0x01 ∷ 0x0f ∷ []) 1 ≡ refused 11 5
+  pub end-early : readPlan 4 1 (0x01 ∷ 0x01 ∷ 0x0f ∷ 0x04 ∷ 0x00 ∷ []) 1 ≡ refused 11 0
   pub plan-no-tests : readPlan 0 0 [] 0 ≡ refused 5 0
   pub plan-curves-before-tests : readPlan 0 257 [] 0 ≡ refused 10 1
   -- methods 2 and 3

@@ -29,16 +29,16 @@ use Rattle.ordering.specs.Ordering.{ordering, orderAnswer}
 use Rattle.ordering.proofs.Ordered.{order-entries}
 use Rattle.drive.specs.declared.Checked.{Checked}
 use Rattle.drive.specs.declared.Checked.the-variants.{Ends, Breaks}
-use Rattle.drive.specs.Steps.{Move, moves}
+use Rattle.drive.specs.Steps.{Move}
 use Rattle.drive.specs.Check.{checkFrom}
 use Rattle.drive.proofs.CheckExact.{fault-within}
 use Rattle.drive.proofs.Moves.{length-moves}
-use Rattle.planning.specs.Plan.{Plan, entries, inOrder}
-use Rattle.planning.specs.Planning.{setsKnown, checkedOutcome, checking, planning, planAnswer}
+use Rattle.planning.specs.Plan.{Plan, SetLists, entries, CountEnd, inOrder}
+use Rattle.planning.specs.Planning.{setsKnown, checkedOutcome, planMoves, endKnown, checking, planning, planAnswer}
 use Rattle.planning.proofs.CheckExact.{passed, check-few}
 use Rattle.planning.proofs.Demand3.{demand3}
 use Rattle.planning.proofs.Sequence.{known-exact, planning-parts, steps-length}
-use Rattle.plan_bytes.specs.PlanBytes.{Placed, planBytes, writePlan, writePlanAnswer, readPlanBytes, planSteps, readPlan, planRead, readPlanAnswer}
+use Rattle.plan_bytes.specs.PlanBytes.{Contents, planBytes, writePlan, writePlanAnswer, readPlanBytes, planSteps, readPlan, planRead, readPlanAnswer}
 use Rattle.plan_bytes.proofs.PlanBounds.{plan-figure, plan-eleven}
 use Rattle.plan_bytes.proofs.PlanLength.{passed-length, written-length}
 use Rattle.plan_bytes.proofs.ReadPlan.{plan-count}
@@ -47,7 +47,7 @@ use Rattle.report.specs.Report.{sheet, writeSheet, sheetAnswer}
 use Rattle.report.specs.Audit.{audit, auditText, writeAudit, auditAnswer}
 use Rattle.report.proofs.Longest.{sheet-longest}
 use Rattle.report.proofs.AuditLongest.{audit-longest}
-use Rattle.exports.specs.Numbers.{numbered}
+use Rattle.exports.specs.Numbers.{numbered, countOf}
 use Rattle.exports.proofs.Numbers.{numbered-tells}
 
 -- the number that stands for an outcome tells it
@@ -217,13 +217,14 @@ module _ (j : Job) (order : List ℕ) (p : Plan) where
   few-loads n e = omega (arith, check-few j order p n e, passed j order p n e .is-job .tests-bounds .1)
 
   check-refuses : Refuses Figures (checking j order p)
-  unfolding checking setsKnown
+  unfolding checking setsKnown endKnown
   check-refuses =
       then _ _ (checking-told j order)
       (λ e. let l = known-exact j order e .0 .tests-bounds .1 in
       refuses-both Figures _ _ (refuses-demand Figures _ 12 (min (min (length (p .drops)) (length (p .loads))) (length (j .wants))) (omega arith, omega arith))
-      (refuses-both Figures _ _ (steps-told (capacity (j .rig)) (allCurves (j .rig .curves)) (moves (inOrder (j .wants) order) (p .drops) (p .loads))
-      (omega (arith, length-moves (inOrder (j .wants) order) (p .drops) (p .loads), steps-length j order e))) tt))
+      (refuses-both Figures _ _ (steps-told (capacity (j .rig)) (allCurves (j .rig .curves)) (planMoves j order p)
+      (omega (arith, length-moves (inOrder (j .wants) order) (p .drops) (p .loads), steps-length j order e)))
+      (refuses-both Figures _ _ (refuses-demand Figures _ 12 (length (j .wants)) (omega arith, omega arith)) tt)))
 
   pub check-told : Told (checking j order p)
   check-told = told _ few-loads check-refuses
@@ -235,48 +236,53 @@ module _ (j : Job) (order : List ℕ) (p : Plan) where
       (λ n e. let b = mapped-done length (writePlan j order p (length old)) n e in
       omega (arith, b .2, written-length j order p (length old) (b .0) (b .1)))
       (refuses-mapped Figures _ _ (unfold writePlan in refuses-bind Figures (checking j order p) _ check-refuses
-      (λ m e. asked (length old) (length (planBytes order (p .drops) (p .loads))) _ (omega (arith, passed-length j order p m e)) tt)))
+      (λ m e. asked (length old) (length (planBytes order p)) _ (omega (arith, passed-length j order p m e)) tt)))
 
-module _ (j : Job) (order : List ℕ) (lent : Plan) where
+module _ (j : Job) (order : List ℕ) (lent : SetLists) where
   -- a plan that was made passes the check
-  pub plan-told : Told (planAnswer j order lent)
+  pub plan-told : Told (countOf (planAnswer j order lent))
   plan-told =
       told _
-      (λ n e. few-loads j order _ n (demand3 j order lent .passes n e))
-      (unfold planAnswer planning room in refuses-mapped Figures _ _
+      (λ n e. let x = mapped-done (λ (a : CountEnd). a .count) (planAnswer j order lent) n e in
+      omega (arith, few-loads j order _ (x .0 .count) (demand3 j order lent .passes (x .0) (x .1)), x .2))
+      (refuses-mapped Figures _ _ (unfold planAnswer planning room in refuses-mapped Figures _ _
       (then _ _ (planning-told j order)
       (λ e. let l = known-exact j order (planning-parts j order e .0) .0 .tests-bounds .1 in
-      refuses-bind Figures _ _ (refuses-demand Figures _ 9 (length (j .wants)) (omega arith, omega arith)) (λ _ e. tt))))
+      refuses-bind Figures _ _ (refuses-demand Figures _ 9 (length (j .wants)) (omega arith, omega arith)) (λ _ e. tt)))))
 
-module _ (curves tests : ℕ) (bs order : List ℕ) (lent : Plan) where
+module _ (curves tests : ℕ) (bs order : List ℕ) (lent : SetLists) where
   bytes-told : tests ≤ 256 → Refuses Figures (readPlanBytes curves tests bs)
   bytes-told l = go (readPlanBytes curves tests bs) refl
     where
-      go : (o : Outcome (List Placed)) → readPlanBytes curves tests bs ≡ o → Refuses Figures o
+      go : (o : Outcome Contents) → readPlanBytes curves tests bs ≡ o → Refuses Figures o
       go (done ss) e = tt
       go (refused k i) e = (
         omega (arith, refuses (λ (k i : ℕ). k ≡ 11) (readPlanBytes curves tests bs) k i (plan-eleven curves tests bs) e),
         omega (arith, plan-figure curves tests bs k i e),
       )
 
-  steps-few : (ss : List Placed) → planSteps curves tests bs ≡ done ss → (length ss ≡ tests) × (tests ≤ 256)
+  steps-few : (ss : Contents) → planSteps curves tests bs ≡ done ss → (length (ss .steps) ≡ tests) × (tests ≤ 256)
   unfolding planSteps
   steps-few ss e = let c = both-done (countsKnown curves tests) _ ss e in (plan-count curves tests bs ss (c .1), counts-bounds curves tests (c .0) .1)
 
-  pub read-plan-told : Told (readPlanAnswer curves tests bs order lent)
+  pub read-plan-told : Told (countOf (readPlanAnswer curves tests bs order lent))
   unfolding readPlanAnswer readPlan
   read-plan-told =
       told _
       (λ n e.
-      let x = mapped-done length (planRead curves tests bs order lent) n e in
+      let a = mapped-done (λ (a : CountEnd). a .count) (readPlanAnswer curves tests bs order lent) n e in
+      let x = mapped-done steps-end (planRead curves tests bs order lent) (a .0) (a .1) in
       let s = bind-done (planSteps curves tests bs) _ (x .0) (x .1) in
       let c = both-done (room (min (length order) (entries lent)) tests) (done (s .0)) (x .0) (s .2) in
       let f = steps-few (s .0) (s .1) in
-      omega (arith, x .2, ap length (done-same (c .1)), f .0, f .1))
-      (refuses-mapped Figures _ _ (refuses-bind Figures (planSteps curves tests bs) _ steps-refuse
+      omega (arith, a .2, ap (λ (a : CountEnd). a .count) (x .2), ap (λ (s : Contents). length (s .steps)) (done-same (c .1)), f .0, f .1))
+      (refuses-mapped Figures _ _ (refuses-mapped Figures _ _ (refuses-bind Figures (planSteps curves tests bs) _ steps-refuse
       (λ ss e. let l : tests < 2 ^ 48 = omega (arith, steps-few ss e .1) in
-      asked (min (length order) (entries lent)) tests (done ss) l tt)))
+      asked (min (length order) (entries lent)) tests (done ss) l tt))))
     where
+      steps-end : Contents → CountEnd
+      steps-end c = record { count = length (c .steps); end = c .end }
+
       steps-refuse : Refuses Figures (planSteps curves tests bs)
       steps-refuse = unfold planSteps in then _ _ (counts-told curves tests) (λ e. bytes-told (counts-bounds curves tests e .1))
 

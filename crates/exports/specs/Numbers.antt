@@ -6,6 +6,7 @@ use Rattle.job.specs.declared.Head.{Head}
 use Rattle.job.specs.Refusal.{Outcome, done, refused, mapped}
 use Rattle.job.specs.Words.{Job, jobOf}
 use Rattle.job_bytes.specs.SetBytes.{readGroup}
+use Rattle.planning.specs.Plan.{CountEnd}
 use Rattle.exports.specs.declared.JobHead.{JobHead}
 
 -- the job of numbers that are handed over one by one
@@ -21,6 +22,14 @@ numbered (refused number figure) = number * 2 ^ 48 + figure % 2 ^ 48
 -- 0 where nothing is refused, else the refusal
 abbrev pub passing : {A : Type 0} → Outcome A → ℕ
 passing o = numbered (mapped (λ _. 0) o)
+
+-- of a count and an end set that were answered, the count ..
+abbrev pub countOf : Outcome CountEnd → Outcome ℕ
+countOf o = mapped (λ a. a .count) o
+
+-- .. and the end set
+abbrev pub endOf : Outcome CountEnd → Outcome ℕ
+endOf o = mapped (λ a. a .end) o
 
 -- a job's head, answered with its number of tests; under a refusal its four numbers are 0
 unfoldable pub headOf : Outcome Head → JobHead

@@ -7,6 +7,7 @@ use job::Refusal;
 use job::Rig;
 use job_bytes::set_bytes::GroupRead;
 use plan_bytes::StepPart;
+use planning::PlanCounted;
 ghost use mathlib.Core.Path.{_≡_};
 ghost use mathlib.Core.List.{reverse};
 ghost use Prim.Native.Nat.{_%_, _^_, min};
@@ -23,12 +24,12 @@ ghost use Rattle.job_bytes.specs.JobBytes.{readJobAnswer, readJobWants, writeJo
 ghost use Rattle.packages.specs.Tests.{upTo, entered};
 ghost use Rattle.packages.specs.Packages.{packages};
 ghost use Rattle.ordering.specs.Ordering.{orderAnswer, orderList};
-ghost use Rattle.planning.specs.Plan.{planOf};
+ghost use Rattle.planning.specs.Plan.{planOf, setLists, planOutcome};
 ghost use Rattle.planning.specs.Planning.{checking, planAnswer, planLists};
 ghost use Rattle.plan_bytes.specs.PlanBytes.{writePlanAnswer, writePlanBuffer, readPlanAnswer, readPlanOrder, readPlanLists, stepPart};
 ghost use Rattle.report.specs.Report.{sheetAnswer, sheetBuffer};
 ghost use Rattle.report.specs.Audit.{auditAnswer, auditBuffer};
-ghost use Rattle.exports.specs.Numbers.{job, numbered, passing, headOf, groupAt, leavesOne};
+ghost use Rattle.exports.specs.Numbers.{job, numbered, passing, countOf, endOf, headOf, groupAt, leavesOne};
 
 // ---- outcomes as numbers
 
@@ -49,6 +50,20 @@ fn counted(c: Counted) -> u64
     match c {
         Counted::Count(n) => n as u64,
         Counted::Refused(r) => refusal(r),
+    }
+}
+
+// The count; the end set goes to `end`.
+fn with_end(c: PlanCounted, end: &mut u64) -> u64
+    ensures answer { λ n. ⌜ n ≡ numbered (countOf (planOutcome c)) ⌝ }
+    ensures end { λ _. ⌜ after end ≡ leavesOne (endOf (planOutcome c)) (was end) ⌝ }
+{
+    match c {
+        PlanCounted::Count(n, set) => {
+            *end = set;
+            n as u64
+        }
+        PlanCounted::Refused(r) => refusal(r),
     }
 }
 
@@ -146,11 +161,17 @@ pub extern "C" fn curveplan_plan_order(
     order: &[u16],
     drops: &mut [u64],
     loads: &mut [u64],
+    end: &mut u64,
 ) -> u64
-    ensures answer { λ r. ⌜ r ≡ numbered (planAnswer (job places curves (was wants)) (was order) (planOf (was drops) (was loads))) ⌝ }
-    ensures lists { λ _. ⌜ planOf (after drops) (after loads) ≡ planLists (job places curves (was wants)) (was order) (planOf (was drops) (was loads)) ⌝ }
+    ensures answer { λ r. ⌜ r ≡ numbered (countOf (planAnswer (job places curves (was wants)) (was order) (setLists (was drops) (was loads)))) ⌝ }
+    ensures lists { λ _. ⌜ setLists (after drops) (after loads) ≡ planLists (job places curves (was wants)) (was order) (setLists (was drops) (was loads)) ⌝ }
+    ensures end { λ _. ⌜ after end
+        ≡ leavesOne (endOf (planAnswer (job places curves (was wants)) (was order) (setLists (was drops) (was loads)))) (was end) ⌝ }
 {
-    counted(planning::plan(Rig { places, curves }, wants, order, drops, loads))
+    with_end(
+        planning::plan(Rig { places, curves }, wants, order, drops, loads),
+        end,
+    )
 }
 
 #[no_mangle]
@@ -161,10 +182,11 @@ pub extern "C" fn curveplan_check_plan(
     order: &[u16],
     drops: &[u64],
     loads: &[u64],
+    end: u64,
 ) -> u64
-    ensures { λ r. ⌜ r ≡ numbered (checking (job places curves (was wants)) (was order) (planOf (was drops) (was loads))) ⌝ }
+    ensures { λ r. ⌜ r ≡ numbered (checking (job places curves (was wants)) (was order) (planOf (was drops) (was loads) end)) ⌝ }
 {
-    counted(planning::check_plan(Rig { places, curves }, wants, order, drops, loads))
+    counted(planning::check_plan(Rig { places, curves }, wants, order, drops, loads, end))
 }
 
 #[no_mangle]
@@ -175,12 +197,13 @@ pub extern "C" fn curveplan_write_plan(
     order: &[u16],
     drops: &[u64],
     loads: &[u64],
+    end: u64,
     out: &mut [u8],
 ) -> u64
-    ensures answer { λ r. ⌜ r ≡ numbered (writePlanAnswer (job places curves (was wants)) (was order) (planOf (was drops) (was loads)) (was out)) ⌝ }
-    ensures bytes { λ _. ⌜ after out ≡ writePlanBuffer (job places curves (was wants)) (was order) (planOf (was drops) (was loads)) (was out) ⌝ }
+    ensures answer { λ r. ⌜ r ≡ numbered (writePlanAnswer (job places curves (was wants)) (was order) (planOf (was drops) (was loads) end) (was out)) ⌝ }
+    ensures bytes { λ _. ⌜ after out ≡ writePlanBuffer (job places curves (was wants)) (was order) (planOf (was drops) (was loads) end) (was out) ⌝ }
 {
-    counted(plan_bytes::write_plan(Rig { places, curves }, wants, order, drops, loads, out))
+    counted(plan_bytes::write_plan(Rig { places, curves }, wants, order, drops, loads, end, out))
 }
 
 #[no_mangle]
@@ -191,12 +214,18 @@ pub extern "C" fn curveplan_read_plan(
     order: &mut [u16],
     drops: &mut [u64],
     loads: &mut [u64],
+    end: &mut u64,
 ) -> u64
-    ensures answer { λ r. ⌜ r ≡ numbered (readPlanAnswer curves tests (was plan) (was order) (planOf (was drops) (was loads))) ⌝ }
-    ensures order { λ _. ⌜ after order ≡ readPlanOrder curves tests (was plan) (was order) (planOf (was drops) (was loads)) ⌝ }
-    ensures lists { λ _. ⌜ planOf (after drops) (after loads) ≡ readPlanLists curves tests (was plan) (was order) (planOf (was drops) (was loads)) ⌝ }
+    ensures answer { λ r. ⌜ r ≡ numbered (countOf (readPlanAnswer curves tests (was plan) (was order) (setLists (was drops) (was loads)))) ⌝ }
+    ensures order { λ _. ⌜ after order ≡ readPlanOrder curves tests (was plan) (was order) (setLists (was drops) (was loads)) ⌝ }
+    ensures lists { λ _. ⌜ setLists (after drops) (after loads) ≡ readPlanLists curves tests (was plan) (was order) (setLists (was drops) (was loads)) ⌝ }
+    ensures end { λ _. ⌜ after end
+        ≡ leavesOne (endOf (readPlanAnswer curves tests (was plan) (was order) (setLists (was drops) (was loads)))) (was end) ⌝ }
 {
-    counted(plan_bytes::read_plan(curves, tests, plan, order, drops, loads))
+    with_end(
+        plan_bytes::read_plan(curves, tests, plan, order, drops, loads),
+        end,
+    )
 }
 
 // Where the step's bytes lie in the caller's plan.

@@ -1,18 +1,20 @@
 -- A step fetched by its position: a step that was read lies within the plan bytes; and the part that is fetched, step by step.
 use mathlib.Core.Path.{_≡_, refl, sym, ap, _∙_}
-use mathlib.Core.List.{List, [], _∷_, _++_, map}
+use mathlib.Core.List.{List, [], _∷_, _++_, map, map-append, append-nil}
 use Prim.Native.Nat.{ℕ, zero, suc, _+_, _-_, _*_, _^_, _≤_}
 use native.Mathlib.Omega.{arith}
 use lib.Dec.{ltb}
-use lib.ListN.{length, drop, length-drop}
+use lib.ListN.{length, drop, length-drop, length-map}
 use Rattle.bitset.specs.Set.{_∪_, bit, inside}
 use Rattle.job.specs.Refusal.{Outcome, done, refused, demand}
-use Rattle.lists.specs.Choice.{found}
+use Rattle.lists.specs.Choice.{nobody, found}
 use Rattle.job.specs.Handed.{between, allCurves, countsKnown}
 use Rattle.job_bytes.specs.SetBytes.{Got, got, byteAt, readGroup, readGroups}
 use Rattle.job.proofs.Laws.{done-same, refused≢done, both-done, bind-done}
 use Rattle.plan_bytes.specs.declared.StepRead.{StepRead}
-use Rattle.plan_bytes.specs.PlanBytes.{Placed, readSet, readStep, readPlanBytes, planSteps, placedAt, fetched, partOf, stepPart}
+use Rattle.plan_bytes.specs.declared.StepPart.{StepPart}
+use Rattle.plan_bytes.specs.PlanBytes.{Placed, Contents, readSet, readStep, readPlanBytes, planSteps, testPart, endParts, partAt, fetched}
+use Rattle.plan_bytes.specs.PlanBytes.{orEmpty, stepPart}
 use Rattle.plan_bytes.specs.Contracts.{stepOutcome}
 use Rattle.plan_bytes.proofs.Steps.{placed, counts-refused, counts-passed}
 
@@ -84,57 +86,92 @@ module _ (curves tests : ℕ) where
       (w .on, omega (arith, w .ends, length-drop next bs))
 
 -- ---- the part that is fetched
-module _ (curves tests : ℕ) where
-  placed-here : (p : ℕ) (acc : List Placed) (s : Placed) → length acc ≡ p → placedAt curves tests p (acc ++ (s ∷ [])) ≡ found s
-  unfolding placedAt
-  placed-here zero [] s e = refl
-  placed-here (suc p) [] s e = absurd (omega arith)
-  placed-here zero (x ∷ acc) s e = absurd (omega arith)
-  placed-here (suc p) (x ∷ acc) s e = placed-here p acc s (omega arith)
 
-  placed-other : (p : ℕ) (acc : List Placed) (s : Placed) → (length acc ≡ p → ⊥) → placedAt curves tests p (acc ++ (s ∷ [])) ≡ placedAt curves tests p acc
-  unfolding placedAt
-  placed-other zero [] s e = absurd (e refl)
-  placed-other (suc p) [] s e = refl
-  placed-other zero (x ∷ acc) s e = refl
-  placed-other (suc p) (x ∷ acc) s e = placed-other p acc s (λ n. e (omega arith))
+at-here : (p : ℕ) (acc rest : List StepPart) (q : StepPart) → length acc ≡ p → partAt p (acc ++ (q ∷ rest)) ≡ found q
+unfolding partAt
+at-here zero [] rest q e = refl
+at-here (suc p) [] rest q e = absurd (omega arith)
+at-here zero (x ∷ acc) rest q e = absurd (omega arith)
+at-here (suc p) (x ∷ acc) rest q e = at-here p acc rest q (omega arith)
 
+at-other : (p : ℕ) (acc : List StepPart) (q : StepPart) → (length acc ≡ p → ⊥) → partAt p (acc ++ (q ∷ [])) ≡ partAt p acc
+unfolding partAt
+at-other zero [] q e = absurd (e refl)
+at-other (suc p) [] q e = refl
+at-other zero (x ∷ acc) q e = refl
+at-other (suc p) (x ∷ acc) q e = at-other p acc q (λ n. e (omega arith))
+
+pub at-none : (p : ℕ) (acc : List StepPart) → length acc ≤ p → partAt p acc ≡ nobody
+unfolding partAt
+at-none p [] h = refl
+at-none zero (x ∷ acc) h = absurd (omega arith)
+at-none (suc p) (x ∷ acc) h = at-none p acc (omega arith)
+
+module _ (bs : List ℕ) (p : ℕ) where
   -- the part of the step at position p among the steps acc, within the bytes bs
-  pub record PartIs (bs : List ℕ) (p : ℕ) (acc : List Placed) (start count : ℕ) : Type 0 where
-    pub part : partOf curves tests bs (placedAt curves tests p acc) ≡ record { start = start; count = count }
+  pub record PartIs (acc : List Placed) (start count : ℕ) : Type 0 where
+    pub part : orEmpty bs (partAt p (map testPart acc)) ≡ record { start = start; count = count }
     pub inside : start + count ≤ length bs
 
-  module _ (bs : List ℕ) (p : ℕ) where
-    pub part-none : PartIs bs p [] (length bs) 0
-    unfolding placedAt partOf
-    part-none = record { part = refl; inside = omega arith }
+  pub part-none : PartIs [] (length bs) 0
+  unfolding partAt orEmpty
+  part-none = record { part = refl; inside = omega arith }
 
-    pub part-here : (acc : List Placed) (s : Placed) → length acc ≡ p → s .from ≤ s .until → s .until ≤ length bs
-        → PartIs bs p (acc ++ (s ∷ [])) (s .from) (s .until - s .from)
-    unfolding partOf
-    part-here acc s e l h = record { part = rw (placed-here p acc s e) refl; inside = omega arith }
+  pub part-here : (acc : List Placed) (s : Placed) → length acc ≡ p → s .from ≤ s .until → s .until ≤ length bs
+      → PartIs (acc ++ (s ∷ [])) (s .from) (s .until - s .from)
+  unfolding orEmpty
+  part-here acc s e l h =
+      record {
+        part = rw (map-append testPart acc (s ∷ []), at-here p (map testPart acc) [] (testPart s) (length-map acc testPart ∙ e)) refl;
+        inside = omega arith;
+      }
 
-    pub part-other : (acc : List Placed) (s : Placed) (start count : ℕ) → (length acc ≡ p → ⊥) → PartIs bs p acc start count
-        → PartIs bs p (acc ++ (s ∷ [])) start count
-    part-other acc s start count e q = record { part = rw (placed-other p acc s e) (q .part); inside = q .inside }
+  pub part-other : (acc : List Placed) (s : Placed) (start count : ℕ) → (length acc ≡ p → ⊥) → PartIs acc start count
+      → PartIs (acc ++ (s ∷ [])) start count
+  part-other acc s start count e q =
+      let o = at-other p (map testPart acc) (testPart s) (λ n. e (sym (length-map acc testPart) ∙ n)) in
+      record { part = rw (map-append testPart acc (s ∷ []), o) (q .part); inside = q .inside }
 
-    -- the plan bytes that are refused, and those that read
-    pub part-refused : (o : Outcome (List Placed)) (k i : ℕ) → o ≡ refused k i
-        → record { start = length bs; count = 0 } ≡ partOf curves tests bs (fetched curves tests p o)
-    unfolding fetched partOf
-    part-refused o k i e = rw e refl
+  -- the plan bytes that are refused
+  pub part-refused : (o : Outcome Contents) (k i : ℕ) → o ≡ refused k i → record { start = length bs; count = 0 } ≡ orEmpty bs (fetched bs p o)
+  unfolding fetched orEmpty
+  part-refused o k i e = rw e refl
 
-    pub part-read : (o : Outcome (List Placed)) (acc : List Placed) (start count : ℕ) → o ≡ done acc → PartIs bs p acc start count
-        → record { start = start; count = count } ≡ partOf curves tests bs (fetched curves tests p o)
+  -- those that read: the end step behind the steps acc, from offset i on
+  module _ (o : Outcome Contents) (acc : List Placed) (i end : ℕ) (e : o ≡ done (record { steps = acc; behind = i; end = end })) where
+    -- at another position, and where there is no end step, the steps decide
+    by-steps : partAt p (map testPart acc ++ endParts bs i end) ≡ partAt p (map testPart acc) → (start count : ℕ) → PartIs acc start count
+        → record { start = start; count = count } ≡ orEmpty bs (fetched bs p o)
     unfolding fetched
-    part-read o acc start count e q = rw e (sym (q .part))
+    by-steps h start count q = rw e (sym (ap (orEmpty bs) h ∙ q .part))
 
-    -- the counts come first
-    pub part-uncounted : (k i : ℕ) → countsKnown curves tests ≡ refused k i → record { start = length bs; count = 0 } ≡ stepPart curves tests bs p
-    unfolding stepPart
-    part-uncounted k i e = part-refused (planSteps curves tests bs) k i (counts-refused curves tests bs k i e)
+    pub part-no-end : (start count : ℕ) → end ≡ 0 → PartIs acc start count → record { start = start; count = count } ≡ orEmpty bs (fetched bs p o)
+    unfolding endParts
+    part-no-end start count z q = by-steps (rw (z, append-nil (map testPart acc)) refl) start count q
 
-    pub part-counted : countsKnown curves tests ≡ done tt
-        → partOf curves tests bs (fetched curves tests p (readPlanBytes curves tests bs)) ≡ stepPart curves tests bs p
-    unfolding stepPart
-    part-counted e = ap (λ (o : Outcome (List Placed)). partOf curves tests bs (fetched curves tests p o)) (sym (counts-passed curves tests bs e))
+    pub part-before : (start count : ℕ) → (length acc ≡ p → ⊥) → PartIs acc start count
+        → record { start = start; count = count } ≡ orEmpty bs (fetched bs p o)
+    part-before start count n q = by-steps (go end) start count q
+      where
+        go : (s : ℕ) → partAt p (map testPart acc ++ endParts bs i s) ≡ partAt p (map testPart acc)
+        go zero = unfold endParts in (ap (partAt p) (append-nil (map testPart acc)))
+        go (suc s) = unfold endParts in (at-other p (map testPart acc) _ (λ l. n (sym (length-map acc testPart) ∙ l)))
+
+    -- the end step itself
+    pub part-end : length acc ≡ p → (end ≡ 0 → ⊥) → record { start = i; count = length bs - i } ≡ orEmpty bs (fetched bs p o)
+    unfolding fetched
+    part-end n z = rw e (sym (go end z))
+      where
+        go : (s : ℕ) → (s ≡ 0 → ⊥) → orEmpty bs (partAt p (map testPart acc ++ endParts bs i s)) ≡ record { start = i; count = length bs - i }
+        go zero z = absurd (z refl)
+        go (suc s) z = unfold endParts orEmpty in (rw (at-here p (map testPart acc) [] _ (length-map acc testPart ∙ n)) refl)
+
+-- the counts come first
+module _ (curves tests : ℕ) (bs : List ℕ) (p : ℕ) where
+  pub part-uncounted : (k i : ℕ) → countsKnown curves tests ≡ refused k i → record { start = length bs; count = 0 } ≡ stepPart curves tests bs p
+  unfolding stepPart
+  part-uncounted k i e = part-refused bs p (planSteps curves tests bs) k i (counts-refused curves tests bs k i e)
+
+  pub part-counted : countsKnown curves tests ≡ done tt → orEmpty bs (fetched bs p (readPlanBytes curves tests bs)) ≡ stepPart curves tests bs p
+  unfolding stepPart
+  part-counted e = ap (λ (o : Outcome Contents). orEmpty bs (fetched bs p o)) (sym (counts-passed curves tests bs e))

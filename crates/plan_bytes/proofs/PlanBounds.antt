@@ -1,21 +1,23 @@
--- The bounds of plan bytes: a step takes at most 20 of them. So no figure of a refusal, which is always 11, is larger than 20 for each test, and bytes behind
--- the next one never change the answer.
+-- The bounds of plan bytes: a step takes at most 20 of them, and the end step 10. So no figure of a refusal, which is always 11, is larger than 20 for each
+-- test and 10, and bytes behind the next one never change the answer.
 use mathlib.Core.Path.{_≡_, refl, sym, ap, _∙_}
 use mathlib.Core.List.{List, [], _∷_, _++_}
 use Prim.Native.Nat.{ℕ, zero, suc, _+_, _*_, _≤_, _<_}
 use native.Mathlib.Omega.{arith}
-use native.Mathlib.Decide.{decLe}
-use lib.ListN.{length, take, drop, length-take, take-append-drop}
+use native.Mathlib.Decide.{decLe, ℕ-discrete}
+use lib.Dec.{eqb}
+use lib.ListN.{length, getD, take, drop, length-take, take-append-drop}
 use lib.Seq.{take-all}
-use Rattle.job.specs.Refusal.{Outcome, done, refused, _>>=_, _>>_}
-use Rattle.job.proofs.Laws.{refused≢done}
+use Rattle.job.specs.Refusal.{Outcome, done, refused, _>>=_, _>>_, demand}
+use Rattle.job.proofs.Laws.{refused≢done, refused-same}
 use Rattle.bitset.specs.Set.{_∪_, bit}
 use Rattle.job.proofs.Refuses.{Refuses, refuses-demand, refuses-both, refuses-bind}
 use Rattle.job_bytes.specs.SetBytes.{Got, byteAt, readGroup, readGroups}
 use Rattle.job_bytes.specs.JobBytes.{atEnd}
 use Rattle.job_bytes.proofs.Spans.{Spans, span-done, span-refused, span-bind, span-test, span-stop, span-longer, byte-span, groups-span}
 use Rattle.job_bytes.proofs.Behind.{Same, value, fault, same-then, same-test, byte-same, groups-same}
-use Rattle.plan_bytes.specs.PlanBytes.{Placed, readSet, readStep, readSteps, readPlanBytes, planSteps}
+use Rattle.plan_bytes.specs.PlanBytes.{Placed, Contents, readSet, readStep, readSteps, readEnd, readPlanBytes, planSteps}
+use Rattle.plan_bytes.proofs.Reading.{no-end, end-other-map, end-set}
 
 module _ (curves tests : ℕ) where
   -- ---- how large a figure
@@ -41,20 +43,47 @@ module _ (curves tests : ℕ) where
     steps-span zero ss i l = span-stop i bs ss l
     steps-span (suc k) ss i l = span-longer (omega arith) (span-bind 20 (20 * k) _ (step-span i l) (λ s n a m. steps-span k (ss ++ (s ∷ [])) n m))
 
-  -- A FIGURE IS AT MOST 20 FOR EACH TEST
-  pub plan-figure : (bs : List ℕ) (k f : ℕ) → readPlanBytes curves tests bs ≡ refused k f → f ≤ 20 * tests
-  unfolding readPlanBytes atEnd _>>=_ _>>_
+  -- behind a set nothing stands
+  set-figure : (bs : List ℕ) (w i k f : ℕ) (o : Outcome (Got ℕ)) → Spans w i bs o
+      → _>>=_ o (λ s. _>>_ (atEnd 11 (s .next) (s .rest)) (done (s .value))) ≡ refused k f → f ≤ i + w
+  unfolding atEnd _>>=_ _>>_
+  set-figure bs w i k f (done g) s e = go (g .rest) e
+    where
+      go : (rest : List ℕ) → _>>_ (atEnd 11 (g .next) rest) (done (g .value)) ≡ refused k f → f ≤ i + w
+      go [] e = absurd (refused≢done (sym e))
+      go (b ∷ rest) e = let q : f ≡ g .next = cc in omega (arith, span-done s .most)
+  set-figure bs w i k f (refused n j) s e = let q : f ≡ j = cc in omega (arith, span-refused s .0)
+
+  end-figure : (bs : List ℕ) (i k f : ℕ) → readEnd curves tests i (drop i bs) ≡ refused k f → f ≤ i + 10
+  end-figure bs i k f e = go (decLe (length bs) i) (ℕ-discrete (getD bs i 0) 1)
+    where
+      go : Dec (length bs ≤ i) → Dec (getD bs i 0 ≡ 1) → f ≤ i + 10
+      go (yes h) d = absurd (refused≢done (sym e ∙ no-end curves tests i bs h))
+      go (no h) (no d) = omega (arith, refused-same (sym e ∙ end-other-map curves tests i bs (omega arith) d))
+      go (no h) (yes d) =
+          omega (
+            arith,
+            set-figure bs 9 (i + 1) k f _ (set-span bs 1 (i + 1) (omega arith)) (sym (end-set curves tests i bs (omega arith) d) ∙ e),
+          )
+
+  -- A FIGURE IS AT MOST 20 FOR EACH TEST, AND 10
+  pub plan-figure : (bs : List ℕ) (k f : ℕ) → readPlanBytes curves tests bs ≡ refused k f → f ≤ 20 * tests + 10
+  unfolding readPlanBytes _>>=_
   plan-figure bs k f e = go (readSteps curves tests tests [] 0 bs) (steps-span bs tests [] 0 (omega arith)) e
     where
-      end : (g : Got (List Placed)) (rest : List ℕ) → g .next ≤ 20 * tests → _>>_ (atEnd 11 (g .next) rest) (done (g .value)) ≡ refused k f → f ≤ 20 * tests
-      end g [] l e = absurd (refused≢done (sym e))
-      end g (b ∷ rest) l e =
-          let q : f ≡ g .next = cc in
-          omega arith
+      end : (ss : List Placed) (i : ℕ) (o : Outcome ℕ) → readEnd curves tests i (drop i bs) ≡ o → i ≤ 20 * tests
+          → _>>=_ {B = Contents} o (λ end. done (record { steps = ss; behind = i; end = end })) ≡ refused k f → f ≤ 20 * tests + 10
+      end ss i (done s) r l e = absurd (refused≢done (sym e))
+      end ss i (refused n j) r l e = let q : f ≡ j = cc in omega (arith, end-figure bs i n j r)
 
-      go : (o : Outcome (Got (List Placed))) → Spans (20 * tests) 0 bs o → _>>=_ o (λ r. _>>_ (atEnd 11 (r .next) (r .rest)) (done (r .value))) ≡ refused k f
-          → f ≤ 20 * tests
-      go (done g) s e = end g (g .rest) (omega (arith, span-done s .most)) e
+      go : (o : Outcome (Got (List Placed))) → Spans (20 * tests) 0 bs o
+          → _>>=_ {B = Contents} o
+          (λ r. _>>=_ (readEnd curves tests (r .next) (r .rest)) (λ end. done (record { steps = r .value; behind = r .next; end = end })))
+          ≡ refused k f
+          → f ≤ 20 * tests + 10
+      go (done g) s e =
+          let b = span-done s in
+          end (g .value) (g .next) _ (ap (readEnd curves tests (g .next)) (sym (b .behind))) (omega (arith, b .most)) e
       go (refused n i) s e =
           let q : f ≡ i = cc in
           omega (arith, span-refused s .0)
@@ -108,10 +137,18 @@ module _ (curves tests : ℕ) where
   end-eleven i [] = tt
   end-eleven i (b ∷ bs) = refl
 
+  behind-eleven : (i : ℕ) (bs : List ℕ) → Refuses Eleven (readEnd curves tests i bs)
+  unfolding readEnd
+  behind-eleven i [] = tt
+  behind-eleven i (b ∷ bs) =
+      refuses-both Eleven _ _ (refuses-demand Eleven _ 11 i refl)
+      (refuses-bind Eleven _ _ (set-eleven 1 (suc i) bs) (λ s e. refuses-both Eleven _ _ (end-eleven (s .next) (s .rest)) tt))
+
   -- PLAN BYTES ARE REFUSED BY 11 ONLY
   pub plan-eleven : (bs : List ℕ) → Refuses (λ k i. k ≡ 11) (readPlanBytes curves tests bs)
   unfolding readPlanBytes
-  plan-eleven bs = refuses-bind Eleven _ _ (steps-eleven tests [] 0 bs) (λ r e. refuses-both Eleven _ _ (end-eleven (r .next) (r .rest)) tt)
+  plan-eleven bs =
+      refuses-bind Eleven _ _ (steps-eleven tests [] 0 bs) (λ r e. refuses-bind Eleven _ _ (behind-eleven (r .next) (r .rest)) (λ end e. tt))
 
   -- ---- bytes behind
 
@@ -141,21 +178,34 @@ module _ (curves tests : ℕ) where
     steps-same (suc k) ss i m xs l =
         same-then ys (20 * k + m) m _ (step-same i (20 * k + m) xs (omega arith)) (λ s n xs l. steps-same k (ss ++ (s ∷ [])) n m xs l)
 
-    -- with a byte left behind the steps in both, both are refused there
-    end-same : {o q : Outcome (Got (List Placed))} → Same ys 1 o q
-        → _≡_ {A = Outcome (List Placed)} (_>>=_ q (λ r. _>>_ (atEnd 11 (r .next) (r .rest)) (done (r .value))))
-        (_>>=_ o (λ r. _>>_ (atEnd 11 (r .next) (r .rest)) (done (r .value))))
+    -- with a byte left behind the end step in both, both are refused there
+    set-end : {o q : Outcome (Got ℕ)} → Same ys 1 o q
+        → _≡_ {A = Outcome ℕ} (_>>=_ q (λ s. _>>_ (atEnd 11 (s .next) (s .rest)) (done (s .value))))
+        (_>>=_ o (λ s. _>>_ (atEnd 11 (s .next) (s .rest)) (done (s .value))))
     unfolding _>>=_ _>>_ atEnd
-    end-same (value a n [] l) = absurd (omega arith)
-    end-same (value a n (x ∷ xs) l) = refl
-    end-same (fault k f) = refl
+    set-end (value a n [] l) = absurd (omega arith)
+    set-end (value a n (x ∷ xs) l) = refl
+    set-end (fault k f) = refl
 
-    behind-same : (xs : List ℕ) → 20 * tests < length xs → readPlanBytes curves tests (xs ++ ys) ≡ readPlanBytes curves tests xs
+    end-same : (i : ℕ) (xs : List ℕ) → 11 ≤ length xs → readEnd curves tests i (xs ++ ys) ≡ readEnd curves tests i xs
+    unfolding readEnd
+    end-same i [] l = absurd (omega arith)
+    end-same i (x ∷ xs) l = ap (_>>_ (demand (eqb x 1) 11 i)) (set-end (set-same 1 (suc i) 1 xs (omega arith)))
+
+    contents-same : {o q : Outcome (Got (List Placed))} → Same ys 11 o q
+        → _≡_ {A = Outcome Contents}
+        (_>>=_ q (λ r. _>>=_ (readEnd curves tests (r .next) (r .rest)) (λ end. done (record { steps = r .value; behind = r .next; end = end }))))
+        (_>>=_ o (λ r. _>>=_ (readEnd curves tests (r .next) (r .rest)) (λ end. done (record { steps = r .value; behind = r .next; end = end }))))
+    unfolding _>>=_
+    contents-same (value a n xs l) = rw (end-same n xs l) refl
+    contents-same (fault k f) = refl
+
+    behind-same : (xs : List ℕ) → 20 * tests + 10 < length xs → readPlanBytes curves tests (xs ++ ys) ≡ readPlanBytes curves tests xs
     unfolding readPlanBytes
-    behind-same xs l = end-same (steps-same tests [] 0 1 xs (omega arith))
+    behind-same xs l = contents-same (steps-same tests [] 0 11 xs (omega arith))
 
   -- BYTES BEHIND THE NEXT ONE NEVER CHANGE THE ANSWER
-  pub prefix-plan : (n : ℕ) (bs : List ℕ) → 20 * tests < n → planSteps curves tests (take n bs) ≡ planSteps curves tests bs
+  pub prefix-plan : (n : ℕ) (bs : List ℕ) → 20 * tests + 10 < n → planSteps curves tests (take n bs) ≡ planSteps curves tests bs
   unfolding planSteps
   prefix-plan n bs l = ap (_>>_ _) (go (decLe (length bs) n))
     where

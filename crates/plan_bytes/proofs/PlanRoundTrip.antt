@@ -4,10 +4,10 @@ use mathlib.Core.Bool.{_&&_}
 use mathlib.Core.List.{List, [], _∷_, _++_, map, append-assoc, append-nil}
 use Prim.Native.Nat.{ℕ, zero, suc, _+_, _-_, _*_, _/_, _%_, _^_, _≤_, _<_}
 use native.Mathlib.Omega.{arith}
-use lib.Dec.{leb, ltb}
+use lib.Dec.{leb, ltb, eqb}
 use lib.Pow.{pow-add, pow-mono}
 use lib.ListN.{length, length-append}
-use borrow.Author.Tests.{ltb-true, leb-true, lt-ltb, le-leb}
+use borrow.Author.Tests.{ltb-true, leb-true, eqb-true, lt-ltb, le-leb}
 use Rattle.bitset.specs.Set.{bit}
 use Rattle.bitset.proofs.Bits.{bit-zero, bit-suc}
 use Rattle.job.specs.Refusal.{done, refused, _>>=_, _>>_, demand, room}
@@ -23,14 +23,15 @@ use Rattle.job.proofs.JobExact.{inside-below}
 use Rattle.job.specs.Words.{Job, capacity, count}
 use Rattle.job.proofs.Orders.{one-same, order-length}
 use Rattle.drive.specs.Steps.{moves}
-use Rattle.drive.proofs.CheckExact.{AllKept, first-kept, moved-≼}
-use Rattle.planning.specs.Plan.{Plan, steps, inOrder}
-use Rattle.planning.specs.Planning.{checking}
+use Rattle.drive.proofs.CheckExact.{AllKept, first-kept, moved-≼, held-≼}
+use Rattle.planning.specs.Plan.{Plan, heldAtEnd, steps, inOrder}
+use Rattle.planning.specs.Planning.{planSets, checking}
 use Rattle.planning.proofs.CheckExact.{Passes, passed}
-use Rattle.plan_bytes.specs.PlanBytes.{setField, stepBytes, stepsBytes, planBytes, Placed, testsOf, planIn, readSet, readStep, readSteps, readPlanBytes}
-use Rattle.plan_bytes.specs.PlanBytes.{planSteps, writePlan}
+use Rattle.plan_bytes.specs.PlanBytes.{setField, stepBytes, stepsBytes, endBytes, planBytes, Placed, Contents, testsOf, planIn, readSet, readStep}
+use Rattle.plan_bytes.specs.PlanBytes.{readSteps, readEnd, readPlanBytes, planSteps, writePlan}
 use Rattle.job_bytes.proofs.Encoding.{stands-le}
-use Rattle.plan_bytes.proofs.Writing.{one}
+use Rattle.plan_bytes.proofs.Writing.{one, listBytes}
+use Rattle.plan_bytes.proofs.Steps.{bytes-read}
 
 -- ---- a set that is not empty has a group map that is not zero
 
@@ -115,7 +116,7 @@ module _ (curves tests : ℕ) (few : curves ≤ 64) where
   InRange (t ∷ ts) (d ∷ ds) (l ∷ ls) = (t < tests) × (d < 2 ^ curves) × (l < 2 ^ curves) × InRange ts ds ls
 
   steps-back : (acc : List Placed) (i : ℕ) (ts ds ls rest : List ℕ) → InRange ts ds ls
-      → readSteps curves tests (length ts) acc i (planBytes ts ds ls ++ rest) ≡ done (got (acc ++ stepsOf i ts ds ls) (i + length (planBytes ts ds ls)) rest)
+      → readSteps curves tests (length ts) acc i (listBytes ts ds ls ++ rest) ≡ done (got (acc ++ stepsOf i ts ds ls) (i + length (listBytes ts ds ls)) rest)
   unfolding readSteps stepsBytes steps stepsOf _>>=_
   steps-back acc i [] [] [] rest r = let n : i ≡ i + 0 = omega arith in rw (append-nil acc, ← n) refl
   steps-back acc i [] [] (l ∷ ls) rest r = absurd r
@@ -123,9 +124,9 @@ module _ (curves tests : ℕ) (few : curves ≤ 64) where
   steps-back acc i (t ∷ ts) [] ls rest r = absurd r
   steps-back acc i (t ∷ ts) (d ∷ ds) [] rest r = absurd r
   steps-back acc i (t ∷ ts) (d ∷ ds) (l ∷ ls) rest r =
-      let n : i + length (stepBytes (one t d l)) + length (planBytes ts ds ls) ≡ i + length (stepBytes (one t d l) ++ planBytes ts ds ls) =
+      let n : i + length (stepBytes (one t d l)) + length (listBytes ts ds ls) ≡ i + length (stepBytes (one t d l) ++ listBytes ts ds ls) =
       simp length-append (omega arith) in
-      rw (append-assoc (stepBytes (one t d l)) (planBytes ts ds ls) rest, step-back i t d l (planBytes ts ds ls ++ rest) (r .0) (r .1) (r .2))
+      rw (append-assoc (stepBytes (one t d l)) (listBytes ts ds ls) rest, step-back i t d l (listBytes ts ds ls ++ rest) (r .0) (r .1) (r .2))
       (steps-back (acc ++ (stepOf i t d l ∷ [])) (i + length (stepBytes (one t d l))) ts ds ls rest (r .3)
       ∙ rw (n, append-assoc acc (stepOf i t d l ∷ []) (stepsOf (i + length (stepBytes (one t d l))) ts ds ls)) refl)
 
@@ -156,15 +157,34 @@ module _ (curves tests : ℕ) (few : curves ≤ 64) where
   of-loads i (t ∷ ts) (d ∷ ds) [] r = absurd r
   of-loads i (t ∷ ts) (d ∷ ds) (l ∷ ls) r = ap {B = List ℕ} (λ x. l ∷ x) (of-loads _ ts ds ls (r .3))
 
-  bytes-back : (ts ds ls : List ℕ) → length ts ≡ tests → InRange ts ds ls → readPlanBytes curves tests (planBytes ts ds ls) ≡ done (stepsOf 0 ts ds ls)
-  unfolding readPlanBytes atEnd _>>=_ _>>_
-  bytes-back ts ds ls n r =
-      let s = steps-back [] 0 ts ds ls [] r in
-      let w : readSteps curves tests tests [] 0 (planBytes ts ds ls) ≡ done (got (stepsOf 0 ts ds ls) (0 + length (planBytes ts ds ls)) []) =
-      subst (λ (m : ℕ). readSteps curves tests m [] 0 (planBytes ts ds ls) ≡ done (got (stepsOf 0 ts ds ls) (0 + length (planBytes ts ds ls)) [])) n
-      (subst (λ (bs : List ℕ). readSteps curves tests (length ts) [] 0 bs ≡ done (got (stepsOf 0 ts ds ls) (0 + length (planBytes ts ds ls)) []))
-      (append-nil (planBytes ts ds ls)) s) in
-      rw w refl
+  end-back : (i s : ℕ) → s < 2 ^ curves → readEnd curves tests i (endBytes s) ≡ done s
+  unfolding readEnd endBytes demand atEnd _>>=_ _>>_
+  end-back i zero h = refl
+  end-back i (suc s) h = rw set-there refl
+    where
+      set-there : readSet curves tests 1 (suc i) (setBytes (suc s)) ≡ done (got (suc s) (suc i + length (setBytes (suc s))) [])
+      set-there =
+          subst (λ (bs : List ℕ). readSet curves tests 1 (suc i) bs ≡ done (got (suc s) (suc i + length (setBytes (suc s))) []))
+          (append-nil (setBytes (suc s))) (unfold stands setField in (field-back (suc i) (suc s) [] h))
+
+  -- what is read of the bytes of a plan
+  abbrev contentsOf : List ℕ → Plan → Contents
+  contentsOf ts p =
+      record {
+        steps = stepsOf 0 ts (p .drops) (p .loads);
+        behind = 0 + length (listBytes ts (p .drops) (p .loads));
+        end = p .end;
+      }
+
+  bytes-back : (ts : List ℕ) (p : Plan) → length ts ≡ tests → InRange ts (p .drops) (p .loads) → p .end < 2 ^ curves
+      → readPlanBytes curves tests (planBytes ts p) ≡ done (contentsOf ts p)
+  unfolding readPlanBytes _>>=_
+  bytes-back ts p n r h =
+      let c = contentsOf ts p in
+      let w : readSteps curves tests tests [] 0 (planBytes ts p) ≡ done (got (c .steps) (c .behind) (endBytes (p .end))) =
+      subst (λ (m : ℕ). readSteps curves tests m [] 0 (planBytes ts p) ≡ done (got (c .steps) (c .behind) (endBytes (p .end)))) n
+      (steps-back [] 0 ts (p .drops) (p .loads) (endBytes (p .end)) r) in
+      rw (w, end-back (c .behind) (p .end) h) refl
 
 -- what passes the check is in range
 module _ (places curves : ℕ) (wants : List ℕ) where
@@ -195,24 +215,25 @@ module _ (places curves : ℕ) (wants : List ℕ) where
 
 -- A PLAN THAT IS WRITTEN READS BACK
 pub plan-back : (j : Job) (order : List ℕ) (p : Plan) (lent : ℕ) (bytes : List ℕ) → writePlan j order p lent ≡ done bytes
-    → (ss : List Placed) × (planSteps (j .rig .curves) (length (j .wants)) bytes ≡ done ss) × (testsOf ss ≡ order) × (planIn ss ≡ p)
+    → (c : Contents) × (planSteps (j .rig .curves) (length (j .wants)) bytes ≡ done c) × (testsOf c ≡ order) × (planIn c ≡ p)
 unfolding writePlan planSteps countsKnown someTests curvesKnown testsKnown between
 plan-back j order p lent bytes e =
     let curves = j .rig .curves in
     let tests = length (j .wants) in
     let a = bind-done (checking j order p) _ bytes e in
-    let b = both-done (room lent (length (planBytes order (p .drops) (p .loads)))) (done (planBytes order (p .drops) (p .loads))) bytes (a .2) in
+    let b = both-done (room lent (length (planBytes order p))) (done (planBytes order p)) bytes (a .2) in
     let ok : Passes j order p = passed j order p (a .0) (a .1) in
     let few = ok .is-job .curves-bounds .1 in
     let long = order-length tests order (ok .is-order) in
     let r : InRange curves tests few order (p .drops) (p .loads) =
     in-range (capacity (j .rig)) curves (j .wants) few 0 order (p .drops) (p .loads) (ok .drop-sets ∙ sym long) (ok .load-sets ∙ sym long)
     (empty-≼ (allCurves curves)) (ok .is-order .only) (ok .steps) in
-    let ss = stepsOf curves tests few 0 order (p .drops) (p .loads) in (
-      ss,
+    let held : p .end < 2 ^ curves =
+    rw (ok .ends) (below (capacity (j .rig)) curves (j .wants) (heldAtEnd (planSets j order p)) (held-≼ (empty-≼ (allCurves curves)) (ok .steps))) in (
+      contentsOf curves tests few order p,
       done-both _ _ (counts-done curves tests (ok .is-job .curves-bounds) (ok .is-job .tests-bounds))
           ∙ ap (readPlanBytes curves tests) (sym (done-same (b .1)))
-          ∙ bytes-back curves tests few order (p .drops) (p .loads) long r,
+          ∙ bytes-back curves tests few order p long r held,
       of-tests curves tests few 0 order (p .drops) (p .loads) r,
       rw (of-drops curves tests few 0 order (p .drops) (p .loads) r, of-loads curves tests few 0 order (p .drops) (p .loads) r) refl,
     )
@@ -292,10 +313,14 @@ module _ (curves tests : ℕ) where
           let tb : Bytes (t ∷ rest) = subst Bytes q tl in
           subst (StepRead (M ∷ bs)) (done-same (b .1)) (record { bytes = step-bytes M t bs rest ds ls lo hi D L q; tail = tb .1 })
 
+  -- the bytes of some steps
+  abbrev bytesOf : List Placed → List ℕ
+  bytesOf ss = listBytes (map (λ s. s .step .test) ss) (map (λ s. s .step .drops) ss) (map (λ s. s .step .loads) ss)
+
   record StepsRead (k : ℕ) (acc : List Placed) (bs : List ℕ) (g : Got (List Placed)) : Type 0 where
     steps : List Placed
     value : g .value ≡ acc ++ steps
-    bytes : bs ≡ planBytes (map (λ s. s .step .test) steps) (map (λ s. s .step .drops) steps) (map (λ s. s .step .loads) steps) ++ g .rest
+    bytes : bs ≡ bytesOf steps ++ g .rest
     tail : Bytes (g .rest)
 
   steps-read : (k : ℕ) (acc : List Placed) (i : ℕ) (bs : List ℕ) (g : Got (List Placed)) → Bytes bs → readSteps curves tests k acc i bs ≡ done g
@@ -310,33 +335,48 @@ module _ (curves tests : ℕ) where
         steps = x .0 .value ∷ r .steps;
         value = r .value ∙ append-assoc acc (x .0 .value ∷ []) (r .steps);
         bytes = s .bytes ∙ ap (λ (l : List ℕ). stepBytes (x .0 .value .step) ++ l) (r .bytes)
-            ∙ sym (append-assoc (stepBytes (x .0 .value .step))
-            (planBytes (map (λ s. s .step .test) (r .steps)) (map (λ s. s .step .drops) (r .steps)) (map (λ s. s .step .loads) (r .steps))) (g .rest));
+            ∙ sym (append-assoc (stepBytes (x .0 .value .step)) (bytesOf (r .steps)) (g .rest));
         tail = r .tail;
       }
 
+  -- what stands behind the steps are bytes
+  pub steps-read-tail : (bs : List ℕ) (c : Contents) → Bytes bs → (rest : List ℕ)
+      → readSteps curves tests tests [] 0 bs ≡ done (got (c .steps) (c .behind) rest) → Bytes rest
+  steps-read-tail bs c all rest e = steps-read tests [] 0 bs _ all e .tail
+
+  -- an end step that was read is the one that is written for its set
+  some-end : (v : ℕ) → 1 ≡ stands v → 1 ∷ setField v ≡ endBytes v
+  unfolding stands setField endBytes
+  some-end zero e = absurd (omega arith)
+  some-end (suc v) e = refl
+
+  pub end-read : (i : ℕ) (bs : List ℕ) (s : ℕ) → Bytes bs → readEnd curves tests i bs ≡ done s → bs ≡ endBytes s
+  unfolding readEnd
+  end-read i [] s all e = let z : 0 ≡ s = done-same e in rw (← z) (unfold endBytes in refl)
+  end-read i (b ∷ bs) s all e =
+      let a = both-done (demand (eqb b 1) 11 i) _ s e in
+      let g = bind-done (readSet curves tests 1 (suc i) bs) _ s (a .1) in
+      let z = both-done (atEnd 11 (g .0 .next) (g .0 .rest)) (done (g .0 .value)) s (g .2) in
+      let F : FieldRead 1 bs (g .0) = field-read 1 (suc i) bs (g .0) (omega arith) (all .1) (g .1) in
+      let none : g .0 .rest ≡ [] = end-none 11 (g .0 .next) (g .0 .rest) (z .0) in
+      let v = g .0 .value in
+      let set : bs ≡ setField v = F .bytes ∙ ap (λ (l : List ℕ). setField v ++ l) none ∙ append-nil (setField v) in
+      let map : b ≡ 1 = eqb-true b 1 (demand-true _ 11 i (a .0)) in
+      rw (map, set) (some-end v (F .bit-stands) ∙ ap endBytes (done-same (z .1)))
+
   -- BYTES THAT READ AS A PLAN are those that are written for it
-  pub plan-bytes-read : (bs : List ℕ) (ss : List Placed) → Bytes bs → readPlanBytes curves tests bs ≡ done ss
-      → planBytes (map (λ s. s .step .test) ss) (map (λ s. s .step .drops) ss) (map (λ s. s .step .loads) ss) ≡ bs
-  unfolding readPlanBytes
-  plan-bytes-read bs ss all e =
-      let x = bind-done (readSteps curves tests tests [] 0 bs) _ ss e in
-      let r : StepsRead tests [] bs (x .0) = steps-read tests [] 0 bs (x .0) all (x .1) in
-      let z = both-done (atEnd 11 (x .0 .next) (x .0 .rest)) (done (x .0 .value)) ss (x .2) in
-      found (r .steps) (x .0 .rest) (sym (r .value) ∙ done-same (z .1)) (r .bytes) (end-none 11 (x .0 .next) (x .0 .rest) (z .0))
-    where
-      found : (ts : List Placed) (rest : List ℕ) → ts ≡ ss
-          → bs ≡ planBytes (map (λ s. s .step .test) ts) (map (λ s. s .step .drops) ts) (map (λ s. s .step .loads) ts) ++ rest → rest ≡ []
-          → planBytes (map (λ s. s .step .test) ss) (map (λ s. s .step .drops) ss) (map (λ s. s .step .loads) ss) ≡ bs
-      found ts rest q b n =
-          subst (λ (us : List Placed). planBytes (map (λ s. s .step .test) us) (map (λ s. s .step .drops) us) (map (λ s. s .step .loads) us) ≡ bs) q
-          (sym (b ∙ ap (λ (l : List ℕ). planBytes (map (λ s. s .step .test) ts) (map (λ s. s .step .drops) ts) (map (λ s. s .step .loads) ts) ++ l) n
-          ∙ append-nil _))
+  pub plan-bytes-read : (bs : List ℕ) (c : Contents) → Bytes bs → readPlanBytes curves tests bs ≡ done c → planBytes (testsOf c) (planIn c) ≡ bs
+  plan-bytes-read bs c all e =
+      let r = bytes-read curves tests bs c e in
+      let S : StepsRead tests [] bs (got (c .steps) (c .behind) (r .rest)) = steps-read tests [] 0 bs _ all (r .steps) in
+      let E = end-read (c .behind) (r .rest) (c .end) (S .tail) (r .end) in
+      sym (S .bytes ∙ ap (λ (l : List ℕ). bytesOf (S .steps) ++ l) E
+      ∙ ap (λ (ss : List Placed). bytesOf ss ++ endBytes (c .end)) (sym (S .value)))
 
 -- .. so a plan that reads and passes the check is written as the bytes that it was read from
-pub plan-read : (j : Job) (bs : List ℕ) (ss : List Placed) → Bytes bs → planSteps (j .rig .curves) (length (j .wants)) bs ≡ done ss
-    → (n : ℕ) → checking j (testsOf ss) (planIn ss) ≡ done n → writePlan j (testsOf ss) (planIn ss) (length bs) ≡ done bs
+pub plan-read : (j : Job) (bs : List ℕ) (c : Contents) → Bytes bs → planSteps (j .rig .curves) (length (j .wants)) bs ≡ done c
+    → (n : ℕ) → checking j (testsOf c) (planIn c) ≡ done n → writePlan j (testsOf c) (planIn c) (length bs) ≡ done bs
 unfolding writePlan planSteps _>>=_
-plan-read j bs ss all e n c =
-    let s = plan-bytes-read (j .rig .curves) (length (j .wants)) bs ss all (both-done (countsKnown (j .rig .curves) (length (j .wants))) _ ss e .1) in
-    rw c (done-both _ _ (done-room (length bs) _ (omega (arith, ap length s))) ∙ ap done s)
+plan-read j bs c all e n ok =
+    let s = plan-bytes-read (j .rig .curves) (length (j .wants)) bs c all (both-done (countsKnown (j .rig .curves) (length (j .wants))) _ c e .1) in
+    rw ok (done-both _ _ (done-room (length bs) _ (omega (arith, ap length s))) ∙ ap done s)

@@ -4,21 +4,26 @@ use mathlib.Core.List.{List}
 use Prim.Native.Nat.{ℕ, zero, suc, _+_, _-_, _%_, _≤_, _<_}
 use native.Mathlib.Omega.{arith}
 use native.Mathlib.Nat.{zero-add}
-use lib.ListN.{length, getD, drop}
-use borrow.Author.Tests.{lt-ltb, le-ltb, le-leb, lt-leb}
+use native.Mathlib.Numerals.{add-one}
+use lib.ListN.{length, getD, drop, drop-of-length-le}
+use lib.Seq.{drop-cons}
+use borrow.Author.Tests.{lt-ltb, le-ltb, le-leb, lt-leb, eq-eqb, ne-eqb}
 use Rattle.bitset.specs.Set.{_∪_, bit}
 use Rattle.bitset.proofs.Bits.{bit-zero}
 use Rattle.job_bytes.specs.declared.set_bytes.GroupRead.{GroupRead}
 use Rattle.job_bytes.specs.declared.set_bytes.GroupRead.the-variants.{Curves, Owed, Empty, Unknown}
-use Rattle.job.specs.Refusal.{Outcome, done, refused, _>>=_, _>>_, demand}
+use Rattle.job.specs.declared.Refusal.{Refusal}
+use Rattle.job.specs.Refusal.{Outcome, done, refused, number, figure, _>>=_, _>>_, demand}
 use Rattle.job.specs.Handed.{between}
 use Rattle.job_bytes.specs.SetBytes.{Got, got, byteAt, readGroups}
+use Rattle.job_bytes.specs.JobBytes.{atEnd}
 use Rattle.job_bytes.proofs.Turns.{byte-here, byte-owed}
 use Rattle.job_bytes.proofs.GroupByte.{Answers, answer-owed, answer-empty, answer-unknown, answer-curves}
 use Rattle.plan_bytes.specs.declared.SetRead.{SetRead}
 use Rattle.plan_bytes.specs.declared.StepRead.{StepRead}
-use Rattle.plan_bytes.specs.PlanBytes.{Placed, readSet, readStep}
-use Rattle.plan_bytes.specs.Contracts.{setOutcome, stepOutcome}
+use Rattle.plan_bytes.specs.declared.EndRead.{EndRead}
+use Rattle.plan_bytes.specs.PlanBytes.{Placed, readSet, readStep, readEnd}
+use Rattle.plan_bytes.specs.Contracts.{setOutcome, stepOutcome, endOutcome}
 
 -- ---- one group: j is the next, the groups before it gave the set s
 module _ (curves map s k j : ℕ) (bs : List ℕ) (few : curves ≤ 64) (below : j < 8) where
@@ -138,3 +143,47 @@ module _ (curves tests k : ℕ) (bs : List ℕ) where
                 byte-read m bs h,
                 lt-ltb (getD bs m 0) tests t,
               ) refl
+
+-- ---- what stands behind the last test, at position k
+module _ (curves tests k : ℕ) (bs : List ℕ) where
+  abbrev behind : Outcome ℕ
+  behind = readEnd curves tests k (drop k bs)
+
+  pub no-end : length bs ≤ k → behind ≡ done 0
+  unfolding readEnd
+  no-end h = rw (drop-of-length-le bs h) refl
+
+  module _ (there : k < length bs) where
+    pub end-other-map : (getD bs k 0 ≡ 1 → ⊥) → behind ≡ refused 11 k
+    unfolding readEnd _>>_ demand
+    end-other-map h = rw (drop-cons bs k 0 there, ne-eqb (getD bs k 0) 1 h) refl
+
+    module _ (map : getD bs k 0 ≡ 1) where
+      -- a set, and nothing behind it
+      pub end-set : behind
+          ≡ _>>=_ (readSet curves tests 1 (k + 1) (drop (k + 1) bs)) (λ s. _>>_ (atEnd 11 (s .next) (s .rest)) (done (s .value)))
+      unfolding readEnd _>>_ demand
+      end-set = rw (add-one k, drop-cons bs k 0 there, eq-eqb (getD bs k 0) 1 map) refl
+
+      pub end-faulty : (i : ℕ) → readSet curves tests 1 (k + 1) (drop (k + 1) bs) ≡ refused 11 i → behind ≡ refused 11 i
+      unfolding _>>=_
+      end-faulty i e = end-set ∙ rw e refl
+
+      module _ (s n : ℕ) (e : readSet curves tests 1 (k + 1) (drop (k + 1) bs) ≡ done (got s n (drop n bs))) where
+        pub end-surplus : n < length bs → behind ≡ refused 11 n
+        unfolding _>>=_ _>>_ atEnd
+        end-surplus h = end-set ∙ rw (e, drop-cons bs n 0 h) refl
+
+        pub end-whole : length bs ≤ n → behind ≡ done s
+        unfolding _>>=_ _>>_ atEnd
+        end-whole h = end-set ∙ rw (e, drop-of-length-le bs h) refl
+
+-- ---- what the answer of its reader says
+module _ (r : EndRead) (o : Outcome ℕ) (e : endOutcome r ≡ o) where
+  pub end-answered : (s : ℕ) → r ≡ EndRead.End s → o ≡ done s
+  unfolding endOutcome
+  end-answered s p = sym e ∙ rw p refl
+
+  pub end-refused : (x : Refusal) → r ≡ EndRead.Refused x → o ≡ refused (number x) (figure x)
+  unfolding endOutcome
+  end-refused x p = sym e ∙ rw p refl

@@ -2,31 +2,32 @@
 -- the plan bytes.
 use mathlib.Core.Path.{_≡_, refl, sym, ap, _∙_, subst}
 use mathlib.Core.List.{List, [], _∷_, _++_, map, append-assoc, append-nil}
-use Prim.Native.Nat.{ℕ, zero, suc, _+_, _-_, _≤_}
+use Prim.Native.Nat.{ℕ, zero, suc, _+_, _-_, _≤_, _<_}
 use native.Mathlib.Omega.{arith}
 use lib.Dec.{ltb}
-use lib.ListN.{length, drop, length-append}
+use lib.ListN.{length, getD, drop, length-append, length-map}
 use lib.Seq.{drop-drop, drop-at, take-at}
 use Rattle.bitset.specs.Set.{bit}
 use Rattle.job.specs.Refusal.{done, demand}
-use Rattle.lists.specs.Choice.{nobody, found}
 use Rattle.job.specs.Handed.{between, countsKnown}
 use Rattle.job_bytes.specs.SetBytes.{Got, got, byteAt}
-use Rattle.job_bytes.specs.JobBytes.{atEnd}
 use Rattle.job.proofs.Laws.{done-same, both-done, bind-done}
 use Rattle.job_bytes.proofs.SetRoundTrip.{Bytes}
+use Rattle.job_bytes.proofs.Encoding.{rest-is}
 use Rattle.planning.specs.Plan.{steps}
-use Rattle.plan_bytes.specs.PlanBytes.{Placed, stepBytes, stepsBytes, planBytes, readSet, readStep, readSteps, readPlanBytes, planSteps, placedAt}
-use Rattle.plan_bytes.specs.PlanBytes.{fetched, partOf, stepPart, inPart, stepAt}
+use Rattle.plan_bytes.specs.PlanBytes.{Placed, Contents, stepBytes, stepsBytes, endBytes, readSet, readStep, readSteps, readPlanBytes, planSteps}
+use Rattle.plan_bytes.specs.PlanBytes.{testPart, endParts, partsOf, partAt, fetched, orEmpty, stepPart, inPart, stepAt}
+use Rattle.plan_bytes.proofs.Writing.{listBytes}
+use Rattle.plan_bytes.proofs.Steps.{bytes-read}
 use Rattle.plan_bytes.proofs.ReadPlan.{plan-count}
-use Rattle.plan_bytes.proofs.Fetching.{step-within}
-use Rattle.plan_bytes.proofs.PlanRoundTrip.{StepRead, step-read, plan-bytes-read}
+use Rattle.plan_bytes.proofs.Fetching.{step-within, at-none}
+use Rattle.plan_bytes.proofs.PlanRoundTrip.{StepRead, step-read, steps-read-tail, end-read, plan-bytes-read}
 
--- the steps ss lie in the bytes bs, one behind the other, from offset i on
-abbrev Laid : List ℕ → ℕ → List Placed → Type 0
-Laid bs i [] = Unit {0}
-Laid bs i (s ∷ ss) =
-    (s .from ≡ i) × (s .until ≡ i + length (stepBytes (s .step))) × (drop i bs ≡ stepBytes (s .step) ++ drop (s .until) bs) × Laid bs (s .until) ss
+-- the steps ss lie in the bytes bs, one behind the other, from offset i to offset b
+abbrev Laid : List ℕ → ℕ → List Placed → ℕ → Type 0
+Laid bs i [] b = i ≡ b
+Laid bs i (s ∷ ss) b =
+    (s .from ≡ i) × (s .until ≡ i + length (stepBytes (s .step))) × (drop i bs ≡ stepBytes (s .step) ++ drop (s .until) bs) × Laid bs (s .until) ss b
 
 module _ (curves tests : ℕ) where
   -- a step that was read knows where it lies
@@ -47,13 +48,20 @@ module _ (curves tests : ℕ) where
     record LaidFrom (acc : List Placed) (i : ℕ) (g : Got (List Placed)) : Type 0 where
       ss : List Placed
       value : g .value ≡ acc ++ ss
-      laid : Laid bs i ss
+      laid : Laid bs i ss (g .next)
+      rest : g .rest ≡ drop (g .next) bs
 
     steps-laid : (k : ℕ) (acc : List Placed) (i : ℕ) (cs : List ℕ) (g : Got (List Placed)) → Bytes cs → cs ≡ drop i bs
         → i + length cs ≡ length bs → readSteps curves tests k acc i cs ≡ done g → LaidFrom acc i g
     unfolding readSteps
     steps-laid zero acc i cs g all p n e =
-        record { ss = []; value = sym (ap (λ (h : Got (List Placed)). h .value) (done-same e)) ∙ sym (append-nil acc); laid = tt }
+        let s : got acc i cs ≡ g = done-same e in
+        record {
+          ss = [];
+          value = sym (ap (λ (h : Got (List Placed)). h .value) s) ∙ sym (append-nil acc);
+          laid = ap (λ (h : Got (List Placed)). h .next) s;
+          rest = rw (← s) p;
+        }
     steps-laid (suc k) acc i cs g all p n e =
         let x = bind-done (readStep curves tests i cs) _ g e in
         let r : StepRead curves tests cs (x .0) = step-read curves tests i cs (x .0) all (x .1) in
@@ -73,35 +81,45 @@ module _ (curves tests : ℕ) where
             f .0,
             f .1 ∙ u,
             sym p ∙ r .bytes ∙ ap (λ (l : List ℕ). stepBytes (s .step) ++ l) (q ∙ ap (λ (m : ℕ). drop m bs) (sym (f .1))),
-            subst (λ (m : ℕ). Laid bs m (t .ss)) (sym (f .1)) (t .laid),
+            subst (λ (m : ℕ). Laid bs m (t .ss) (g .next)) (sym (f .1)) (t .laid),
           );
+          rest = t .rest;
         }
 
-    plan-laid : (ss : List Placed) → Bytes bs → readPlanBytes curves tests bs ≡ done ss → Laid bs 0 ss
-    unfolding readPlanBytes
-    plan-laid ss all e =
-        let x = bind-done (readSteps curves tests tests [] 0 bs) _ ss e in
-        let z = both-done (atEnd 11 (x .0 .next) (x .0 .rest)) (done (x .0 .value)) ss (x .2) in
-        let r : LaidFrom [] 0 (x .0) = steps-laid tests [] 0 bs (x .0) all refl (omega arith) (x .1) in
-        subst (Laid bs 0) (sym (r .value) ∙ done-same (z .1)) (r .laid)
+    plan-laid : (c : Contents) → Bytes bs → readPlanBytes curves tests bs ≡ done c
+        → Laid bs 0 (c .steps) (c .behind) × (drop (c .behind) bs ≡ endBytes (c .end))
+    plan-laid c all e =
+        let x = bytes-read curves tests bs c e in
+        let r : LaidFrom [] 0 (got (c .steps) (c .behind) (x .rest)) = steps-laid tests [] 0 bs _ all refl (omega arith) (x .steps) in
+        let b = steps-read-tail curves tests bs c all (x .rest) (x .steps) in (
+          subst (λ (ss : List Placed). Laid bs 0 ss (c .behind)) (sym (r .value)) (r .laid),
+          sym (r .rest) ∙ end-read curves tests (c .behind) (x .rest) (c .end) b (x .end),
+        )
 
-    -- ---- the part of a step
-    abbrev partAt : ℕ → List Placed → List ℕ
-    partAt p ss = inPart bs (partOf curves tests bs (placedAt curves tests p ss))
+-- ---- the part at a position
+module _ (bs : List ℕ) where
+  part-is : (i b : ℕ) (s : Placed) (ss : List Placed) → Laid bs i (s ∷ ss) b → inPart bs (testPart s) ≡ stepBytes (s .step)
+  part-is i b s ss l =
+      let n : length (stepBytes (s .step)) ≡ s .until - s .from = omega (arith, l .0, l .1) in
+      rw (l .0) (rw (l .2, ← (ap (λ (m : ℕ). s .until - m) (l .0))) (take-at (stepBytes (s .step)) (drop (s .until) bs) (s .until - s .from) n))
 
-    part-is : (i : ℕ) (s : Placed) (ss : List Placed) → Laid bs i (s ∷ ss) → inPart bs (partOf curves tests bs (found s)) ≡ stepBytes (s .step)
-    unfolding partOf
-    part-is i s ss l =
-        let n : length (stepBytes (s .step)) ≡ s .until - s .from = omega (arith, l .0, l .1) in
-        rw (l .0) (rw (l .2, ← (ap (λ (m : ℕ). s .until - m) (l .0))) (take-at (stepBytes (s .step)) (drop (s .until) bs) (s .until - s .from) n))
+  -- what is written of each step in turn, and then of the end set: no bytes where there is no end step
+  abbrev writtenOf : List Placed → ℕ → List (List ℕ)
+  writtenOf ss end = map (λ s. stepBytes (s .step)) ss ++ (endBytes end ∷ [])
 
-    found-part : (i p : ℕ) (s : Placed) (ss : List Placed) → Laid bs i ss → placedAt curves tests p ss ≡ found s
-        → inPart bs (partOf curves tests bs (found s)) ≡ stepBytes (s .step)
-    unfolding placedAt
-    found-part i p s [] l e = let z : _≡_ {A = ℕ} 0 1 = cc in absurd (omega arith)
-    found-part i zero s (x ∷ ss) l e = let q : x ≡ s =
-        cc in subst (λ (y : Placed). inPart bs (partOf curves tests bs (found y)) ≡ stepBytes (y .step)) q (part-is i x ss l)
-    found-part i (suc p) s (x ∷ ss) l e = found-part (x .until) p s ss (l .3) e
+  end-at : (b end p : ℕ) → drop b bs ≡ endBytes end → inPart bs (orEmpty bs (partAt p (endParts bs b end))) ≡ getD (endBytes end ∷ []) p []
+  unfolding orEmpty partAt endParts endBytes
+  end-at b zero zero e = refl
+  end-at b zero (suc p) e = refl
+  end-at b (suc s) zero e = rest-is bs b ∙ e
+  end-at b (suc s) (suc p) e = refl
+
+  parts-at : (i b end p : ℕ) (ss : List Placed) → Laid bs i ss b → drop b bs ≡ endBytes end
+      → inPart bs (orEmpty bs (partAt p (map testPart ss ++ endParts bs b end))) ≡ getD (writtenOf ss end) p []
+  unfolding orEmpty partAt
+  parts-at i b end p [] l e = end-at b end p e
+  parts-at i b end zero (s ∷ ss) l e = part-is i b s ss l
+  parts-at i b end (suc p) (s ∷ ss) l e = parts-at (s .until) b end p ss (l .3) e
 
 -- n lists of bytes, one after the other
 unfoldable pub joined : ℕ → (ℕ → List ℕ) → List ℕ
@@ -114,49 +132,55 @@ same zero f g h = refl
 same (suc n) f g h =
     ap (λ (l : List ℕ). l ++ joined n (λ p. f (suc p))) (h 0) ∙ ap (λ (l : List ℕ). g 0 ++ l) (same n (λ p. f (suc p)) (λ p. g (suc p)) (λ p. h (suc p)))
 
-steps-of : (ss : List Placed)
-    → planBytes (map (λ s. s .step .test) ss) (map (λ s. s .step .drops) ss) (map (λ s. s .step .loads) ss) ≡ stepsBytes (map (λ s. s .step) ss)
-unfolding steps stepsBytes
-steps-of [] = refl
-steps-of (s ∷ ss) = ap (λ (l : List ℕ). stepBytes (s .step) ++ l) (steps-of ss)
+all-written : (bs : List ℕ) (ss : List Placed) (end : ℕ)
+    → joined (suc (length ss)) (λ p. getD (writtenOf bs ss end) p [])
+    ≡ listBytes (map (λ s. s .step .test) ss) (map (λ s. s .step .drops) ss) (map (λ s. s .step .loads) ss) ++ endBytes end
+unfolding joined steps stepsBytes
+all-written bs [] end = append-nil (endBytes end)
+all-written bs (s ∷ ss) end =
+    ap (λ (l : List ℕ). stepBytes (s .step) ++ l) (all-written bs ss end)
+    ∙ sym (append-assoc (stepBytes (s .step))
+    (listBytes (map (λ s. s .step .test) ss) (map (λ s. s .step .drops) ss) (map (λ s. s .step .loads) ss)) (endBytes end))
 
-module _ (curves tests : ℕ) (bs : List ℕ) where
-  all-parts : (i : ℕ) (ss : List Placed) → Laid bs i ss
-      → joined (length ss) (λ p. inPart bs (partOf curves tests bs (placedAt curves tests p ss))) ≡ stepsBytes (map (λ s. s .step) ss)
-  unfolding joined placedAt stepsBytes
-  all-parts i [] l = refl
-  all-parts i (s ∷ ss) l =
-      ap (λ (h : List ℕ). h ++ joined (length ss) (λ p. inPart bs (partOf curves tests bs (placedAt curves tests p ss)))) (part-is curves tests bs i s ss l)
-      ∙ ap (λ (h : List ℕ). stepBytes (s .step) ++ h) (all-parts (s .until) ss (l .3))
+module _ (curves tests : ℕ) (bs : List ℕ) (c : Contents) (e : planSteps curves tests bs ≡ done c) where
+  reads : readPlanBytes curves tests bs ≡ done c
+  unfolding planSteps
+  reads = both-done (countsKnown curves tests) (readPlanBytes curves tests bs) c e .1
 
-  none-there : (p : ℕ) (ss : List Placed) → length ss ≤ p → placedAt curves tests p ss ≡ nobody
-  unfolding placedAt
-  none-there p [] h = refl
-  none-there zero (s ∷ ss) h = absurd (omega arith)
-  none-there (suc p) (s ∷ ss) h = none-there p ss (omega arith)
+  part-of : (p : ℕ) → stepPart curves tests bs p ≡ orEmpty bs (partAt p (partsOf bs c))
+  unfolding stepPart fetched
+  part-of p = rw e refl
 
-  module _ (ss : List Placed) (e : planSteps curves tests bs ≡ done ss) where
-    bytes-read : readPlanBytes curves tests bs ≡ done ss
-    unfolding planSteps
-    bytes-read = both-done (countsKnown curves tests) (readPlanBytes curves tests bs) ss e .1
+  -- THE PART THAT IS FETCHED at a position, of a plan that reads, is what is written for that step, and at the number of tests for the end set
+  pub fetched-step : Bytes bs → (p : ℕ) → stepAt curves tests bs p ≡ getD (writtenOf bs (c .steps) (c .end)) p []
+  fetched-step all p =
+      let l = plan-laid curves tests bs c all reads in
+      ap (inPart bs) (part-of p) ∙ parts-at bs 0 (c .behind) (c .end) p (c .steps) (l .0) (l .1)
 
-    part-of : (p : ℕ) → stepPart curves tests bs p ≡ partOf curves tests bs (placedAt curves tests p ss)
-    unfolding stepPart fetched
-    part-of p = rw e refl
+  -- THE PARTS OF ALL STEPS, one after the other, are the plan bytes
+  pub fetched-all : Bytes bs → joined (suc tests) (stepAt curves tests bs) ≡ bs
+  fetched-all all =
+      same (suc tests) (stepAt curves tests bs) (λ p. getD (writtenOf bs (c .steps) (c .end)) p []) (fetched-step all)
+      ∙ ap (λ (n : ℕ). joined (suc n) (λ p. getD (writtenOf bs (c .steps) (c .end)) p [])) (sym (plan-count curves tests bs c reads))
+      ∙ all-written bs (c .steps) (c .end) ∙ plan-bytes-read curves tests bs c all reads
 
-    -- THE PART THAT IS FETCHED for a step of a plan that reads is what is written for that step
-    pub fetched-step : Bytes bs → (p : ℕ) (s : Placed) → placedAt curves tests p ss ≡ found s → stepAt curves tests bs p ≡ stepBytes (s .step)
-    fetched-step all p s f =
-        ap (inPart bs) (part-of p ∙ ap (partOf curves tests bs) f) ∙ found-part curves tests bs 0 p s ss (plan-laid curves tests bs ss all bytes-read) f
+  -- behind the end step, and behind the last test where there is none: "the empty part at their end"
+  empty-part : (p : ℕ) → length (partsOf bs c) ≤ p → stepPart curves tests bs p ≡ record { start = length bs; count = 0 }
+  unfolding orEmpty
+  empty-part p h = part-of p ∙ ap (orEmpty bs) (at-none p (partsOf bs c) h)
 
-    -- THE PARTS OF ALL STEPS, one after the other, are the plan bytes
-    pub fetched-all : Bytes bs → joined tests (stepAt curves tests bs) ≡ bs
-    fetched-all all =
-        same tests (stepAt curves tests bs) (λ p. inPart bs (partOf curves tests bs (placedAt curves tests p ss))) (λ p. ap (inPart bs) (part-of p))
-        ∙ ap (λ (n : ℕ). joined n (λ p. inPart bs (partOf curves tests bs (placedAt curves tests p ss)))) (sym (plan-count curves tests bs ss bytes-read))
-        ∙ all-parts 0 ss (plan-laid curves tests bs ss all bytes-read) ∙ sym (steps-of ss) ∙ plan-bytes-read curves tests bs ss all bytes-read
+  steps-count : length (map testPart (c .steps)) ≡ tests
+  steps-count = length-map (c .steps) testPart ∙ plan-count curves tests bs c reads
 
-    -- a position behind the last step has none: "the empty part at their end"
-    pub fetched-none : (p : ℕ) → tests ≤ p → stepPart curves tests bs p ≡ record { start = length bs; count = 0 }
-    unfolding partOf
-    fetched-none p h = part-of p ∙ ap (partOf curves tests bs) (none-there p ss (omega (arith, plan-count curves tests bs ss bytes-read)))
+  pub fetched-none : (p : ℕ) → tests < p → stepPart curves tests bs p ≡ record { start = length bs; count = 0 }
+  fetched-none p h =
+      empty-part p (omega (arith, length-append (map testPart (c .steps)) (endParts bs (c .behind) (c .end)), steps-count, one-end (c .end)))
+    where
+      one-end : (s : ℕ) → length (endParts bs (c .behind) s) ≤ 1
+      one-end zero = unfold endParts in (omega arith)
+      one-end (suc s) = unfold endParts in (omega arith)
+
+  pub fetched-no-end : c .end ≡ 0 → stepPart curves tests bs tests ≡ record { start = length bs; count = 0 }
+  fetched-no-end z =
+      let none : endParts bs (c .behind) (c .end) ≡ [] = rw z (unfold endParts in refl) in
+      empty-part tests (omega (arith, length-append (map testPart (c .steps)) (endParts bs (c .behind) (c .end)), steps-count, ap length none))

@@ -1,22 +1,20 @@
 -- The steps of plan bytes, one turn of a loop over them: what the rule comes to at the step whose first byte stands at offset i of the bytes bs, the steps
 -- before it having been read.
-use mathlib.Core.Path.{_≡_, refl, sym, _∙_}
+use mathlib.Core.Path.{_≡_, refl, sym, _∙_, subst}
 use mathlib.Core.List.{List, [], _∷_, _++_, map, map-append, append-assoc}
 use Prim.Native.Nat.{ℕ, suc, _+_, _-_, _≤_, _<_}
 use native.Mathlib.Omega.{arith}
-use native.Mathlib.Decide.{decLt}
 use lib.Dec.{leb}
 use borrow.Author.Tests.{leb-true}
-use lib.ListN.{length, getD, drop, set, length-set, length-map, length-append, drop-of-length-le}
+use lib.ListN.{length, getD, drop, set, length-set, length-map, length-append}
 use lib.Seq.{drop-cons, set-at}
 use Rattle.job.specs.Refusal.{Outcome, done, refused, _>>=_, _>>_, mapped, leaves, overwritten}
 use Rattle.job_bytes.specs.SetBytes.{got}
-use Rattle.job_bytes.specs.JobBytes.{atEnd}
 use Rattle.job.specs.Handed.{between, someTests, curvesKnown, testsKnown, countsKnown}
-use Rattle.job.proofs.Laws.{refused≢done, mapped-done, both, both-done, done-both, demand-true}
+use Rattle.job.proofs.Laws.{refused≢done, done-same, mapped-done, both, both-done, bind-done, done-both, demand-true}
 use Rattle.job.proofs.Examination.{refused-both}
 use Rattle.plan_bytes.specs.declared.StepRead.{StepRead}
-use Rattle.plan_bytes.specs.PlanBytes.{Placed, readStep, readSteps, readPlanBytes, planSteps}
+use Rattle.plan_bytes.specs.PlanBytes.{Placed, Contents, readStep, readSteps, readEnd, readPlanBytes, planSteps}
 use Rattle.plan_bytes.specs.Contracts.{stepOutcome}
 
 -- a step that was read at offset i
@@ -54,13 +52,35 @@ module _ (curves tests : ℕ) (bs : List ℕ) where
       unfolding readSteps
       last = let n : tests - k ≡ 0 = omega arith in b .goes ∙ rw n refl
 
-      pub surplus : i < length bs → readPlanBytes curves tests bs ≡ refused 11 i
-      unfolding readPlanBytes atEnd _>>=_ _>>_
-      surplus l = rw (last, drop-cons bs i 0 l) refl
+      -- what stands there decides
+      pub end-refused : (n f : ℕ) → readEnd curves tests i (drop i bs) ≡ refused n f → readPlanBytes curves tests bs ≡ refused n f
+      unfolding readPlanBytes _>>=_
+      end-refused n f e = rw (last, e) refl
 
-      pub whole : length bs ≤ i → readPlanBytes curves tests bs ≡ done acc
-      unfolding readPlanBytes atEnd _>>=_ _>>_
-      whole l = rw (last, drop-of-length-le bs l) refl
+      pub whole : (end : ℕ) → readEnd curves tests i (drop i bs) ≡ done end
+          → readPlanBytes curves tests bs ≡ done (record { steps = acc; behind = i; end = end })
+      unfolding readPlanBytes _>>=_
+      whole end e = rw (last, e) refl
+
+      -- the examination of the bytes answers the end set, or the refusal
+      pub end-examined : (r : Outcome ℕ) → r ≡ readEnd curves tests i (drop i bs) → r ≡ mapped (λ c. c .end) (readPlanBytes curves tests bs)
+      unfolding mapped
+      end-examined (done end) e = sym (rw (whole end (sym e)) refl)
+      end-examined (refused n f) e = sym (rw (end-refused n f (sym e)) refl)
+
+-- bytes that read: their steps, and what stands behind these
+pub record BytesRead (curves tests : ℕ) (bs : List ℕ) (c : Contents) : Type 0 where
+  pub rest : List ℕ
+  pub steps : readSteps curves tests tests [] 0 bs ≡ done (got (c .steps) (c .behind) rest)
+  pub end : readEnd curves tests (c .behind) rest ≡ done (c .end)
+
+pub bytes-read : (curves tests : ℕ) (bs : List ℕ) (c : Contents) → readPlanBytes curves tests bs ≡ done c → BytesRead curves tests bs c
+unfolding readPlanBytes
+bytes-read curves tests bs c e =
+    let x = bind-done (readSteps curves tests tests [] 0 bs) _ c e in
+    let y = bind-done (readEnd curves tests (x .0 .next) (x .0 .rest)) _ c (x .2) in
+    let s : record { steps = x .0 .value; behind = x .0 .next; end = y .0 } ≡ c = done-same (y .2) in
+    subst (BytesRead curves tests bs) s (record { rest = x .0 .rest; steps = x .1; end = y .1 })
 
 -- ---- the counts, and then the steps
 module _ (curves tests : ℕ) (bs : List ℕ) where
@@ -105,19 +125,22 @@ module _ (f : Placed → ℕ) (old : List ℕ) where
       record { entries = rw (map-append f acc (s ∷ []), F .entries) (put-next (map f acc) old k (f s) m h); long = simp length-set (F .long) }
 
   -- what is left of it, where the plan reads
-  pub fill-all : (acc : List Placed) (new : List ℕ) (o : Outcome (List Placed)) → o ≡ done acc → Filled f acc old new → new ≡ leaves (mapped (map f) o) old
+  pub fill-all : (c : Contents) (new : List ℕ) (o : Outcome Contents) → o ≡ done c → Filled f (c .steps) old new
+      → new ≡ leaves (mapped (λ x. map f (x .steps)) o) old
   unfolding leaves mapped
-  fill-all acc new o e F = rw e (F .entries)
+  fill-all c new o e F = rw e (F .entries)
 
 -- a plan that reads, all of whose steps have been read
 pub all-read : (curves tests : ℕ) (bs : List ℕ) (k i : ℕ) (acc : List Placed) → Behind curves tests k i bs acc → tests ≤ k
     → mapped (λ _. tt) (readPlanBytes curves tests bs) ≡ done (tt {0})
-    → readPlanBytes curves tests bs ≡ done acc
-all-read curves tests bs k i acc b h e = go (decLt i (length bs))
+    → (end : ℕ) × (readPlanBytes curves tests bs ≡ done (record { steps = acc; behind = i; end = end }))
+all-read curves tests bs k i acc b h e = go (readEnd curves tests i (drop i bs)) refl
   where
-    go : Dec (i < length bs) → readPlanBytes curves tests bs ≡ done acc
-    go (yes l) = absurd (refused≢done (sym (surplus curves tests bs k i acc b h l) ∙ mapped-done (λ _. tt) (readPlanBytes curves tests bs) tt e .1))
-    go (no l) = whole curves tests bs k i acc b h (omega arith)
+    go : (o : Outcome ℕ) → readEnd curves tests i (drop i bs) ≡ o
+        → (end : ℕ) × (readPlanBytes curves tests bs ≡ done (record { steps = acc; behind = i; end = end }))
+    go (done end) r = (end, whole curves tests bs k i acc b h end r)
+    go (refused n f) r =
+        absurd (refused≢done (sym (end-refused curves tests bs k i acc b h n f r) ∙ mapped-done (λ _. tt) (readPlanBytes curves tests bs) tt e .1))
 
 -- a plan that reads has no fault
 pub no-fault : {A : Type 0} (o : Outcome A) (f : ℕ) → mapped (λ _. tt) o ≡ done (tt {0}) → o ≡ refused 11 f → ⊥

@@ -4,13 +4,11 @@ use mathlib.Core.List.{List, [], _∷_, _++_, append-assoc}
 use Prim.Native.Nat.{ℕ, zero, suc, _+_, _*_, _≤_, _<_}
 use native.Mathlib.Omega.{arith}
 use native.Mathlib.Numerals.{add-one}
-use lib.ListN.{length, getD, take, drop, set, length-append, drop-of-length-le}
-use lib.Seq.{sets, length-sets, drop-cons}
-use borrow.Author.Tests.{lt-leb}
-use Rattle.lists.proofs.Overwritten.{sets-front}
-use Rattle.job.specs.Refusal.{Outcome, done, refused, _>>=_, _>>_, room, fitting}
+use lib.ListN.{length, getD, drop, set, length-append, drop-of-length-le}
+use lib.Seq.{sets, drop-cons}
+use Rattle.job.specs.Refusal.{Outcome, done, refused, _>>=_, _>>_, fitting}
 use Rattle.job_bytes.specs.SetBytes.{stands, setBytes}
-use Rattle.job.proofs.Laws.{demand-refused, both-done, done-both, done-room}
+use Rattle.job.proofs.Laws.{both-done, done-both}
 use Rattle.job.proofs.Examination.{refused-both, few-tests, tests-few}
 use Rattle.job_bytes.proofs.Encoding.{set-le, next-over}
 use Rattle.job.specs.Words.{Job}
@@ -22,7 +20,7 @@ use Rattle.job.proofs.OrderExact.{order-passes, passed-order, own-tests}
 use Rattle.planning.proofs.CheckExact.{Passes, passed}
 use Rattle.planning.proofs.Sequence.{sets-known, sets-long}
 use Rattle.job.proofs.Orders.{order-length}
-use Rattle.plan_bytes.specs.PlanBytes.{setField, stepBytes, stepsBytes, planBytes, writePlan}
+use Rattle.plan_bytes.specs.PlanBytes.{setField, stepBytes, stepsBytes, endBytes, planBytes, writePlan}
 use Rattle.plan_bytes.specs.Contracts.{writeSteps}
 
 -- ---- a set
@@ -69,10 +67,32 @@ field-le (suc s) = set-le (suc s)
 pub step-le : (t d l : ℕ) → length (stepBytes (one t d l)) ≤ 20
 step-le t d l = omega (arith, step-length t d l, field-le d, field-le l)
 
+-- ---- the end step
+
+pub end-le : (s : ℕ) → length (endBytes s) ≤ 10
+unfolding endBytes
+end-le zero = omega arith
+end-le (suc s) = omega (arith, set-le (suc s))
+
+-- nothing, or the map before the set
+pub no-end-bytes : (s : ℕ) → s ≡ 0 → endBytes s ≡ []
+unfolding endBytes
+no-end-bytes s e = rw e refl
+
+pub some-end-bytes : (s : ℕ) → (s ≡ 0 → ⊥) → endBytes s ≡ 1 ∷ setBytes s
+unfolding endBytes
+some-end-bytes zero h = absurd (h refl)
+some-end-bytes (suc s) h = refl
+
 -- ---- the steps from i on
+
+-- the bytes of the steps that three lists give
+abbrev pub listBytes : List ℕ → List ℕ → List ℕ → List ℕ
+listBytes order drops loads = stepsBytes (steps order drops loads)
+
 module _ (order drops loads : List ℕ) (i : ℕ) where
   abbrev from : ℕ → List ℕ
-  from k = planBytes (drop k order) (drop k drops) (drop k loads)
+  from k = listBytes (drop k order) (drop k drops) (drop k loads)
 
   abbrev step : Step
   step = one (getD order i 0) (getD drops i 0) (getD loads i 0)
@@ -89,21 +109,13 @@ module _ (order drops loads : List ℕ) (i : ℕ) where
   unfolding steps stepsBytes
   steps-none h = rw (drop-of-length-le order h) refl
 
--- ---- a list of its own, l, that was written from its start
-module _ (new l out : List ℕ) (n : ℕ) (count : n ≡ length new) (stored : out ≡ sets l 0 new) (fits : length new ≤ length l) where
-  pub own-long : n ≤ length out
-  own-long = omega (arith, ap length stored, length-sets l 0 new)
-
-  pub own-front : take n out ≡ new
-  own-front = ap (take n) stored ∙ sets-front new l n (sym count) (omega arith)
-
 -- ---- what is written of a plan
 module _ (j : Job) (order : List ℕ) (p : Plan) where
   pub unchecked : (k i : ℕ) → checking j order p ≡ refused k i → (lent : ℕ) → writePlan j order p lent ≡ refused k i
   unfolding writePlan _>>=_
   unchecked k i e lent = rw e refl
 
-  pub plan-fitting : (m : ℕ) → checking j order p ≡ done m → (lent : ℕ) → writePlan j order p lent ≡ fitting (planBytes order (p .drops) (p .loads)) lent
+  pub plan-fitting : (m : ℕ) → checking j order p ≡ done m → (lent : ℕ) → writePlan j order p lent ≡ fitting (planBytes order p) lent
   unfolding writePlan _>>=_
   plan-fitting m e lent = rw e refl
 
@@ -122,7 +134,7 @@ module _ (order : List ℕ) (p : Plan) where
     unfolding writeSteps
     no-sets k i e lent = done-both _ _ known ∙ refused-both _ _ k i e
 
-    pub steps-fitting : setsFor ≡ done tt → (lent : ℕ) → writeSteps order p lent ≡ fitting (planBytes order (p .drops) (p .loads)) lent
+    pub steps-fitting : setsFor ≡ done tt → (lent : ℕ) → writeSteps order p lent ≡ fitting (planBytes order p) lent
     unfolding writeSteps
     steps-fitting e lent = done-both _ _ known ∙ done-both _ _ e
 

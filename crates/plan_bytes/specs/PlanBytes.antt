@@ -1,8 +1,9 @@
 -- "Plan bytes, step after step, nothing behind the last: a bit map (0 drops, 1 loads, 2 test; 3 to 7 zero), then those fields."
+-- With the end step of 02, wish 1.
 use mathlib.Core.List.{List, [], _∷_, _++_, map}
 use Prim.Native.Nat.{ℕ, zero, suc, _+_, _-_, _*_, min}
 use lib.ListN.{length, take, drop}
-use lib.Dec.{ltb}
+use lib.Dec.{ltb, eqb}
 use Rattle.bitset.specs.Set.{bit}
 use Rattle.job.specs.Refusal.{Outcome, done, refused, _>>=_, _>>_, mapped, demand, room, fitting, leaves}
 use Rattle.lists.specs.Choice.{Found, nobody, found}
@@ -10,7 +11,7 @@ use Rattle.job.specs.Words.{Job}
 use Rattle.job.specs.Handed.{between, countsKnown}
 use Rattle.job_bytes.specs.SetBytes.{stands, setBytes, Got, got, byteAt, readGroups}
 use Rattle.job_bytes.specs.JobBytes.{atEnd}
-use Rattle.planning.specs.Plan.{Plan, planOf, entries, Step, steps}
+use Rattle.planning.specs.Plan.{Plan, planOf, SetLists, setLists, entries, CountEnd, Step, steps}
 use Rattle.planning.specs.Planning.{checking}
 use Rattle.plan_bytes.specs.declared.StepPart.{StepPart}
 
@@ -30,15 +31,21 @@ unfoldable pub stepsBytes : List Step → List ℕ
 stepsBytes [] = []
 stepsBytes (s ∷ ss) = stepBytes s ++ stepsBytes ss
 
--- the bytes of the steps that three lists give
-abbrev pub planBytes : List ℕ → List ℕ → List ℕ → List ℕ
-planBytes order drops loads = stepsBytes (steps order drops loads)
+-- wish 1: "an end step that drops all that is held: bits 1 and 2 clear, bit 0 set. If nothing is held, there is no end step. It is the only step without a
+-- test"
+unfoldable pub endBytes : ℕ → List ℕ
+endBytes zero = []
+endBytes (suc s) = 1 ∷ setBytes (suc s)
+
+-- the bytes of a plan in an order of the tests: its steps, and "After the last test" the end step
+abbrev pub planBytes : List ℕ → Plan → List ℕ
+planBytes order p = stepsBytes (steps order (p .drops) (p .loads)) ++ endBytes (p .end)
 
 -- "writing a plan 8, 12, 9", after 5 and 10
 unfoldable pub writePlan : Job → List ℕ → Plan → ℕ → Outcome (List ℕ)
 writePlan j order p lent = do
   _ ← checking j order p
-  fitting (planBytes order (p .drops) (p .loads)) lent
+  fitting (planBytes order p) lent
 
 module _ (j : Job) (order : List ℕ) (p : Plan) (old : List ℕ) where
   -- what writing answers: the count of bytes
@@ -57,13 +64,19 @@ pub record Placed : Type 0 where
   pub from : ℕ
   pub until : ℕ
 
--- the steps' tests
-abbrev pub testsOf : List Placed → List ℕ
-testsOf = map (λ s. s .step .test)
+-- what plan bytes hold: the steps with a test, the offset behind them, and the end set, 0 for none
+pub record Contents : Type 0 where
+  pub steps : List Placed
+  pub behind : ℕ
+  pub end : ℕ
 
--- their sets, as a plan is handed over
-abbrev pub planIn : List Placed → Plan
-planIn ss = planOf (map (λ s. s .step .drops) ss) (map (λ s. s .step .loads) ss)
+-- the steps' tests
+abbrev pub testsOf : Contents → List ℕ
+testsOf c = map (λ s. s .step .test) (c .steps)
+
+-- their sets and the end set, as a plan is handed over
+abbrev pub planIn : Contents → Plan
+planIn c = planOf (map (λ s. s .step .drops) (c .steps)) (map (λ s. s .step .loads) (c .steps)) (c .end)
 
 -- "11, offset: first malformed or surplus byte; the input length if cut": a job with so many curves and tests
 module _ (curves tests : ℕ) where
@@ -93,65 +106,87 @@ module _ (curves tests : ℕ) where
     s ← readStep i bs
     readSteps k (ss ++ (s .value ∷ [])) (s .next) (s .rest)
 
-  -- "There are as many steps as tests.", "nothing behind the last"
-  unfoldable pub readPlanBytes : List ℕ → Outcome (List Placed)
+  -- behind the last test the end step, if there is one: "bits 1 and 2 clear, bit 0 set", and nothing behind it
+  unfoldable pub readEnd : ℕ → List ℕ → Outcome ℕ
+  readEnd i [] = done 0
+  readEnd i (b ∷ bs) = do
+    demand (eqb b 1) 11 i
+    s ← readSet 1 (suc i) bs
+    atEnd 11 (s .next) (s .rest)
+    done (s .value)
+
+  -- "There are as many steps as tests.", and then the end step
+  unfoldable pub readPlanBytes : List ℕ → Outcome Contents
   readPlanBytes bs = do
     r ← readSteps tests [] 0 bs
-    atEnd 11 (r .next) (r .rest)
-    done (r .value)
+    end ← readEnd (r .next) (r .rest)
+    done (record { steps = r .value; behind = r .next; end = end })
 
   -- the bytes that are a plan of the counts handed over, both in range
-  unfoldable pub planSteps : List ℕ → Outcome (List Placed)
+  unfoldable pub planSteps : List ℕ → Outcome Contents
   planSteps bs = do
     countsKnown curves tests
     readPlanBytes bs
 
   -- "reading a plan 11, 9", after 5 and 10: into lists of which the shortest has so many entries
-  unfoldable pub readPlan : List ℕ → ℕ → Outcome (List Placed)
+  unfoldable pub readPlan : List ℕ → ℕ → Outcome Contents
   readPlan bs lent = do
-    ss ← planSteps bs
+    c ← planSteps bs
     room lent tests
-    done ss
+    done c
 
-  module _ (bs order : List ℕ) (lent : Plan) where
+  module _ (bs order : List ℕ) (lent : SetLists) where
     -- what is read, into lists of these lengths
-    abbrev pub planRead : Outcome (List Placed)
+    abbrev pub planRead : Outcome Contents
     planRead = readPlan bs (min (length order) (entries lent))
 
-    -- what reading answers: the number of steps
-    unfoldable pub readPlanAnswer : Outcome ℕ
-    readPlanAnswer = mapped length planRead
+    -- what reading answers: the number of steps with a test, and the end set
+    unfoldable pub readPlanAnswer : Outcome CountEnd
+    readPlanAnswer = mapped (λ c. record { count = length (c .steps); end = c .end }) planRead
 
     -- what the lent order holds afterwards
     unfoldable pub readPlanOrder : List ℕ
     readPlanOrder = leaves (mapped testsOf planRead) order
 
     -- what the lent drops and loads hold afterwards
-    unfoldable pub readPlanLists : Plan
-    readPlanLists = planOf (leaves (mapped (λ ss. planIn ss .drops) planRead) (lent .drops)) (leaves (mapped (λ ss. planIn ss .loads) planRead) (lent .loads))
+    unfoldable pub readPlanLists : SetLists
+    readPlanLists = setLists (leaves (mapped (λ c. planIn c .drops) planRead) (lent .drops)) (leaves (mapped (λ c. planIn c .loads) planRead) (lent .loads))
 
-  -- ---- "A step's bytes can be fetched by position"
+-- ---- "A step's bytes can be fetched by position"
 
-  -- the step at a position, if there is one
-  unfoldable pub placedAt : ℕ → List Placed → Found Placed
-  placedAt p [] = nobody
-  placedAt zero (s ∷ ss) = found s
-  placedAt (suc p) (s ∷ ss) = placedAt p ss
+-- the part of a step with a test
+abbrev pub testPart : Placed → StepPart
+testPart s = record { start = s .from; count = s .until - s .from }
 
-  -- the step at position p of what was read
-  unfoldable pub fetched : ℕ → Outcome (List Placed) → Found Placed
-  fetched p (done ss) = placedAt p ss
-  fetched p (refused k i) = nobody
+-- the part of the end step, from behind the last test, at offset i, to the end of the bytes; none where the end set is 0
+unfoldable pub endParts : List ℕ → ℕ → ℕ → List StepPart
+endParts bs i zero = []
+endParts bs i (suc s) = record { start = i; count = length bs - i } ∷ []
 
-  -- a part of the plan bytes bs: that of a step, or "the empty part at their end"
-  unfoldable pub partOf : List ℕ → Found Placed → StepPart
-  partOf bs (found s) = record { start = s .from; count = s .until - s .from }
-  partOf bs nobody = record { start = length bs; count = 0 }
+-- the parts of all steps in turn, the end step's last
+abbrev pub partsOf : List ℕ → Contents → List StepPart
+partsOf bs c = map testPart (c .steps) ++ endParts bs (c .behind) (c .end)
 
-  -- "the answer is that part of the caller's plan bytes, or the empty part at their end if the plan has no such step, its bytes would get refusal 11, or the
-  -- handed counts are out of range"
-  unfoldable pub stepPart : List ℕ → ℕ → StepPart
-  stepPart bs p = partOf bs (fetched p (planSteps bs))
+-- the part at a position, if there is one
+unfoldable pub partAt : ℕ → List StepPart → Found StepPart
+partAt p [] = nobody
+partAt zero (q ∷ qs) = found q
+partAt (suc p) (q ∷ qs) = partAt p qs
+
+-- the part of the step at position p, of what was read in the plan bytes bs
+unfoldable pub fetched : List ℕ → ℕ → Outcome Contents → Found StepPart
+fetched bs p (done c) = partAt p (partsOf bs c)
+fetched bs p (refused k i) = nobody
+
+-- that part, or "the empty part at their end"
+unfoldable pub orEmpty : List ℕ → Found StepPart → StepPart
+orEmpty bs (found q) = q
+orEmpty bs nobody = record { start = length bs; count = 0 }
+
+-- "the answer is that part of the caller's plan bytes, or the empty part at their end if the plan has no such step, its bytes would get refusal 11, or the
+-- handed counts are out of range"
+unfoldable pub stepPart : ℕ → ℕ → List ℕ → ℕ → StepPart
+stepPart curves tests bs p = orEmpty bs (fetched bs p (planSteps curves tests bs))
 
 -- the bytes of a part
 abbrev pub inPart : List ℕ → StepPart → List ℕ

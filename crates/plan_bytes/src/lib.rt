@@ -6,13 +6,13 @@ ghost use lib.ListN.{length, getD, drop};
 ghost use lib.Seq.{sets};
 ghost use Rattle.lists.specs.Lent.{was, after};
 ghost use Rattle.job_bytes.specs.SetBytes.{stands, readGroups};
-ghost use Rattle.job.specs.Refusal.{done, mapped, examinedOutcome, countOutcome, fitting, leaves};
+ghost use Rattle.job.specs.Refusal.{done, mapped, countOutcome, fitting, leaves};
 ghost use Rattle.job.specs.Words.{jobOf};
-ghost use Rattle.planning.specs.Plan.{planOf};
-ghost use Rattle.plan_bytes.specs.PlanBytes.{setField, stepBytes, planBytes, writePlanAnswer, writePlanBuffer};
-ghost use Rattle.plan_bytes.specs.PlanBytes.{testsOf, planIn, readSet, readStep, readPlanBytes, planSteps, readPlanAnswer, readPlanOrder, readPlanLists};
-ghost use Rattle.plan_bytes.specs.PlanBytes.{fetched, partOf, stepPart, stepAt};
-ghost use Rattle.plan_bytes.specs.Contracts.{setOutcome, stepOutcome, writeStepsAnswer, writeStepsBuffer};
+ghost use Rattle.planning.specs.Plan.{planOf, setLists, planOutcome, steps};
+ghost use Rattle.plan_bytes.specs.PlanBytes.{setField, stepBytes, stepsBytes, endBytes, planBytes, writePlanAnswer, writePlanBuffer};
+ghost use Rattle.plan_bytes.specs.PlanBytes.{testsOf, planIn, readSet, readStep, readEnd, readPlanBytes, planSteps};
+ghost use Rattle.plan_bytes.specs.PlanBytes.{readPlanAnswer, readPlanOrder, readPlanLists, fetched, orEmpty, stepPart, stepAt};
+ghost use Rattle.plan_bytes.specs.Contracts.{setOutcome, stepOutcome, endOutcome, writeStepsAnswer, writeStepsBuffer};
 use job::Counted;
 use job::Examined;
 use job::Refusal;
@@ -23,6 +23,7 @@ use job_bytes::set_bytes::GroupRead;
 use job_bytes::set_bytes::put_front;
 use job_bytes::set_bytes::put_set_at;
 use job_bytes::set_bytes::read_due;
+use planning::PlanCounted;
 use planning::check_plan;
 use planning::examine_sets;
 
@@ -40,6 +41,13 @@ enum StepRead {
     Step(u16, u64, u64, usize),
     // the position of the first malformed byte, or the end of the bytes
     Fault(usize),
+}
+
+// What stands behind the last test.
+enum EndRead {
+    // the end set, 0 for none
+    End(u64),
+    Refused(Refusal),
 }
 
 // The groups of a set, behind its group map.
@@ -115,17 +123,39 @@ fn read_step(plan: &[u8], at: usize, curves: usize, tests: usize) -> StepRead
     }
 }
 
-// 11: the steps, "as many steps as tests", "nothing behind the last".
-fn examine_steps(curves: usize, tests: usize, plan: &[u8]) -> Examined
+// 02, wish 1: behind the last test the end step, or nothing: "bits 1 and 2 clear, bit 0 set". Nothing stands behind it.
+fn read_end(plan: &[u8], at: usize, curves: usize) -> EndRead
     requires { ⌜ curves ≤ 64 ⌝ }
-    ensures { λ r. ⌜ examinedOutcome r ≡ mapped (λ _. tt) (readPlanBytes curves tests (was plan)) ⌝ }
+    ensures { λ r. ⌜ ((tests : ℕ) → endOutcome r ≡ readEnd curves tests at (drop at (was plan))) ⌝ }
+{
+    if plan.len() <= at {
+        return EndRead::End(0);
+    }
+    if plan[at] != 1 {
+        return EndRead::Refused(Refusal::BadPlanBytes(at));
+    }
+    match read_set(plan, at + 1, 1, curves) {
+        SetRead::Fault(i) => EndRead::Refused(Refusal::BadPlanBytes(i)),
+        SetRead::Set(end, next) => {
+            if next < plan.len() {
+                return EndRead::Refused(Refusal::BadPlanBytes(next));
+            }
+            EndRead::End(end)
+        }
+    }
+}
+
+// 11: the steps, "as many steps as tests", and what stands behind them.
+fn examine_steps(curves: usize, tests: usize, plan: &[u8]) -> EndRead
+    requires { ⌜ curves ≤ 64 ⌝ }
+    ensures { λ r. ⌜ endOutcome r ≡ mapped (λ c. c .end) (readPlanBytes curves tests (was plan)) ⌝ }
 {
     let mut at: usize = 0;
     let mut k: usize = 0;
     while k < tests {
         match read_step(plan, at, curves, tests) {
             StepRead::Fault(i) => {
-                return Examined::Refused(Refusal::BadPlanBytes(i));
+                return EndRead::Refused(Refusal::BadPlanBytes(i));
             }
             StepRead::Step(_, _, _, next) => {
                 at = next;
@@ -133,18 +163,15 @@ fn examine_steps(curves: usize, tests: usize, plan: &[u8]) -> Examined
         }
         k += 1;
     }
-    if at < plan.len() {
-        return Examined::Refused(Refusal::BadPlanBytes(at));
-    }
-    Examined::Passed
+    read_end(plan, at, curves)
 }
 
-// 5, 10 and 11: whether the bytes are a plan of so many curves and tests.
-fn examine_plan(curves: usize, tests: usize, plan: &[u8]) -> Examined
-    ensures { λ r. ⌜ examinedOutcome r ≡ mapped (λ _. tt) (planSteps curves tests (was plan)) ⌝ }
+// 5, 10 and 11: whether the bytes are a plan of so many curves and tests, and its end set.
+fn examine_plan(curves: usize, tests: usize, plan: &[u8]) -> EndRead
+    ensures { λ r. ⌜ endOutcome r ≡ mapped (λ c. c .end) (planSteps curves tests (was plan)) ⌝ }
 {
     match examine_counts(curves, tests) {
-        Examined::Refused(r) => Examined::Refused(r),
+        Examined::Refused(r) => EndRead::Refused(r),
         Examined::Passed => examine_steps(curves, tests, plan),
     }
 }
@@ -161,8 +188,8 @@ fn fill_lists(
     requires counts { ⌜ (curves ≤ 64) × (tests ≤ length (now order)) × (tests ≤ length (now drops)) × (tests ≤ length (now loads)) ⌝ }
     requires reads { ⌜ mapped (λ _. tt) (readPlanBytes curves tests (now plan)) ≡ done (tt {0}) ⌝ }
     ensures tests { λ _. ⌜ after order ≡ leaves (mapped testsOf (readPlanBytes curves tests (was plan))) (was order) ⌝ }
-    ensures drops { λ _. ⌜ after drops ≡ leaves (mapped (λ ss. planIn ss .drops) (readPlanBytes curves tests (was plan))) (was drops) ⌝ }
-    ensures loads { λ _. ⌜ after loads ≡ leaves (mapped (λ ss. planIn ss .loads) (readPlanBytes curves tests (was plan))) (was loads) ⌝ }
+    ensures drops { λ _. ⌜ after drops ≡ leaves (mapped (λ c. planIn c .drops) (readPlanBytes curves tests (was plan))) (was drops) ⌝ }
+    ensures loads { λ _. ⌜ after loads ≡ leaves (mapped (λ c. planIn c .loads) (readPlanBytes curves tests (was plan))) (was loads) ⌝ }
 {
     let mut at: usize = 0;
     let mut k: usize = 0;
@@ -183,7 +210,7 @@ fn fill_lists(
     }
 }
 
-// Reads plan bytes; on success the steps' tests, drops and loads stand at the fronts of the three lists, and their number is answered.
+// Reads plan bytes; on success the steps' tests, drops and loads stand at the fronts of the three lists, and their number is answered with the end set.
 pub fn read_plan(
     curves: usize,
     tests: usize,
@@ -191,25 +218,27 @@ pub fn read_plan(
     order: &mut [u16],
     drops: &mut [u64],
     loads: &mut [u64],
-) -> Counted
-    ensures answer { λ r. ⌜ countOutcome r ≡ readPlanAnswer curves tests (was plan) (was order) (planOf (was drops) (was loads)) ⌝ }
-    ensures order { λ _. ⌜ after order ≡ readPlanOrder curves tests (was plan) (was order) (planOf (was drops) (was loads)) ⌝ }
-    ensures lists { λ _. ⌜ planOf (after drops) (after loads) ≡ readPlanLists curves tests (was plan) (was order) (planOf (was drops) (was loads)) ⌝ }
+) -> PlanCounted
+    ensures answer { λ r. ⌜ planOutcome r ≡ readPlanAnswer curves tests (was plan) (was order) (setLists (was drops) (was loads)) ⌝ }
+    ensures order { λ _. ⌜ after order ≡ readPlanOrder curves tests (was plan) (was order) (setLists (was drops) (was loads)) ⌝ }
+    ensures lists { λ _. ⌜ setLists (after drops) (after loads) ≡ readPlanLists curves tests (was plan) (was order) (setLists (was drops) (was loads)) ⌝ }
 {
-    if let Examined::Refused(r) = examine_plan(curves, tests, plan) {
-        return Counted::Refused(r);
+    match examine_plan(curves, tests, plan) {
+        EndRead::Refused(r) => PlanCounted::Refused(r),
+        EndRead::End(end) => {
+            if order.len() < tests {
+                return PlanCounted::Refused(Refusal::BufferTooSmall(tests));
+            }
+            if drops.len() < tests {
+                return PlanCounted::Refused(Refusal::BufferTooSmall(tests));
+            }
+            if loads.len() < tests {
+                return PlanCounted::Refused(Refusal::BufferTooSmall(tests));
+            }
+            fill_lists(curves, tests, plan, order, drops, loads);
+            PlanCounted::Count(tests, end)
+        }
     }
-    if order.len() < tests {
-        return Counted::Refused(Refusal::BufferTooSmall(tests));
-    }
-    if drops.len() < tests {
-        return Counted::Refused(Refusal::BufferTooSmall(tests));
-    }
-    if loads.len() < tests {
-        return Counted::Refused(Refusal::BufferTooSmall(tests));
-    }
-    fill_lists(curves, tests, plan, order, drops, loads);
-    Counted::Count(tests)
 }
 
 // A part of the plan bytes: where it begins, and how many bytes it has.
@@ -219,10 +248,10 @@ pub struct StepPart {
     pub count: usize,
 }
 
-// Where the step at a position lies in the bytes of a plan that reads; else at their end, and empty.
+// Where the step at a position lies in the bytes of a plan that reads; else at their end, and empty. The end step goes from behind the last test to the end.
 fn find_step(curves: usize, tests: usize, plan: &[u8], position: usize) -> StepPart
     requires { ⌜ curves ≤ 64 ⌝ }
-    ensures part { λ r. ⌜ r ≡ partOf curves tests (was plan) (fetched curves tests position (readPlanBytes curves tests (was plan))) ⌝ }
+    ensures part { λ r. ⌜ r ≡ orEmpty (was plan) (fetched (was plan) position (readPlanBytes curves tests (was plan))) ⌝ }
     ensures inside { λ r. ⌜ r .start + r .count ≤ length (was plan) ⌝ }
 {
     let size = plan.len();
@@ -248,13 +277,23 @@ fn find_step(curves: usize, tests: usize, plan: &[u8], position: usize) -> StepP
         }
         i += 1;
     }
-    if at < size {
-        return StepPart {
+    match read_end(plan, at, curves) {
+        EndRead::Refused(_) => StepPart {
             start: size,
             count: 0,
-        };
+        },
+        EndRead::End(end) => {
+            if position == tests {
+                if end != 0 {
+                    return StepPart {
+                        start: at,
+                        count: size - at,
+                    };
+                }
+            }
+            StepPart { start, count }
+        }
     }
-    StepPart { start, count }
 }
 
 // Where the step at a position lies, or the end of the bytes: "the plan has no such step, its bytes would get refusal 11, or the handed counts are out of
@@ -325,12 +364,12 @@ fn put_step(test: u16, drops: u64, loads: u64, to: usize, out: &mut [u8]) -> usi
 }
 
 // Writes the steps of a plan to the beginning of `out`, and answers how many bytes they take.
-fn put_plan(order: &[u16], drops: &[u64], loads: &[u64], out: &mut [u8]) -> usize
+fn put_steps(order: &[u16], drops: &[u64], loads: &[u64], out: &mut [u8]) -> usize
     requires tests { ⌜ ((i : ℕ) → i < length (now order) → getD (now order) i 0 < 256) ⌝ }
     requires sets { ⌜ (length (now drops) ≡ length (now order)) × (length (now loads) ≡ length (now order)) ⌝ }
     requires fits { ⌜ 20 * length (now order) ≤ length (now out) ⌝ }
-    ensures count { λ r. ⌜ r ≡ length (planBytes (was order) (was drops) (was loads)) ⌝ }
-    ensures bytes { λ _. ⌜ after out ≡ sets (was out) 0 (planBytes (was order) (was drops) (was loads)) ⌝ }
+    ensures count { λ r. ⌜ r ≡ length (stepsBytes (steps (was order) (was drops) (was loads))) ⌝ }
+    ensures bytes { λ _. ⌜ after out ≡ sets (was out) 0 (stepsBytes (steps (was order) (was drops) (was loads))) ⌝ }
 {
     let mut to: usize = 0;
     let mut i: usize = 0;
@@ -341,20 +380,46 @@ fn put_plan(order: &[u16], drops: &[u64], loads: &[u64], out: &mut [u8]) -> usiz
     to
 }
 
-// The bytes that a plan takes at most: 1 + 9 + 9 + 1 for each step.
-const MOST_BYTES: usize = 20 * job::MOST_TESTS;
+// Writes the end step from `to` on, nothing if the end set is empty, and a zero byte behind it; answers where it ends: "bits 1 and 2 clear, bit 0 set".
+fn put_end(end: u64, to: usize, out: &mut [u8]) -> usize
+    requires { ⌜ to + 11 ≤ length (now out) ⌝ }
+    ensures end { λ r. ⌜ r ≡ to + length (endBytes end) ⌝ }
+    ensures bytes { λ _. ⌜ after out ≡ sets (was out) to (endBytes end ++ (0 ∷ [])) ⌝ }
+{
+    if end == 0 {
+        out[to] = 0;
+        return to;
+    }
+    out[to] = 1;
+    put_set_at(end, to + 1, out)
+}
 
-// Writes the bytes of the steps to `out`, if they fit, and answers their count.
-fn write_fitting(order: &[u16], drops: &[u64], loads: &[u64], out: &mut [u8]) -> Counted
+// Writes a plan to the beginning of `out`, a zero byte behind it, and answers how many bytes it takes.
+fn put_plan(order: &[u16], drops: &[u64], loads: &[u64], end: u64, out: &mut [u8]) -> usize
+    requires tests { ⌜ ((i : ℕ) → i < length (now order) → getD (now order) i 0 < 256) ⌝ }
+    requires sets { ⌜ (length (now drops) ≡ length (now order)) × (length (now loads) ≡ length (now order)) ⌝ }
+    requires fits { ⌜ 20 * length (now order) + 11 ≤ length (now out) ⌝ }
+    ensures count { λ r. ⌜ r ≡ length (planBytes (was order) (planOf (was drops) (was loads) end)) ⌝ }
+    ensures bytes { λ _. ⌜ after out ≡ sets (was out) 0 (planBytes (was order) (planOf (was drops) (was loads) end) ++ (0 ∷ [])) ⌝ }
+{
+    let to = put_steps(order, drops, loads, out);
+    put_end(end, to, out)
+}
+
+// The bytes that a plan takes at most: 1 + 9 + 9 + 1 for each step and 1 + 9 for the end step. One more stands behind them.
+const MOST_BYTES: usize = 20 * job::MOST_TESTS + 10 + 1;
+
+// Writes the bytes of the steps and the end step to `out`, if they fit, and answers their count.
+fn write_fitting(order: &[u16], drops: &[u64], loads: &[u64], end: u64, out: &mut [u8]) -> Counted
     requires tests { ⌜ ((i : ℕ) → i < length (now order) → getD (now order) i 0 < 256) ⌝ }
     requires sets { ⌜ (length (now drops) ≡ length (now order)) × (length (now loads) ≡ length (now order)) ⌝ }
     requires few { ⌜ length (now order) ≤ 256 ⌝ }
-    ensures answer { λ r. ⌜ countOutcome r ≡ mapped length (fitting (planBytes (was order) (was drops) (was loads)) (length (was out))) ⌝ }
-    ensures bytes { λ _. ⌜ after out ≡ leaves (fitting (planBytes (was order) (was drops) (was loads)) (length (was out))) (was out) ⌝ }
+    ensures answer { λ r. ⌜ countOutcome r ≡ mapped length (fitting (planBytes (was order) (planOf (was drops) (was loads) end)) (length (was out))) ⌝ }
+    ensures bytes { λ _. ⌜ after out ≡ leaves (fitting (planBytes (was order) (planOf (was drops) (was loads) end)) (length (was out))) (was out) ⌝ }
 {
     // "Nothing lent changes under a refusal": the bytes go to a buffer of our own, and are copied once their number is known to fit
     let mut bytes = [0u8; MOST_BYTES];
-    let need = put_plan(order, drops, loads, &mut bytes);
+    let need = put_plan(order, drops, loads, end, &mut bytes);
     if out.len() < need {
         return Counted::Refused(Refusal::BufferTooSmall(need));
     }
@@ -369,21 +434,22 @@ pub fn write_plan(
     order: &[u16],
     drops: &[u64],
     loads: &[u64],
+    end: u64,
     out: &mut [u8],
 ) -> Counted
-    ensures answer { λ r. ⌜ countOutcome r ≡ writePlanAnswer (jobOf rig (was wants)) (was order) (planOf (was drops) (was loads)) (was out) ⌝ }
-    ensures bytes { λ _. ⌜ after out ≡ writePlanBuffer (jobOf rig (was wants)) (was order) (planOf (was drops) (was loads)) (was out) ⌝ }
+    ensures answer { λ r. ⌜ countOutcome r ≡ writePlanAnswer (jobOf rig (was wants)) (was order) (planOf (was drops) (was loads) end) (was out) ⌝ }
+    ensures bytes { λ _. ⌜ after out ≡ writePlanBuffer (jobOf rig (was wants)) (was order) (planOf (was drops) (was loads) end) (was out) ⌝ }
 {
-    if let Counted::Refused(r) = check_plan(rig, wants, order, drops, loads) {
+    if let Counted::Refused(r) = check_plan(rig, wants, order, drops, loads, end) {
         return Counted::Refused(r);
     }
-    write_fitting(order, drops, loads, out)
+    write_fitting(order, drops, loads, end, out)
 }
 
-// Writes the steps of lists that were made here, without the check, and answers the count of their bytes: 10, 8, 12 and 9 of the lists alone.
-pub fn write_steps(order: &[u16], drops: &[u64], loads: &[u64], out: &mut [u8]) -> Counted
-    ensures answer { λ r. ⌜ countOutcome r ≡ writeStepsAnswer (was order) (planOf (was drops) (was loads)) (was out) ⌝ }
-    ensures bytes { λ _. ⌜ after out ≡ writeStepsBuffer (was order) (planOf (was drops) (was loads)) (was out) ⌝ }
+// Writes the steps of lists that were made here and an end set, without the check, and answers the count of their bytes: 10, 8, 12 and 9 of the lists alone.
+pub fn write_steps(order: &[u16], drops: &[u64], loads: &[u64], end: u64, out: &mut [u8]) -> Counted
+    ensures answer { λ r. ⌜ countOutcome r ≡ writeStepsAnswer (was order) (planOf (was drops) (was loads) end) (was out) ⌝ }
+    ensures bytes { λ _. ⌜ after out ≡ writeStepsBuffer (was order) (planOf (was drops) (was loads) end) (was out) ⌝ }
 {
     if let Examined::Refused(r) = examine_order_alone(order) {
         return Counted::Refused(r);
@@ -391,5 +457,5 @@ pub fn write_steps(order: &[u16], drops: &[u64], loads: &[u64], out: &mut [u8]) 
     if let Examined::Refused(r) = examine_sets(order.len(), drops.len(), loads.len()) {
         return Counted::Refused(r);
     }
-    write_fitting(order, drops, loads, out)
+    write_fitting(order, drops, loads, end, out)
 }

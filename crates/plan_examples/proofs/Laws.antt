@@ -5,31 +5,32 @@ use Prim.Native.Nat.{ℕ}
 use lib.Dec.{eqb}
 use borrow.Author.Tests.{eq-eqb}
 use Rattle.job.specs.declared.Refusal.{Refusal}
-use Rattle.job.specs.declared.Counted.{Counted}
-use Rattle.job.specs.Refusal.{Outcome, done, refused, number, figure, countOutcome}
+use Rattle.job.specs.Refusal.{Outcome, done, refused, number, figure}
 use Rattle.job.proofs.Laws.{refused≢done, done-same}
+use Rattle.planning.specs.declared.PlanCounted.{PlanCounted}
+use Rattle.planning.specs.Plan.{CountEnd, planOutcome}
 
-module _ (x : Counted) (o : Outcome ℕ) (told : countOutcome x ≡ o) where
+module _ (x : PlanCounted) (o : Outcome CountEnd) (told : planOutcome x ≡ o) where
   -- the rule is done, so no refusal was answered
-  pub not-refused : (r : Refusal) (n : ℕ) {b : Bool} → x ≡ Counted.Refused r → o ≡ done n → b ≡ true
-  unfolding countOutcome
-  not-refused r n p q = absurd (refused≢done {k = number r} {i = figure r} (sym (ap countOutcome p) ∙ told ∙ q))
+  pub not-refused : (r : Refusal) (n end : ℕ) {b : Bool} → x ≡ PlanCounted.Refused r → o ≡ done (record { count = n; end = end }) → b ≡ true
+  unfolding planOutcome
+  not-refused r n end p q = absurd (refused≢done {k = number r} {i = figure r} (sym (ap planOutcome p) ∙ told ∙ q))
 
   -- .. and the count is the rule's
-  pub count-is : (m n : ℕ) → x ≡ Counted.Count m → o ≡ done n → eqb m n ≡ true
-  unfolding countOutcome
-  count-is m n p q = eq-eqb m n (done-same (sym (ap countOutcome p) ∙ told ∙ q))
+  pub count-is : (m held n end : ℕ) → x ≡ PlanCounted.Count m held → o ≡ done (record { count = n; end = end }) → eqb m n ≡ true
+  unfolding planOutcome
+  count-is m held n end p q = eq-eqb m n (ap (λ (a : CountEnd). a .count) (done-same (sym (ap planOutcome p) ∙ told ∙ q)))
 
   -- the rule refuses, so no count was answered
-  pub not-counted : (m k i : ℕ) {b : Bool} → x ≡ Counted.Count m → o ≡ refused k i → b ≡ true
-  unfolding countOutcome
-  not-counted m k i p q = absurd (refused≢done (sym q ∙ sym told ∙ ap countOutcome p))
+  pub not-counted : (m held k i : ℕ) {b : Bool} → x ≡ PlanCounted.Count m held → o ≡ refused k i → b ≡ true
+  unfolding planOutcome
+  not-counted m held k i p q = absurd (refused≢done (sym q ∙ sym told ∙ ap planOutcome p))
 
   -- .. and the number and the figure are the rule's
-  pub number-is : (r : Refusal) (k i : ℕ) → x ≡ Counted.Refused r → o ≡ refused k i → number r ≡ k
-  unfolding countOutcome
-  number-is r k i p q = let e : _≡_ {A = Outcome ℕ} (refused (number r) (figure r)) (refused k i) = sym (ap countOutcome p) ∙ told ∙ q in cc
+  pub number-is : (r : Refusal) (k i : ℕ) → x ≡ PlanCounted.Refused r → o ≡ refused k i → number r ≡ k
+  unfolding planOutcome
+  number-is r k i p q = let e : _≡_ {A = Outcome CountEnd} (refused (number r) (figure r)) (refused k i) = sym (ap planOutcome p) ∙ told ∙ q in cc
 
-  pub figure-is : (r : Refusal) (k i : ℕ) → x ≡ Counted.Refused r → o ≡ refused k i → figure r ≡ i
-  unfolding countOutcome
-  figure-is r k i p q = let e : _≡_ {A = Outcome ℕ} (refused (number r) (figure r)) (refused k i) = sym (ap countOutcome p) ∙ told ∙ q in cc
+  pub figure-is : (r : Refusal) (k i : ℕ) → x ≡ PlanCounted.Refused r → o ≡ refused k i → figure r ≡ i
+  unfolding planOutcome
+  figure-is r k i p q = let e : _≡_ {A = Outcome CountEnd} (refused (number r) (figure r)) (refused k i) = sym (ap planOutcome p) ∙ told ∙ q in cc

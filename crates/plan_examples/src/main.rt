@@ -1,6 +1,6 @@
 // Document 01's examples of plans and orders, run through planning; each answer is proved to be the paper's.
-use job::Counted;
 use job::Rig;
+use planning::PlanCounted;
 ghost use mathlib.Core.Path.{_≡_};
 ghost use mathlib.Core.Bool.{true};
 
@@ -22,8 +22,8 @@ fn furthest_use() -> bool
         &mut drops,
         &mut loads,
     ) {
-        Counted::Refused(_) => false,
-        Counted::Count(n) => n == 3 && drops[2] == 2,
+        PlanCounted::Refused(_) => false,
+        PlanCounted::Count(n, _) => n == 3 && drops[2] == 2,
     }
 }
 
@@ -45,8 +45,8 @@ fn nothing_dropped() -> bool
         &mut drops,
         &mut loads,
     ) {
-        Counted::Refused(_) => false,
-        Counted::Count(n) => n == 3 && drops[2] == 0,
+        PlanCounted::Refused(_) => false,
+        PlanCounted::Count(n, _) => n == 3 && drops[2] == 0,
     }
 }
 
@@ -68,8 +68,8 @@ fn just_fits() -> bool
         &mut drops,
         &mut loads,
     ) {
-        Counted::Refused(_) => false,
-        Counted::Count(n) => n == 3 && drops[0] == 0,
+        PlanCounted::Refused(_) => false,
+        PlanCounted::Count(n, _) => n == 3 && drops[0] == 0,
     }
 }
 
@@ -91,8 +91,8 @@ fn too_large() -> bool
         &mut drops,
         &mut loads,
     ) {
-        Counted::Count(_) => false,
-        Counted::Refused(r) => job::number_of(r) == 7 && job::figure_of(r) == 0,
+        PlanCounted::Count(_, _) => false,
+        PlanCounted::Refused(r) => job::number_of(r) == 7 && job::figure_of(r) == 0,
     }
 }
 
@@ -114,8 +114,8 @@ fn repeated_test() -> bool
         &mut drops,
         &mut loads,
     ) {
-        Counted::Count(_) => false,
-        Counted::Refused(r) => job::number_of(r) == 8 && job::figure_of(r) == 2,
+        PlanCounted::Count(_, _) => false,
+        PlanCounted::Refused(r) => job::number_of(r) == 8 && job::figure_of(r) == 2,
     }
 }
 
@@ -137,8 +137,8 @@ fn missing_test() -> bool
         &mut drops,
         &mut loads,
     ) {
-        Counted::Count(_) => false,
-        Counted::Refused(r) => job::number_of(r) == 8 && job::figure_of(r) == 2,
+        PlanCounted::Count(_, _) => false,
+        PlanCounted::Refused(r) => job::number_of(r) == 8 && job::figure_of(r) == 2,
     }
 }
 

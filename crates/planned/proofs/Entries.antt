@@ -26,27 +26,27 @@ use Rattle.planned.proofs.Stages.{order-long}
 pub record First (p : Planned) (l : Lists) : Type 0 where
   pub read : ReadJob (p .request)
   pub order : take (p .request .head .tests) (l .order) ≡ p .order
-  pub drops : take (p .request .head .tests) (l .plan .drops) ≡ p .plan .drops
-  pub loads : take (p .request .head .tests) (l .plan .loads) ≡ p .plan .loads
+  pub drops : take (p .request .head .tests) (l .sets .drops) ≡ p .plan .drops
+  pub loads : take (p .request .head .tests) (l .sets .loads) ≡ p .plan .loads
   -- an entry for each test
   pub order-long : length (p .order) ≡ p .request .head .tests
   pub drops-long : length (p .plan .drops) ≡ p .request .head .tests
   pub loads-long : length (p .plan .loads) ≡ p .request .head .tests
 
--- what `plan_job` gave: in the first entries of the lists
-pub record Given (bs : List ℕ) (h : Head) (m : ℕ) (new : Lists) : Type 0 where
+-- what `plan_job` gave: in the first entries of the lists, with the end set
+pub record Given (bs : List ℕ) (h : Head) (m end : ℕ) (new : Lists) : Type 0 where
   pub planned : Planned
   pub is : planJob bs ≡ done planned
   pub head : planned .request .head ≡ h
-  pub count : m ≡ curveCount (take (h .tests) (new .plan .loads))
+  pub count : m ≡ curveCount (take (h .tests) (new .sets .loads))
   pub few : h .tests ≤ 256
   pub places : h .rig .places ≤ 64
   pub method : h .method ≤ 3
   pub order : take (h .tests) (new .order) ≡ planned .order
-  pub plan : first (h .tests) (new .plan) ≡ planned .plan
+  pub plan : first (h .tests) (new .sets) end ≡ planned .plan
   pub order-long : length (take (h .tests) (new .order)) ≡ h .tests
-  pub drops-long : length (take (h .tests) (new .plan .drops)) ≡ h .tests
-  pub loads-long : length (take (h .tests) (new .plan .loads)) ≡ h .tests
+  pub drops-long : length (take (h .tests) (new .sets .drops)) ≡ h .tests
+  pub loads-long : length (take (h .tests) (new .sets .loads)) ≡ h .tests
 
 module _ (bs : List ℕ) (all : Bytes bs) where
   module _ (old : Lists) (q : Request) (os : List ℕ) (sets : List Sets) (read : readBytes bs ≡ done q) (ordered : orderRequest q ≡ done os)
@@ -76,8 +76,8 @@ module _ (bs : List ℕ) (all : Bytes bs) where
         record {
           read = r;
           order = ap (λ (o : Outcome (List ℕ)). take n (leaves o (old .order))) os-left ∙ front os (old .order) n lo;
-          drops = ap (take n) (leaves-done (λ p. p .plan .drops) (planJob bs) here (old .plan .drops) is) ∙ front (dropsOf sets) (old .plan .drops) n ld;
-          loads = ap (take n) (leaves-done (λ p. p .plan .loads) (planJob bs) here (old .plan .loads) is) ∙ front (loadsOf sets) (old .plan .loads) n ll;
+          drops = ap (take n) (leaves-done (λ p. p .plan .drops) (planJob bs) here (old .sets .drops) is) ∙ front (dropsOf sets) (old .sets .drops) n ld;
+          loads = ap (take n) (leaves-done (λ p. p .plan .loads) (planJob bs) here (old .sets .loads) is) ∙ front (loadsOf sets) (old .sets .loads) n ll;
           order-long = lo;
           drops-long = ld;
           loads-long = ll;
@@ -102,9 +102,10 @@ module _ (bs : List ℕ) (all : Bytes bs) where
     unfolding plannedOutcome
     refused-job r e = mapped-refused told (planJob bs) _ _ (sym whole ∙ rw e refl)
 
-    given : (p : Planned) (h : Head) (m : ℕ) (new : Lists) → planJob bs ≡ done p → p .request .head ≡ h → curveCount (p .plan .loads) ≡ m → First p new
-        → Given bs h m new
-    given p h m new e is c f =
+    given : (p : Planned) (h : Head) (m end : ℕ) (new : Lists) → planJob bs ≡ done p → p .request .head ≡ h → curveCount (p .plan .loads) ≡ m
+        → p .plan .end ≡ end → First p new
+        → Given bs h m end new
+    given p h m end new e is c d f =
         rw (← is) (record {
           planned = p;
           is = e;
@@ -114,15 +115,16 @@ module _ (bs : List ℕ) (all : Bytes bs) where
           places = f .read .is-job .places-bounds .1;
           method = f .read .method;
           order = f .order;
-          plan = rw (f .drops, f .loads) refl;
+          plan = rw (f .drops, f .loads, ← d) refl;
           order-long = ap length (f .order) ∙ f .order-long;
           drops-long = ap length (f .drops) ∙ f .drops-long;
           loads-long = ap length (f .loads) ∙ f .loads-long;
         })
 
-    pub planned-job : (h : Head) (m : ℕ) (new : Lists) → x ≡ JobPlanned.Planned h m → new ≡ planJobLists bs old → Given bs h m new
+    pub planned-job : (h : Head) (m end : ℕ) (new : Lists) → x ≡ JobPlanned.Planned h m end → new ≡ planJobLists bs old → Given bs h m end new
     unfolding planJobLists keptUnless plannedOutcome
-    planned-job h m new e l =
-        let d = mapped-done told (planJob bs) (record { head = h; loads = m }) (sym whole ∙ rw e refl) in
+    planned-job h m end new e l =
+        let d = mapped-done told (planJob bs) (record { head = h; loads = m; end = end }) (sym whole ∙ rw e refl) in
         let k : new ≡ leavesLists bs old = l ∙ rw (done-room (shortest old) 256 long) refl in
-        given (d .0) h m new (d .1) (ap (λ (t : Told). t .head) (d .2)) (ap (λ (t : Told). t .loads) (d .2)) (rw k (entries-first old (d .0) (d .1)))
+        given (d .0) h m end new (d .1) (ap (λ (t : Told). t .head) (d .2)) (ap (λ (t : Told). t .loads) (d .2)) (ap (λ (t : Told). t .end) (d .2))
+        (rw k (entries-first old (d .0) (d .1)))

@@ -7,12 +7,11 @@ use lib.ListN.{length, take}
 use borrow.Author.Tests.{lt-leb}
 use Rattle.job.specs.declared.Head.{Head}
 use Rattle.job.specs.declared.Refusal.{Refusal}
-use Rattle.job.specs.declared.Counted.{Counted}
-use Rattle.job.specs.Refusal.{Outcome, done, refused, countOutcome, _>>=_, _>>_, mapped, demand, room, leaves}
+use Rattle.job.specs.Refusal.{Outcome, done, refused, _>>=_, _>>_, mapped, demand, room, leaves}
 use Rattle.job.specs.Words.{Job, capacity}
 use Rattle.job.specs.Handed.{jobKnownBy}
 use Rattle.job.specs.Calls.{orderingKnown, planningKnown}
-use Rattle.job.proofs.Laws.{both-done, done-room, mapped-done, mapped-refused, done-mapped, refused-mapped, refused≢done, done-same, count-done, count-refused}
+use Rattle.job.proofs.Laws.{both-done, done-room, mapped-done, mapped-refused, done-mapped, refused-mapped, refused≢done, done-same}
 use Rattle.job.proofs.JobExact.{job-by-exact}
 use Rattle.job_bytes.specs.JobBytes.{Request, jobIn, readBytes}
 use Rattle.lists.proofs.Overwritten.{front}
@@ -21,13 +20,14 @@ use Rattle.ordering.specs.Ordering.{ordering, orderAnswer, orderList}
 use Rattle.ordering.proofs.Complete.{order-complete}
 use Rattle.ordering.proofs.Ordered.{order-entries}
 use Rattle.drive.specs.declared.Sets.{Sets}
-use Rattle.drive.specs.Steps.{curveCount}
-use Rattle.planning.specs.Plan.{Plan, handed, entries}
+use Rattle.planning.specs.declared.PlanCounted.{PlanCounted}
+use Rattle.planning.specs.Plan.{handed, SetLists, entries, CountEnd, planOutcome}
 use Rattle.planning.specs.Planning.{planning, planAnswer, planLists}
+use Rattle.planning.proofs.Planned.{plan-made, plan-not-made}
 use Rattle.planning.proofs.Sequence.{exact-known, planning-known}
 use Rattle.planned.specs.declared.JobPlanned.{JobPlanned}
 use Rattle.planned.specs.Planned.{Planned, orderRequest, planInOrder, orderAndPlan, planJob}
-use Rattle.planned.specs.Contracts.{Told, told, plannedOutcome}
+use Rattle.planned.specs.Contracts.{counted, Told, told, plannedOutcome}
 use Rattle.planned.specs.Contracts.{Lists, listsOf, leavesPlan, leavesLists, shortest, planJobAnswer, keptUnless, planJobLists}
 
 -- lists that are long enough make no difference
@@ -104,15 +104,13 @@ module _ (q : Request) (tests : length (q .wants) ≡ q .head .tests) where
         (rw first r, ap length first ∙ order-long os r)
 
   -- ---- planning in a given order
-  module _ (order : List ℕ) (lent : Plan) (long : n ≤ entries lent) where
+  module _ (order : List ℕ) (lent : SetLists) (long : n ≤ entries lent) where
     plan-there : planning j order (entries lent) ≡ planning j order n
     plan-there = planning-room j order (entries lent) n (omega arith) (omega arith)
 
-    pub plan-answer : planAnswer j order lent ≡ mapped (λ p. curveCount (p .plan .loads)) (planInOrder q order)
+    pub plan-answer : planAnswer j order lent ≡ mapped counted (planInOrder q order)
     unfolding planAnswer planInOrder
-    plan-answer =
-        rw plan-there (mapped-after (λ (p : Planned). curveCount (p .plan .loads)) (λ sets. record { request = q; order = order; plan = handed sets })
-        (planning j order n))
+    plan-answer = rw plan-there (mapped-after counted (λ sets. record { request = q; order = order; plan = handed sets }) (planning j order n))
 
     pub plan-left : planLists j order lent ≡ leavesPlan (planInOrder q order) lent
     unfolding planLists planInOrder
@@ -144,19 +142,18 @@ was-read bs q e = rw e refl
 
 module _ (bs : List ℕ) (old : Lists) (wants : List ℕ) (w : wants ≡ leaves (mapped (λ q. q .wants) (readBytes bs)) (old .wants)) where
   -- nothing more is filled for bytes that do not read
-  pub unread-lists : (k i : ℕ) → readBytes bs ≡ refused k i → listsOf wants (old .order) (old .plan) ≡ leavesLists bs old
+  pub unread-lists : (k i : ℕ) → readBytes bs ≡ refused k i → listsOf wants (old .order) (old .sets) ≡ leavesLists bs old
   unfolding leavesLists mapped leaves _>>=_
   unread-lists k i e = rw (w, unread bs k i e, e) refl
 
-  pub read-lists : (q : Request) (order : List ℕ) (plan : Plan) → readBytes bs ≡ done q → order ≡ leaves (orderRequest q) (old .order)
-      → plan ≡ leavesPlan (orderAndPlan q) (old .plan)
-      → listsOf wants order plan ≡ leavesLists bs old
+  pub read-lists : (q : Request) (order : List ℕ) (sets : SetLists) → readBytes bs ≡ done q → order ≡ leaves (orderRequest q) (old .order)
+      → sets ≡ leavesPlan (orderAndPlan q) (old .sets)
+      → listsOf wants order sets ≡ leavesLists bs old
   unfolding leavesLists _>>=_
-  read-lists q order plan e o p = rw (w, o, p, was-read bs q e, e) refl
+  read-lists q order sets e o p = rw (w, o, p, was-read bs q e, e) refl
 
--- ---- the answer, of the load count that was answered
-module _ (bs : List ℕ) (q : Request) (e : readBytes bs ≡ done q) (x : Counted)
-    (c : countOutcome x ≡ mapped (λ p. curveCount (p .plan .loads)) (orderAndPlan q)) where
+-- ---- the answer, of the load count and the end set that were answered
+module _ (bs : List ℕ) (q : Request) (e : readBytes bs ≡ done q) (x : PlanCounted) (c : planOutcome x ≡ mapped counted (orderAndPlan q)) where
   -- what is planned is what was asked
   asked : (o : Outcome (List Sets)) (order : List ℕ) (p : Planned)
       → _>>=_ o (λ sets. done (record { request = q; order = order; plan = handed sets })) ≡ done p → p .request ≡ q
@@ -169,20 +166,21 @@ module _ (bs : List ℕ) (q : Request) (e : readBytes bs ≡ done q) (x : Counte
   same-request (done order) p e = asked (planning (jobIn q) order (q .head .tests)) order p e
   same-request (refused k i) p e = absurd (refused≢done e)
 
-  pub tells-refusal : (r : Refusal) → x ≡ Counted.Refused r → plannedOutcome (JobPlanned.Refused r) ≡ mapped told (planJob bs)
+  pub tells-refusal : (r : Refusal) → x ≡ PlanCounted.Refused r → plannedOutcome (JobPlanned.Refused r) ≡ mapped told (planJob bs)
   unfolding plannedOutcome
   tells-refusal r f =
-      refused-mapped told (planJob bs) _ _ (was-read bs q e ∙ mapped-refused (λ p. curveCount (p .plan .loads)) (orderAndPlan q) _ _ (count-refused x _ r c f))
+      refused-mapped told (planJob bs) _ _ (was-read bs q e ∙ mapped-refused counted (orderAndPlan q) _ _ (plan-not-made x _ c r f))
 
-  pub tells-count : (n : ℕ) → x ≡ Counted.Count n → plannedOutcome (JobPlanned.Planned (q .head) n) ≡ mapped told (planJob bs)
+  pub tells-count : (n end : ℕ) → x ≡ PlanCounted.Count n end → plannedOutcome (JobPlanned.Planned (q .head) n end) ≡ mapped told (planJob bs)
   unfolding plannedOutcome orderAndPlan
-  tells-count n f =
-      let m = mapped-done (λ p. curveCount (p .plan .loads)) (orderAndPlan q) n (count-done x _ n c f) in
+  tells-count n end f =
+      let m = mapped-done counted (orderAndPlan q) (record { count = n; end = end }) (plan-made x _ c n end f) in
       let s = same-request (orderRequest q) (m .0) (m .1) in
       same (ap (λ (q : Request). q .head) (sym s)) (sym (m .2)) ∙ done-mapped told (planJob bs) (m .0) (was-read bs q e ∙ m .1)
     where
-      same : {h g : Head} {n m : ℕ} → h ≡ g → n ≡ m → _≡_ {A = Outcome Told} (done (record { head = h; loads = n })) (done (record { head = g; loads = m }))
-      same p q i = done (record { head = p i; loads = q i })
+      same : {h g : Head} {a b : CountEnd} → h ≡ g → a ≡ b
+          → _≡_ {A = Outcome Told} (done (record { head = h; loads = a .count; end = a .end })) (done (record { head = g; loads = b .count; end = b .end }))
+      same p q i = done (record { head = p i; loads = q i .count; end = q i .end })
 
 -- ---- lists of at least 256 entries, and shorter ones
 module _ (bs : List ℕ) (old : Lists) where

@@ -24,12 +24,12 @@ use Rattle.drive.specs.Plan.{furthest}
 use Rattle.drive.proofs.Moves.{wants-of, loads-of, length-plan}
 use Rattle.drive.proofs.Holdings.{AllFit}
 use Rattle.drive.proofs.Best.{furthest-passes, furthest-is-fewest}
-use Rattle.planning.specs.Plan.{Plan, handed, first, entries, inOrder}
+use Rattle.planning.specs.Plan.{Plan, heldAtEnd, handed, SetLists, first, entries, CountEnd, countEnd, inOrder}
 use Rattle.planning.specs.Planning.{ourPlan, planning, planAnswer, planLists, checking}
 use Rattle.planning.specs.Demand3.{Demand3}
 use Rattle.planning.proofs.Sequence.{known-exact, exact-known, planning-parts, planning-known, steps-length, sets-known, check-ended, plan-refused}
 use Rattle.planning.proofs.Sequence.{plan-done}
-use Rattle.planning.proofs.CheckExact.{passed}
+use Rattle.planning.proofs.CheckExact.{passed, check-balanced}
 
 module _ (j : Job) (order : List ℕ) where
   abbrev n : ℕ
@@ -89,8 +89,8 @@ module _ (j : Job) (order : List ℕ) where
       let a = planning-parts j order k in
       let q = ourPlan j order in
       check-ended j order (handed q) (a .0)
-      (sets-known n _ _ (length-map q (λ s. s .drops) ∙ our-length (a .0)) (length-map q (λ s. s .loads) ∙ our-length (a .0))) _
-      (furthest-passes (j .rig .curves) cap 0 (empty-≼ all) steps (steps-fit (known-exact j order (a .0) .0) (a .1) order) 0)
+      (sets-known n _ _ (length-map q (λ s. s .drops) ∙ our-length (a .0)) (length-map q (λ s. s .loads) ∙ our-length (a .0))) (heldAtEnd q)
+      (furthest-passes (j .rig .curves) cap 0 (empty-≼ all) steps (steps-fit (known-exact j order (a .0) .0) (a .1) order) 0) refl
 
   pub our-least : (other : Plan) (m : ℕ) → checking j order other ≡ done m → loadCount (ourPlan j order) ≤ curveCount (other .loads)
   unfolding ourPlan
@@ -102,27 +102,27 @@ module _ (j : Job) (order : List ℕ) where
         loads-of steps (other .drops) (other .loads) (p .load-sets ∙ sym (steps-length j order (exact-known j order (p .is-job) (p .is-order)))),
       ) at f
 
-  module _ (lent : Plan) where
+  module _ (lent : SetLists) where
     abbrev plan : Outcome (List Sets)
     plan = planning j order (entries lent)
 
     -- the plan that was given is ours
-    record Ours (m : ℕ) : Type 0 where
+    record Ours (m : CountEnd) : Type 0 where
       known : planningKnown j order ≡ done tt
-      total : m ≡ loadCount (ourPlan j order)
-      lists : first n (planLists j order lent) ≡ handed (ourPlan j order)
+      total : m ≡ countEnd (ourPlan j order)
+      lists : first n (planLists j order lent) (heldAtEnd (ourPlan j order)) ≡ handed (ourPlan j order)
 
-    ours : (m : ℕ) → planAnswer j order lent ≡ done m → Ours m
+    ours : (m : CountEnd) → planAnswer j order lent ≡ done m → Ours m
     unfolding planAnswer planLists
     ours m e =
-        let d = mapped-done loadCount plan m e in
+        let d = mapped-done countEnd plan m e in
         let g = given (entries lent) (d .0) (d .1) in
         let q = ourPlan j order in
         let is : plan ≡ done q = d .1 ∙ ap done (sym (g .is)) in
         let long = plan-length (entries lent) q is in
         let ds = ap (take n) (leaves-done dropsOf plan q (lent .drops) is) ∙ front (dropsOf q) (lent .drops) n (length-map q (λ s. s .drops) ∙ long) in
         let ls = ap (take n) (leaves-done loadsOf plan q (lent .loads) is) ∙ front (loadsOf q) (lent .loads) n (length-map q (λ s. s .loads) ∙ long) in
-        record { known = g .known; total = sym (d .2) ∙ ap loadCount (sym (g .is)); lists = rw (ds, ls) refl }
+        record { known = g .known; total = sym (d .2) ∙ ap countEnd (sym (g .is)); lists = rw (ds, ls) refl }
 
     -- ---- planning that refuses, where job, order and lists are as they should be
 
@@ -132,7 +132,7 @@ module _ (j : Job) (order : List ℕ) where
     too-large k i known h e = go (each-examines (λ w. leb (size w) cap) 7 0 (j .wants))
       where
         r : plan ≡ refused k i
-        r = mapped-refused loadCount plan k i e
+        r = mapped-refused countEnd plan k i e
 
         kept : (f : List Sets → List ℕ) (old : List ℕ) → leaves (mapped f plan) old ≡ old
         kept f old = leaves-refused f plan k i old r
@@ -150,7 +150,7 @@ module _ (j : Job) (order : List ℕ) where
     missing-too-large known t l h = go (each-examines (λ w. leb (size w) cap) 7 0 (j .wants))
       where
         go : Examines (Fails (λ w. leb (size w) cap) (j .wants)) 7 0 (each (λ w. leb (size w) cap) 7 0 (j .wants))
-            → (k : ℕ) × (i : ℕ) × (mapped loadCount plan ≡ refused k i)
+            → (k : ℕ) × (i : ℕ) × (mapped countEnd plan ≡ refused k i)
         go (faultless f none) = absurd (none t (l, lt-leb (size (getD (j .wants) t 0)) cap h))
         go (faulty s f first) = (7, 0 + s, rw (plan-refused j order (entries lent) 7 (0 + s) (planning-known j order known ∙ f)) (unfold mapped in refl))
 
@@ -158,10 +158,12 @@ module _ (j : Job) (order : List ℕ) where
     pub demand3 : Demand3 j order (planAnswer j order lent) (planLists j order lent)
     demand3 =
         record {
-          ours = λ m e. let g : Ours m = ours m e in g .lists;
-          passes = λ m e. let g : Ours m = ours m e in rw (g .lists, g .total) (our-check (g .known));
-          counted = λ m e. let g : Ours m = ours m e in g .total ∙ ap (λ (p : Plan). curveCount (p .loads)) (sym (g .lists));
-          least = λ m e other k c. omega (arith, ours m e .total, our-least other k c);
+          ours = λ m e. let g : Ours m = ours m e in rw (g .total) (g .lists);
+          passes = λ m e. let g : Ours m = ours m e in rw (g .total, g .lists) (our-check (g .known));
+          counted = λ m e. let g : Ours m = ours m e in
+              ap (λ (a : CountEnd). a .count) (g .total) ∙ ap (λ (p : Plan). curveCount (p .loads)) (sym (g .lists));
+          least = λ m e other k c. omega (arith, ap (λ (a : CountEnd). a .count) (ours m e .total), our-least other k c);
+          balanced = λ other k c. check-balanced j order other k c;
           missing = λ is ord long. (
             (λ x. too-large (x .0) (x .1) (exact-known j order is ord) long (x .2)),
             (λ x. missing-too-large (exact-known j order is ord) (x .0) (x .1) (x .2)),

@@ -1,38 +1,42 @@
--- Refusal 12 names the first step that breaks a rule, or, before that, the first position where the drops or loads do not fit the tests.
+-- Refusal 12 names the first step that breaks a rule, or, before that, the first position where the drops or loads do not fit the tests; and behind the steps
+-- the number of tests, where the end set is not what is held.
 use mathlib.Core.Path.{_≡_, refl, sym, ap, _∙_}
 use mathlib.Core.Logic.{_↔_, _⊎_, inl, inr, ⊎-elim}
 use mathlib.Core.List.{List, []}
 use Prim.Native.Nat.{ℕ, _+_}
 use native.Mathlib.Omega.{arith}
+use native.Mathlib.Decide.{ℕ-discrete}
 use lib.ListN.{length}
 use Rattle.job.specs.Refusal.{Outcome, done, refused, _>>_}
 use Rattle.job.specs.Words.{Job, capacity, IsJob, IsOrder}
 use Rattle.job.specs.Handed.{allCurves, jobKnown}
 use Rattle.job.specs.Order.{orderKnown}
 use Rattle.job.specs.Calls.{checkingKnown}
-use Rattle.job.proofs.Laws.{refused≢done, refused-same, done-both}
+use Rattle.job.proofs.Laws.{refused≢done, refused-same}
 use Rattle.job.proofs.Faults.{First}
-use Rattle.job.proofs.Examination.{refused-both}
 use Rattle.job.proofs.Refuses.{refuses, HandedRefusal, job-by-refuses}
 use Rattle.job.proofs.OrderExact.{order-refuses}
 use Rattle.drive.specs.declared.Checked.{Checked}
 use Rattle.drive.specs.declared.Checked.the-variants.{Ends, Breaks}
-use Rattle.drive.specs.Steps.{Move, moves, curveCount}
-use Rattle.drive.specs.Check.{checkFrom}
-use Rattle.drive.proofs.CheckExact.{FirstFault, fault-exact}
-use Rattle.planning.specs.Plan.{Plan, inOrder}
-use Rattle.planning.specs.Planning.{setsKnown, checkedOutcome, checking}
-use Rattle.planning.proofs.Sequence.{known-exact, exact-known}
+use Rattle.drive.specs.Steps.{Move, curveCount}
+use Rattle.drive.proofs.CheckExact.{AllKept, FirstFault, check-exact, check-held, fault-exact}
+use Rattle.planning.specs.Plan.{Plan, heldAtEnd}
+use Rattle.planning.specs.Planning.{setsKnown, checkedOutcome, planMoves, planSets, endKnown, checking}
+use Rattle.planning.proofs.Sequence.{known-exact, exact-known, stepsChecked, end-known, end-other, check-sets, check-broken, check-other-end}
+use Rattle.planning.proofs.CheckExact.{steps-ended}
 use Rattle.planning.proofs.EntryFault.{EntryFault, sets-exact, entries-exact}
 
 -- what the plan check refuses by 12 at step i
 pub record Rejected (j : Job) (order : List ℕ) (p : Plan) (i : ℕ) : Type 0 where
   pub is-job : IsJob j
   pub is-order : IsOrder (length (j .wants)) order
-  -- "first step breaking a rule; before that, first missing or surplus position of the drops or loads, the smaller"
+  -- "first step breaking a rule; before that, first missing or surplus position of the drops or loads, the smaller"; 02, wish 1: "a plan whose end set is not
+  -- what is held, with the number of tests as its step"
   pub fault : First (EntryFault (length (j .wants)) (length (p .drops)) (length (p .loads))) i
       ⊎ ((length (p .drops) ≡ length (j .wants)) × (length (p .loads) ≡ length (j .wants))
-      × FirstFault (capacity (j .rig)) (allCurves (j .rig .curves)) 0 (moves (inOrder (j .wants) order) (p .drops) (p .loads)) i)
+      × (FirstFault (capacity (j .rig)) (allCurves (j .rig .curves)) 0 (planMoves j order p) i
+      ⊎ ((i ≡ length (j .wants)) × AllKept (capacity (j .rig)) (allCurves (j .rig .curves)) 0 (planMoves j order p)
+      × (p .end ≡ heldAtEnd (planSets j order p) → ⊥))))
 
 -- a sequence that is refused: its first part is, or the rest
 refused-split : {A B : Type 0} (a : Outcome A) (b : Outcome B) (k i : ℕ) → _>>_ a b ≡ refused k i
@@ -42,21 +46,20 @@ refused-split (done x) b k i e = inr (x, refl, e)
 refused-split (refused l j) b k i e = inl cc
 
 -- steps that break a rule
-broke : (c : Checked) (n i : ℕ) → _>>_ (checkedOutcome c) (done n) ≡ refused 12 i → c ≡ Breaks i
-unfolding checkedOutcome _>>_
-broke (Ends e) n i p = absurd (refused≢done (sym p))
-broke (Breaks j) n i p = ap Breaks (refused-same p)
-
-breaking : (c : Checked) (n i : ℕ) → c ≡ Breaks i → _>>_ (checkedOutcome c) (done n) ≡ refused 12 i
-unfolding checkedOutcome _>>_
-breaking c n i e = rw e refl
+broke : (c : Checked) (i : ℕ) → checkedOutcome c ≡ refused 12 i → c ≡ Breaks i
+unfolding checkedOutcome
+broke (Ends e) i p = absurd (refused≢done (sym p))
+broke (Breaks j) i p = ap Breaks (refused-same p)
 
 module _ (j : Job) (order : List ℕ) (p : Plan) (i : ℕ) where
+  abbrev cap : ℕ
+  cap = capacity (j .rig)
+
   abbrev all : ℕ
   all = allCurves (j .rig .curves)
 
   abbrev ms : List Move
-  ms = moves (inOrder (j .wants) order) (p .drops) (p .loads)
+  ms = planMoves j order p
 
   abbrev n : ℕ
   n = length (j .wants)
@@ -67,12 +70,27 @@ module _ (j : Job) (order : List ℕ) (p : Plan) (i : ℕ) where
   abbrev l : ℕ
   l = length (p .loads)
 
-  -- the check of the steps, and the sets before it
+  -- the end set, the check of the steps before it, and the sets before that
+  abbrev end-check : Outcome ℕ
+  end-check = _>>_ (endKnown j order p) (done (curveCount (p .loads)))
+
   abbrev step-check : Outcome ℕ
-  step-check = _>>_ (checkedOutcome (checkFrom (capacity (j .rig)) all 0 0 ms)) (done (curveCount (p .loads)))
+  step-check = _>>_ (checkedOutcome (stepsChecked j order p)) end-check
 
   abbrev set-check : Outcome ℕ
   set-check = _>>_ (setsKnown n d l) step-check
+
+  -- what is wrong behind the lengths
+  abbrev StepFault : Type 0
+  StepFault = FirstFault cap all 0 ms i ⊎ ((i ≡ n) × AllKept cap all 0 ms × (p .end ≡ heldAtEnd (planSets j order p) → ⊥))
+
+  -- an end set that is not what is held
+  other-end : endKnown j order p ≡ refused 12 i → (i ≡ n) × (p .end ≡ heldAtEnd (planSets j order p) → ⊥)
+  other-end e = go (ℕ-discrete (p .end) (heldAtEnd (planSets j order p)))
+    where
+      go : Dec (p .end ≡ heldAtEnd (planSets j order p)) → (i ≡ n) × (p .end ≡ heldAtEnd (planSets j order p) → ⊥)
+      go (yes q) = absurd (refused≢done (sym e ∙ end-known j order p q))
+      go (no q) = (refused-same (sym e ∙ end-other j order p q), q)
 
   -- job and order are not refused by 12
   known-refuses : checkingKnown j order ≡ refused 12 i → ⊥
@@ -83,21 +101,32 @@ module _ (j : Job) (order : List ℕ) (p : Plan) (i : ℕ) where
       go (inl e) = ⊎-elim (λ q. omega arith) (λ q. omega arith) (refuses HandedRefusal _ 12 i (job-by-refuses 0 j) e)
       go (inr x) = omega (arith, refuses (λ k i. k ≡ 8) _ 12 i (order-refuses n [] order) (x .2))
 
+  by-end : (endKnown j order p ≡ refused 12 i) ⊎ ((x : Unit {0}) × (endKnown j order p ≡ done x) × (done (curveCount (p .loads)) ≡ refused 12 i))
+      → (i ≡ n) × (p .end ≡ heldAtEnd (planSets j order p) → ⊥)
+  by-end (inl e) = other-end e
+  by-end (inr e) = absurd (refused≢done (sym (e .2)))
+
+  by-steps : (checkedOutcome (stepsChecked j order p) ≡ refused 12 i)
+      ⊎ ((x : Unit {0}) × (checkedOutcome (stepsChecked j order p) ≡ done x) × (end-check ≡ refused 12 i))
+      → StepFault
+  by-steps (inl e) =
+      let z : i ≡ 0 + i = omega arith in
+      inl (fault-exact cap all 0 0 ms i .0 (broke (stepsChecked j order p) i e ∙ ap Breaks z))
+  by-steps (inr e) =
+      let s = steps-ended (stepsChecked j order p) (e .1) in
+      let x = by-end (refused-split (endKnown j order p) (done (curveCount (p .loads))) 12 i (e .2)) in
+      inr (x .0, check-held cap all 0 0 ms (s .0) (s .1) .1, x .1)
+
   rejected : checking j order p ≡ refused 12 i → Rejected j order p i
   unfolding checking
   rejected e = by-known (refused-split (checkingKnown j order) _ 12 i e)
     where
       by-sets : (setsKnown n d l ≡ refused 12 i) ⊎ ((x : Unit {0}) × (setsKnown n d l ≡ done x) × (step-check ≡ refused 12 i))
-          → First (EntryFault n d l) i ⊎ ((d ≡ n) × (l ≡ n) × FirstFault (capacity (j .rig)) all 0 ms i)
+          → First (EntryFault n d l) i ⊎ ((d ≡ n) × (l ≡ n) × StepFault)
       by-sets (inl e) = inl (sets-exact n d l i .0 e)
       by-sets (inr e) =
           let x = entries-exact n d l .0 (e .1) in
-          let z : i ≡ 0 + i = omega arith in
-          inr (
-            x .0,
-            x .1,
-            fault-exact (capacity (j .rig)) all 0 0 ms i .0 (broke (checkFrom (capacity (j .rig)) all 0 0 ms) (curveCount (p .loads)) i (e .2) ∙ ap Breaks z),
-          )
+          inr (x .0, x .1, by-steps (refused-split (checkedOutcome (stepsChecked j order p)) end-check 12 i (e .2)))
 
       by-known : (checkingKnown j order ≡ refused 12 i) ⊎ ((x : Unit {0}) × (checkingKnown j order ≡ done x) × (set-check ≡ refused 12 i))
           → Rejected j order p i
@@ -107,15 +136,18 @@ module _ (j : Job) (order : List ℕ) (p : Plan) (i : ℕ) where
           record { is-job = k .0; is-order = k .1; fault = by-sets (refused-split (setsKnown n d l) step-check 12 i (x .2)) }
 
   rejecting : Rejected j order p i → checking j order p ≡ refused 12 i
-  unfolding checking
-  rejecting r = done-both _ _ (exact-known j order (r .is-job) (r .is-order)) ∙ go (r .fault)
+  rejecting r = go (r .fault)
     where
-      go : First (EntryFault n d l) i ⊎ ((d ≡ n) × (l ≡ n) × FirstFault (capacity (j .rig)) all 0 ms i) → set-check ≡ refused 12 i
-      go (inl f) = refused-both _ _ 12 i (sets-exact n d l i .1 f)
-      go (inr x) =
+      known : checkingKnown j order ≡ done tt
+      known = exact-known j order (r .is-job) (r .is-order)
+
+      go : First (EntryFault n d l) i ⊎ ((d ≡ n) × (l ≡ n) × StepFault) → checking j order p ≡ refused 12 i
+      go (inl f) = check-sets j order p known 12 i (sets-exact n d l i .1 f)
+      go (inr (x, y, inl f)) =
           let z : 0 + i ≡ i = omega arith in
-          done-both _ _ (entries-exact n d l .1 (x .0, x .1))
-          ∙ breaking (checkFrom (capacity (j .rig)) all 0 0 ms) (curveCount (p .loads)) i (fault-exact (capacity (j .rig)) all 0 0 ms i .1 (x .2) ∙ ap Breaks z)
+          check-broken j order p known (entries-exact n d l .1 (x, y)) i (fault-exact cap all 0 0 ms i .1 f ∙ ap Breaks z)
+      go (inr (x, y, inr (e, ok, o))) =
+          check-other-end j order p known (entries-exact n d l .1 (x, y)) _ (check-exact cap all 0 0 ms .1 ok) o ∙ ap (refused 12) (sym e)
 
   -- REFUSAL 12 IS EXACT
   pub rejected-exact : checking j order p ≡ refused 12 i ↔ Rejected j order p i

@@ -7,7 +7,8 @@ use lib.Pow.{pow-pos}
 use lib.ListN.{length, getD, take, length-map}
 use lib.Seq.{sets}
 use borrow.Author.Tests.{lt-leb}
-use Rattle.job.specs.Refusal.{Outcome, done, refused, _>>=_, _>>_, mapped, demand, room, overwritten}
+use Rattle.job.specs.declared.Refusal.{Refusal}
+use Rattle.job.specs.Refusal.{Outcome, done, refused, number, figure, _>>=_, _>>_, mapped, demand, room, overwritten}
 use Rattle.job.specs.Words.{Job, capacity, IsJob, IsOrder}
 use Rattle.job.specs.Handed.{testsKnown}
 use Rattle.job.specs.Calls.{planningKnown}
@@ -17,11 +18,12 @@ use Rattle.job.proofs.Orders.{order-length}
 use Rattle.job.proofs.OrderExact.{own-tests}
 use Rattle.lists.proofs.Overwritten.{front, sets-whole}
 use Rattle.drive.specs.declared.Sets.{Sets}
-use Rattle.drive.specs.Steps.{dropsOf, loadsOf, curveCount, loadCount}
+use Rattle.drive.specs.Steps.{heldAfter, dropsOf, loadsOf, curveCount, loadCount}
 use Rattle.drive.specs.Plan.{furthest, planFrom}
 use Rattle.drive.proofs.Moves.{length-plan}
 use Rattle.drive.proofs.Width.{plan-width}
-use Rattle.planning.specs.Plan.{Plan, planOf, entries, inOrder}
+use Rattle.planning.specs.declared.PlanCounted.{PlanCounted}
+use Rattle.planning.specs.Plan.{heldAtEnd, SetLists, setLists, entries, CountEnd, planOutcome, inOrder}
 use Rattle.planning.specs.Planning.{ourPlan, planning, planAnswer, planLists}
 use Rattle.planning.specs.Demand3.{Demand3}
 use Rattle.planning.specs.Contracts.{planTests, testsAnswer, testsLists}
@@ -29,9 +31,19 @@ use Rattle.planning.proofs.Turns.{length-inOrder, wants-at}
 use Rattle.planning.proofs.Sequence.{known-exact, planning-parts, plan-refused}
 use Rattle.planning.proofs.Demand3.{demand3}
 
+-- ---- what an answer says of the outcome that it stands for
+module _ (r : PlanCounted) (o : Outcome CountEnd) (p : planOutcome r ≡ o) where
+  pub plan-made : (n end : ℕ) → r ≡ PlanCounted.Count n end → o ≡ done (record { count = n; end = end })
+  unfolding planOutcome
+  plan-made n end e = sym p ∙ rw e refl
+
+  pub plan-not-made : (x : Refusal) → r ≡ PlanCounted.Refused x → o ≡ refused (number x) (figure x)
+  unfolding planOutcome
+  plan-not-made x e = sym p ∙ rw e refl
+
 -- ---- without examinations
 
-module _ (places : ℕ) (wants order : List ℕ) (lent : Plan) where
+module _ (places : ℕ) (wants order : List ℕ) (lent : SetLists) where
   abbrev n : ℕ
   n = length order
 
@@ -39,7 +51,7 @@ module _ (places : ℕ) (wants order : List ℕ) (lent : Plan) where
   plan = planFrom (furthest 64) places 0 (inOrder wants order)
 
   -- the contract of planning without examinations, for an answer and what the lent lists hold afterwards
-  abbrev Tests : Outcome ℕ → Plan → Type 0
+  abbrev Tests : Outcome CountEnd → SetLists → Type 0
   Tests answer lists = (answer ≡ testsAnswer places wants order lent) × (lists ≡ testsLists places wants order lent)
 
   refused-tests : (k i : ℕ) → planTests places wants order lent ≡ refused k i → Tests (refused k i) lent
@@ -57,12 +69,13 @@ module _ (places : ℕ) (wants order : List ℕ) (lent : Plan) where
     unfolding planTests _>>=_
     tests-done h = done-both _ _ (few-tests n few) ∙ rw (done-room (entries lent) n h) refl
 
-    -- what was written for steps that want ws, and counted in the first entries of the loads
-    pub planned : n ≤ entries lent → (ws : List ℕ) (count : ℕ) (ds ls : List ℕ) → ws ≡ inOrder wants order
+    -- what was written for steps that want ws, counted in the first entries of the loads, and held at the end
+    pub planned : n ≤ entries lent → (ws : List ℕ) (count end : ℕ) (ds ls : List ℕ) → ws ≡ inOrder wants order
+        → end ≡ heldAfter 0 (planFrom (furthest 64) places 0 ws)
         → ds ≡ sets (lent .drops) 0 (dropsOf (planFrom (furthest 64) places 0 ws)) → ls ≡ sets (lent .loads) 0 (loadsOf (planFrom (furthest 64) places 0 ws))
-        → count ≡ curveCount (take n ls) → Tests (done count) (planOf ds ls)
+        → count ≡ curveCount (take n ls) → Tests (done (record { count = count; end = end })) (setLists ds ls)
     unfolding testsAnswer testsLists mapped
-    planned h ws count ds ls e d l c =
+    planned h ws count end ds ls e x d l c =
         let p = tests-done h in
         let long : length plan ≡ n = length-plan (furthest 64) places 0 (inOrder wants order) ∙ length-inOrder wants order in
         let nd : length (dropsOf plan) ≡ n = length-map plan (λ s. s .drops) ∙ long in
@@ -70,16 +83,17 @@ module _ (places : ℕ) (wants order : List ℕ) (lent : Plan) where
         let wd : ds ≡ overwritten (dropsOf plan) (lent .drops) = rw e at d ∙ sets-whole (dropsOf plan) (lent .drops) (omega arith) in
         let wl : ls ≡ overwritten (loadsOf plan) (lent .loads) = rw e at l ∙ sets-whole (loadsOf plan) (lent .loads) (omega arith) in
         let wc : count ≡ loadCount plan = c ∙ ap (λ (x : List ℕ). curveCount (take n x)) wl ∙ ap curveCount (front (loadsOf plan) (lent .loads) n nl) in
-        (rw (wc, p) refl, rw (wd, wl, ← (leaves-done dropsOf _ plan (lent .drops) p), ← (leaves-done loadsOf _ plan (lent .loads) p)) refl)
+        let we : end ≡ heldAtEnd plan = rw e at x in
+        (rw (wc, we, p) refl, rw (wd, wl, ← (leaves-done dropsOf _ plan (lent .drops) p), ← (leaves-done loadsOf _ plan (lent .loads) p)) refl)
 
 -- ---- behind the examinations
 
-module _ (j : Job) (order : List ℕ) (lent : Plan) where
+module _ (j : Job) (order : List ℕ) (lent : SetLists) where
   -- the contract of planning, for an answer and what the lent lists hold afterwards
-  abbrev Contract : Outcome ℕ → Plan → Type 0
+  abbrev Contract : Outcome CountEnd → SetLists → Type 0
   Contract answer lists = (answer ≡ planAnswer j order lent) × ((lists ≡ planLists j order lent) × Demand3 j order answer lists)
 
-  contract : (answer : Outcome ℕ) (lists : Plan) → answer ≡ planAnswer j order lent → lists ≡ planLists j order lent → Contract answer lists
+  contract : (answer : Outcome CountEnd) (lists : SetLists) → answer ≡ planAnswer j order lent → lists ≡ planLists j order lent → Contract answer lists
   contract answer lists a l = (a, (l, rw (a, l) (demand3 j order lent)))
 
   pub refused-contract : (k i : ℕ) → planningKnown j order ≡ refused k i → Contract (refused k i) lent
@@ -121,6 +135,6 @@ module _ (j : Job) (order : List ℕ) (lent : Plan) where
     unfolding planLists testsLists
     tests-lists = rw as-tests refl
 
-    pub tests-contract : (answer : Outcome ℕ) (lists : Plan) → answer ≡ testsAnswer (capacity (j .rig)) (j .wants) order lent
+    pub tests-contract : (answer : Outcome CountEnd) (lists : SetLists) → answer ≡ testsAnswer (capacity (j .rig)) (j .wants) order lent
         → lists ≡ testsLists (capacity (j .rig)) (j .wants) order lent → Contract answer lists
     tests-contract answer lists a l = contract answer lists (a ∙ tests-answer) (l ∙ tests-lists)

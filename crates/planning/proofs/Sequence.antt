@@ -1,5 +1,5 @@
 -- Planning and checking, examination by examination: which refusal the examinations so far come to, and what is known behind them.
-use mathlib.Core.Path.{_≡_, refl, _∙_}
+use mathlib.Core.Path.{_≡_, refl, sym, _∙_}
 use mathlib.Core.List.{List}
 use Prim.Native.Nat.{ℕ, _≤_, min}
 use lib.Dec.{eqb}
@@ -10,17 +10,19 @@ use Rattle.job.specs.Refusal.{done, refused, _>>=_, _>>_, demand}
 use Rattle.job.specs.Words.{Job, capacity, IsJob, IsOrder}
 use Rattle.job.specs.Handed.{allCurves, wantsFit, jobKnown}
 use Rattle.job.specs.Calls.{checkingKnown, planningKnown}
-use Rattle.job.proofs.Laws.{both, demand-true, both-done, done-both, done-room}
+use Rattle.job.proofs.Laws.{both, demand-true, demand-done, demand-refused, both-done, done-both, done-room}
 use Rattle.job.proofs.Examination.{refused-both}
 use Rattle.job.proofs.JobExact.{job-exact}
 use Rattle.job.proofs.OrderExact.{order-exact}
 use Rattle.job.proofs.Orders.{order-length}
 use Rattle.lists.proofs.Overwritten.{sets-front}
+use Rattle.drive.specs.declared.Checked.{Checked}
 use Rattle.drive.specs.declared.Checked.the-variants.{Ends, Breaks}
-use Rattle.drive.specs.Steps.{moves, curveCount}
+use Rattle.drive.specs.Steps.{curveCount}
 use Rattle.drive.specs.Check.{checkFrom}
-use Rattle.planning.specs.Plan.{Plan, inOrder}
-use Rattle.planning.specs.Planning.{ourPlan, planning, setsKnown, checkedOutcome, checking}
+use Rattle.drive.proofs.CheckExact.{check-held}
+use Rattle.planning.specs.Plan.{Plan, heldAtEnd, inOrder}
+use Rattle.planning.specs.Planning.{ourPlan, planning, setsKnown, checkedOutcome, planMoves, planSets, endKnown, checking}
 use Rattle.planning.proofs.Turns.{length-inOrder}
 
 -- ---- behind the examinations
@@ -80,23 +82,46 @@ module _ (j : Job) (order : List ℕ) (p : Plan) where
   unfolding checking
   check-refused k i e = refused-both _ _ k i e
 
+  -- what the check of the steps answers
+  abbrev pub stepsChecked : Checked
+  stepsChecked = checkFrom (capacity (j .rig)) (allCurves (j .rig .curves)) 0 0 (planMoves j order p)
+
+  -- the end set is what is held, or not
+  pub end-known : p .end ≡ heldAtEnd (planSets j order p) → endKnown j order p ≡ done tt
+  unfolding endKnown
+  end-known e = demand-done _ 12 _ (eq-eqb _ _ e)
+
+  pub end-other : (p .end ≡ heldAtEnd (planSets j order p) → ⊥) → endKnown j order p ≡ refused 12 (length (j .wants))
+  unfolding endKnown
+  end-other h = demand-refused _ 12 _ (ne-eqb _ _ h)
+
   module _ (known : checkingKnown j order ≡ done tt) where
     pub check-sets : (k i : ℕ) → setsKnown (length (j .wants)) (length (p .drops)) (length (p .loads)) ≡ refused k i → checking j order p ≡ refused k i
     unfolding checking
     check-sets k i e = done-both _ _ known ∙ refused-both _ _ k i e
 
     module _ (sets : setsKnown (length (j .wants)) (length (p .drops)) (length (p .loads)) ≡ done tt) where
-      pub check-broken : (i : ℕ)
-          → checkFrom (capacity (j .rig)) (allCurves (j .rig .curves)) 0 0 (moves (inOrder (j .wants) order) (p .drops) (p .loads)) ≡ Breaks i
-          → checking j order p ≡ refused 12 i
+      pub check-broken : (i : ℕ) → stepsChecked ≡ Breaks i → checking j order p ≡ refused 12 i
       unfolding checking checkedOutcome _>>_
       check-broken i e = done-both _ _ known ∙ done-both _ _ sets ∙ rw e refl
 
-      pub check-ended : (h : ℕ)
-          → checkFrom (capacity (j .rig)) (allCurves (j .rig .curves)) 0 0 (moves (inOrder (j .wants) order) (p .drops) (p .loads)) ≡ Ends h
-          → checking j order p ≡ done (curveCount (p .loads))
-      unfolding checking checkedOutcome _>>_
-      check-ended h e = done-both _ _ known ∙ done-both _ _ sets ∙ rw e refl
+      -- steps that end with h held
+      module _ (h : ℕ) (ends : stepsChecked ≡ Ends h) where
+        held : h ≡ heldAtEnd (planSets j order p)
+        held = check-held (capacity (j .rig)) (allCurves (j .rig .curves)) 0 0 (planMoves j order p) h ends .0
+
+        steps-end : checkedOutcome stepsChecked ≡ done tt
+        unfolding checkedOutcome
+        steps-end = rw ends refl
+
+        pub check-other-end : (p .end ≡ h → ⊥) → checking j order p ≡ refused 12 (length (j .wants))
+        unfolding checking
+        check-other-end o =
+            done-both _ _ known ∙ done-both _ _ sets ∙ done-both _ _ steps-end ∙ refused-both _ _ 12 _ (end-other (λ e. o (e ∙ sym held)))
+
+        pub check-ended : p .end ≡ h → checking j order p ≡ done (curveCount (p .loads))
+        unfolding checking
+        check-ended e = done-both _ _ known ∙ done-both _ _ sets ∙ done-both _ _ steps-end ∙ done-both _ _ (end-known (e ∙ held))
 
 -- ---- planning
 module _ (j : Job) (order : List ℕ) (lent : ℕ) where

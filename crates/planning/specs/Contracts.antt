@@ -2,14 +2,14 @@
 use mathlib.Core.List.{List}
 use Prim.Native.Nat.{ℕ}
 use lib.ListN.{length}
-use Rattle.job.specs.Refusal.{Outcome, done, _>>=_, _>>_, mapped, room, leaves}
+use Rattle.job.specs.Refusal.{Outcome, done, _>>=_, _>>_, mapped, room}
 use Rattle.job.specs.Handed.{testsKnown}
 use Rattle.drive.specs.declared.Sets.{Sets}
-use Rattle.drive.specs.Steps.{dropsOf, loadsOf, loadCount}
 use Rattle.drive.specs.Plan.{furthest, planFrom}
-use Rattle.planning.specs.Plan.{Plan, planOf, entries, inOrder}
+use Rattle.planning.specs.Plan.{SetLists, entries, CountEnd, countEnd, inOrder}
+use Rattle.planning.specs.Planning.{leavesSets}
 
-module _ (places : ℕ) (wants order : List ℕ) (lent : Plan) where
+module _ (places : ℕ) (wants order : List ℕ) (lent : SetLists) where
   -- 10 and 9, of the lists alone
   unfoldable pub planTests : Outcome (List Sets)
   planTests = do
@@ -18,9 +18,9 @@ module _ (places : ℕ) (wants order : List ℕ) (lent : Plan) where
     done (planFrom (furthest 64) places 0 (inOrder wants order))
 
   -- what it answers
-  unfoldable pub testsAnswer : Outcome ℕ
-  testsAnswer = mapped loadCount planTests
+  unfoldable pub testsAnswer : Outcome CountEnd
+  testsAnswer = mapped countEnd planTests
 
   -- what the lent drops and loads hold afterwards
-  unfoldable pub testsLists : Plan
-  testsLists = planOf (leaves (mapped dropsOf planTests) (lent .drops)) (leaves (mapped loadsOf planTests) (lent .loads))
+  unfoldable pub testsLists : SetLists
+  testsLists = leavesSets planTests lent

@@ -1,27 +1,31 @@
--- DEMAND 3, the statement.
+-- DEMAND 3, the statement, with the end sets of 02, wish 1.
 use mathlib.Core.Path.{_≡_}
 use mathlib.Core.Logic.{_↔_}
 use mathlib.Core.List.{List}
-use Prim.Native.Nat.{ℕ, _≤_, _<_}
+use Prim.Native.Nat.{ℕ, _+_, _≤_, _<_}
 use lib.ListN.{length, getD}
 use Rattle.bitset.specs.Set.{size}
 use Rattle.job.specs.Refusal.{Outcome, done, refused}
 use Rattle.job.specs.Words.{Job, capacity, IsJob, IsOrder}
 use Rattle.drive.specs.Steps.{curveCount}
-use Rattle.planning.specs.Plan.{Plan, handed, first, entries}
+use Rattle.planning.specs.Plan.{Plan, handed, SetLists, first, entries, CountEnd}
 use Rattle.planning.specs.Planning.{ourPlan, checking}
 
 -- Of what planning answered, and of what the drops and loads lent to it hold afterwards, for one job and one order.
 -- "Our plan is what planning leaves in the first entries of the drops and loads lent to it, one for each test. It is missing if planning answers a refusal."
-pub record Demand3 (j : Job) (order : List ℕ) (answer : Outcome ℕ) (lists : Plan) : Type 0 where
-  -- the plan that was given is the one of "Our plan"
-  pub ours : (n : ℕ) → answer ≡ done n → first (length (j .wants)) lists ≡ handed (ourPlan j order)
+-- Wish 1: "a plan in demand 3 has it too": our plan's end set is the one that planning answered.
+pub record Demand3 (j : Job) (order : List ℕ) (answer : Outcome CountEnd) (lists : SetLists) : Type 0 where
+  -- the plan that was given is the one of "Our plan", with what it leaves in the drive as its end set
+  pub ours : (a : CountEnd) → answer ≡ done a → first (length (j .wants)) lists (a .end) ≡ handed (ourPlan j order)
   -- it passes the plan check
-  pub passes : (n : ℕ) → answer ≡ done n → checking j order (first (length (j .wants)) lists) ≡ done n
+  pub passes : (a : CountEnd) → answer ≡ done a → checking j order (first (length (j .wants)) lists (a .end)) ≡ done (a .count)
   -- the load count answered is the number of curves in all its load sets together
-  pub counted : (n : ℕ) → answer ≡ done n → n ≡ curveCount (first (length (j .wants)) lists .loads)
-  -- no plan for the same job and order that the same check passes, whatever its sets, has fewer loads
-  pub least : (n : ℕ) → answer ≡ done n → (other : Plan) (m : ℕ) → checking j order other ≡ done m → n ≤ curveCount (other .loads)
+  pub counted : (a : CountEnd) → answer ≡ done a → a .count ≡ curveCount (first (length (j .wants)) lists (a .end) .loads)
+  -- "The fewest-loads statement now compares plans that end empty": no plan for the same job and order that the same check passes, whatever its sets, has fewer
+  -- loads (it passes only plans whose end set is what is held at the end)
+  pub least : (a : CountEnd) → answer ≡ done a → (other : Plan) (m : ℕ) → checking j order other ≡ done m → a .count ≤ curveCount (other .loads)
+  -- "and drops equal loads": in every plan that the check passes, ours among them, drops and end set together have as many curves as the loads
+  pub balanced : (other : Plan) (m : ℕ) → checking j order other ≡ done m → curveCount (other .drops) + size (other .end) ≡ curveCount (other .loads)
   -- for every job and every order of it, with lists long enough, a plan is missing exactly where some test wants more curves than there are places
   pub missing : IsJob j → IsOrder (length (j .wants)) order → length (j .wants) ≤ entries lists
       → ((number : ℕ) × (figure : ℕ) × (answer ≡ refused number figure)) ↔

@@ -1,4 +1,4 @@
--- Planning and checking: "planning 8, 7, 9"; "checking 8, 12", after 5 and 10.
+-- Planning and checking: "planning 8, 7, 9"; "checking 8, 12", after 5 and 10; with the end set of 02, wish 1.
 use mathlib.Core.Bool.{_&&_}
 use mathlib.Core.List.{List}
 use Prim.Native.Nat.{ℕ, min}
@@ -11,10 +11,10 @@ use Rattle.job.specs.Calls.{checkingKnown, planningKnown}
 use Rattle.drive.specs.declared.Sets.{Sets}
 use Rattle.drive.specs.declared.Checked.{Checked}
 use Rattle.drive.specs.declared.Checked.the-variants.{Ends, Breaks}
-use Rattle.drive.specs.Steps.{dropsOf, loadsOf, moves, curveCount, loadCount}
+use Rattle.drive.specs.Steps.{Move, dropsOf, loadsOf, setsOf, moves, curveCount}
 use Rattle.drive.specs.Check.{checkFrom}
 use Rattle.drive.specs.Plan.{furthest, planFrom}
-use Rattle.planning.specs.Plan.{Plan, planOf, entries, inOrder}
+use Rattle.planning.specs.Plan.{Plan, heldAtEnd, SetLists, setLists, entries, CountEnd, countEnd, inOrder}
 
 -- "Our plan": "The drive is empty before step 0."
 unfoldable pub ourPlan : Job → List ℕ → List Sets
@@ -27,30 +27,46 @@ planning j order lent = do
   _ ← room lent (length (j .wants))
   done (ourPlan j order)
 
-module _ (j : Job) (order : List ℕ) (lent : Plan) where
-  -- what planning answers: "the load count .. beside its plan"
-  unfoldable pub planAnswer : Outcome ℕ
-  planAnswer = mapped loadCount (planning j order (entries lent))
+-- what the lists lent for the drops and loads hold afterwards, of which the call makes the steps
+abbrev pub leavesSets : Outcome (List Sets) → SetLists → SetLists
+leavesSets o old = setLists (leaves (mapped dropsOf o) (old .drops)) (leaves (mapped loadsOf o) (old .loads))
+
+module _ (j : Job) (order : List ℕ) (lent : SetLists) where
+  -- what planning answers: "the load count .. beside its plan", and wish 1: the end set "beside the load count"
+  unfoldable pub planAnswer : Outcome CountEnd
+  planAnswer = mapped countEnd (planning j order (entries lent))
 
   -- what the lent drops and loads hold afterwards
-  unfoldable pub planLists : Plan
-  planLists =
-      planOf (leaves (mapped dropsOf (planning j order (entries lent))) (lent .drops)) (leaves (mapped loadsOf (planning j order (entries lent))) (lent .loads))
+  unfoldable pub planLists : SetLists
+  planLists = leavesSets (planning j order (entries lent)) lent
 
 -- 12: "before that, first missing or surplus position of the drops or loads, the smaller". A list with an entry for each of the n steps has no such position;
 -- one that is shorter lacks the entry at its length, and one that is longer has the entry n too many.
 unfoldable pub setsKnown : ℕ → ℕ → ℕ → Outcome (Unit {0})
 setsKnown n drops loads = demand (eqb drops n && eqb loads n) 12 (min (min drops loads) n)
 
--- 12: "first step breaking a rule"; else what is held at the end
-unfoldable pub checkedOutcome : Checked → Outcome ℕ
-checkedOutcome (Ends held) = done held
+-- 12: "first step breaking a rule"
+unfoldable pub checkedOutcome : Checked → Outcome (Unit {0})
+checkedOutcome (Ends held) = done tt
 checkedOutcome (Breaks i) = refused 12 i
+
+-- the moves of a plan, "the order giving the steps' tests"
+abbrev pub planMoves : Job → List ℕ → Plan → List Move
+planMoves j order p = moves (inOrder (j .wants) order) (p .drops) (p .loads)
+
+-- and their sets: "What is held follows from those sets alone"
+abbrev pub planSets : Job → List ℕ → Plan → List Sets
+planSets j order p = setsOf (planMoves j order p)
+
+-- 12, wish 1: "The check fails a plan whose end set is not what is held, with the number of tests as its step."
+unfoldable pub endKnown : Job → List ℕ → Plan → Outcome (Unit {0})
+endKnown j order p = demand (eqb (p .end) (heldAtEnd (planSets j order p))) 12 (length (j .wants))
 
 -- the plan check: it answers the plan's load count
 unfoldable pub checking : Job → List ℕ → Plan → Outcome ℕ
 checking j order p = do
   checkingKnown j order
   setsKnown (length (j .wants)) (length (p .drops)) (length (p .loads))
-  checkedOutcome (checkFrom (capacity (j .rig)) (allCurves (j .rig .curves)) 0 0 (moves (inOrder (j .wants) order) (p .drops) (p .loads)))
+  checkedOutcome (checkFrom (capacity (j .rig)) (allCurves (j .rig .curves)) 0 0 (planMoves j order p))
+  endKnown j order p
   done (curveCount (p .loads))

@@ -12,10 +12,16 @@ ghost use Rattle.lists.specs.Lent.{was, after};
 ghost use Rattle.job.specs.Refusal.{examinedOutcome, countOutcome};
 ghost use Rattle.job.specs.Words.{jobOf};
 ghost use Rattle.drive.specs.Steps.{curveCount};
-ghost use Rattle.planning.specs.Plan.{planOf, inOrder};
+ghost use Rattle.planning.specs.Plan.{planOf, setLists, planOutcome, inOrder};
 ghost use Rattle.planning.specs.Planning.{planAnswer, planLists, setsKnown, checking};
 ghost use Rattle.planning.specs.Demand3.{Demand3};
 ghost use Rattle.planning.specs.Contracts.{testsAnswer, testsLists};
+
+// What a call answers that makes or reads a plan: a count, of loads or of steps, and the end set, 0 for none.
+pub enum PlanCounted {
+    Count(usize, u64),
+    Refused(Refusal),
+}
 
 // The smaller of two numbers.
 fn smaller(a: usize, b: usize) -> usize
@@ -61,9 +67,17 @@ fn count_curves(sets: &[u64]) -> usize
     count
 }
 
-// Whether a plan from anywhere keeps the rules: its load count, or the first fault. "checking 8, 12", after 5 and 10.
-pub fn check_plan(rig: Rig, wants: &[u64], order: &[u16], drops: &[u64], loads: &[u64]) -> Counted
-    ensures { λ r. ⌜ countOutcome r ≡ checking (jobOf rig (was wants)) (was order) (planOf (was drops) (was loads)) ⌝ }
+// Whether a plan from anywhere keeps the rules: its load count, or the first fault. "checking 8, 12", after 5 and 10; 02, wish 1: "The check fails a plan whose
+// end set is not what is held, with the number of tests as its step."
+pub fn check_plan(
+    rig: Rig,
+    wants: &[u64],
+    order: &[u16],
+    drops: &[u64],
+    loads: &[u64],
+    end: u64,
+) -> Counted
+    ensures { λ r. ⌜ countOutcome r ≡ checking (jobOf rig (was wants)) (was order) (planOf (was drops) (was loads) end) ⌝ }
 {
     if let Examined::Refused(r) = job::examine_checking(rig, wants, order) {
         return Counted::Refused(r);
@@ -78,47 +92,58 @@ pub fn check_plan(rig: Rig, wants: &[u64], order: &[u16], drops: &[u64], loads: 
     // "The drive is empty before step 0."
     match drive::check_steps(rig.places, all, 0, &steps[..tests], drops, loads) {
         Checked::Breaks(i) => Counted::Refused(Refusal::PlanRejected(i)),
-        Checked::Ends(_) => Counted::Count(count_curves(loads)),
+        Checked::Ends(held) => {
+            if end != held {
+                return Counted::Refused(Refusal::PlanRejected(tests));
+            }
+            Counted::Count(count_curves(loads))
+        }
     }
 }
 
-// Our plan for wants and an order that were examined before, into the first entries of the drops and loads lent; answers the load count. 10 for more than 256
-// tests, and 9.
+// Our plan for wants and an order that were examined before, into the first entries of the drops and loads lent; answers the load count and the end set. 10 for
+// more than 256 tests, and 9.
 pub fn plan_tests(
     places: usize,
     wants: &[u64],
     order: &[u16],
     drops: &mut [u64],
     loads: &mut [u64],
-) -> Counted
-    ensures answer { λ r. ⌜ countOutcome r ≡ testsAnswer places (was wants) (was order) (planOf (was drops) (was loads)) ⌝ }
-    ensures lists { λ _. ⌜ planOf (after drops) (after loads) ≡ testsLists places (was wants) (was order) (planOf (was drops) (was loads)) ⌝ }
+) -> PlanCounted
+    ensures answer { λ r. ⌜ planOutcome r ≡ testsAnswer places (was wants) (was order) (setLists (was drops) (was loads)) ⌝ }
+    ensures lists { λ _. ⌜ setLists (after drops) (after loads) ≡ testsLists places (was wants) (was order) (setLists (was drops) (was loads)) ⌝ }
 {
     let tests = order.len();
     if job::MOST_TESTS < tests {
-        return Counted::Refused(Refusal::BadArgument(2));
+        return PlanCounted::Refused(Refusal::BadArgument(2));
     }
     if drops.len() < tests {
-        return Counted::Refused(Refusal::BufferTooSmall(tests));
+        return PlanCounted::Refused(Refusal::BufferTooSmall(tests));
     }
     if loads.len() < tests {
-        return Counted::Refused(Refusal::BufferTooSmall(tests));
+        return PlanCounted::Refused(Refusal::BufferTooSmall(tests));
     }
     let mut steps = [0u64; job::MOST_TESTS];
     in_order(wants, order, &mut steps);
-    // "The drive is empty before step 0."
-    drive::plan_steps(places, 0, &steps[..tests], drops, loads);
-    Counted::Count(count_curves(&loads[..tests]))
+    // "The drive is empty before step 0." Wish 1: the end step "drops all that is held".
+    let held = drive::plan_steps(places, 0, &steps[..tests], drops, loads);
+    PlanCounted::Count(count_curves(&loads[..tests]), held)
 }
 
 // Our plan for one job and one order of its tests. "planning 8, 7, 9", after 5 and 10.
-pub fn plan(rig: Rig, wants: &[u64], order: &[u16], drops: &mut [u64], loads: &mut [u64]) -> Counted
-    ensures answer { λ r. ⌜ countOutcome r ≡ planAnswer (jobOf rig (was wants)) (was order) (planOf (was drops) (was loads)) ⌝ }
-    ensures lists { λ _. ⌜ planOf (after drops) (after loads) ≡ planLists (jobOf rig (was wants)) (was order) (planOf (was drops) (was loads)) ⌝ }
-    ensures demand3 { λ r. ⌜ Demand3 (jobOf rig (was wants)) (was order) (countOutcome r) (planOf (after drops) (after loads)) ⌝ }
+pub fn plan(
+    rig: Rig,
+    wants: &[u64],
+    order: &[u16],
+    drops: &mut [u64],
+    loads: &mut [u64],
+) -> PlanCounted
+    ensures answer { λ r. ⌜ planOutcome r ≡ planAnswer (jobOf rig (was wants)) (was order) (setLists (was drops) (was loads)) ⌝ }
+    ensures lists { λ _. ⌜ setLists (after drops) (after loads) ≡ planLists (jobOf rig (was wants)) (was order) (setLists (was drops) (was loads)) ⌝ }
+    ensures demand3 { λ r. ⌜ Demand3 (jobOf rig (was wants)) (was order) (planOutcome r) (setLists (after drops) (after loads)) ⌝ }
 {
     if let Examined::Refused(r) = job::examine_planning(rig, wants, order) {
-        return Counted::Refused(r);
+        return PlanCounted::Refused(r);
     }
     plan_tests(rig.places, wants, order, drops, loads)
 }

@@ -21,15 +21,15 @@ use Rattle.job_bytes.proofs.ReadExact.{ReadJob, read-exact}
 use Rattle.job_bytes.proofs.SetRoundTrip.{Bytes}
 use Rattle.drive.specs.declared.Checked.{Checked}
 use Rattle.drive.specs.declared.Checked.the-variants.{Ends, Breaks}
-use Rattle.drive.specs.Steps.{Move, moves}
+use Rattle.drive.specs.Steps.{Move}
 use Rattle.drive.specs.Check.{checkFrom}
 use Rattle.drive.proofs.CheckExact.{fault-within}
 use Rattle.drive.proofs.Moves.{length-moves}
 use Rattle.planning.specs.Plan.{Plan, inOrder}
-use Rattle.planning.specs.Planning.{setsKnown, checkedOutcome, checking}
+use Rattle.planning.specs.Planning.{setsKnown, checkedOutcome, planMoves, endKnown, checking}
 use Rattle.planning.proofs.CheckExact.{check-few}
 use Rattle.planning.proofs.Turns.{length-inOrder}
-use Rattle.plan_bytes.specs.PlanBytes.{Placed, testsOf, planIn, readPlanBytes, planSteps}
+use Rattle.plan_bytes.specs.PlanBytes.{Contents, testsOf, planIn, readPlanBytes, planSteps}
 use Rattle.plan_bytes.proofs.ReadPlan.{plan-count}
 use Rattle.plan_bytes.proofs.PlanBounds.{plan-figure, plan-eleven}
 use Rattle.job_bytes.proofs.ReadRefuses.{ByReading, read-refuses}
@@ -48,12 +48,12 @@ OfJob k i = (1 ≤ k) × (k ≤ 6) × (i ≤ 2310)
 
 -- of the plan: 8 with a position, 11 with an offset or the input length, 12 with a step
 abbrev pub OfPlan : ℕ → ℕ → Type 0
-OfPlan k i = ((k ≡ 8) × (i ≤ 256)) ⊎ ((k ≡ 11) × (i ≤ 5120)) ⊎ ((k ≡ 12) × (i ≤ 256))
+OfPlan k i = ((k ≡ 8) × (i ≤ 256)) ⊎ ((k ≡ 11) × (i ≤ 5130)) ⊎ ((k ≡ 12) × (i ≤ 256))
 
 at-position : (i : ℕ) → i ≤ 256 → OfPlan 8 i
 at-position i l = inl (refl, l)
 
-at-offset : (i : ℕ) → i ≤ 5120 → OfPlan 11 i
+at-offset : (i : ℕ) → i ≤ 5130 → OfPlan 11 i
 at-offset i l = inr (inl (refl, l))
 
 at-step : (i : ℕ) → i ≤ 256 → OfPlan 12 i
@@ -74,7 +74,7 @@ steps-small places all ms l = go (checkFrom places all 0 0 ms) refl
     go (Ends h) e = tt
     go (Breaks i) e = at-step i (omega (arith, fault-within places all 0 0 ms i e))
 
-steps-count : (curves tests : ℕ) (plan : List ℕ) (ss : List Placed) → planSteps curves tests plan ≡ done ss → length ss ≡ tests
+steps-count : (curves tests : ℕ) (plan : List ℕ) (ss : Contents) → planSteps curves tests plan ≡ done ss → length (ss .steps) ≡ tests
 unfolding planSteps
 steps-count curves tests plan ss e = plan-count curves tests plan ss (both-done (countsKnown curves tests) (readPlanBytes curves tests plan) ss e .1)
 
@@ -97,22 +97,23 @@ module _ (j : Request) (r : ReadJob j) where
   unfolding planSteps
   plan-small plan = rw (done-both (countsKnown c t) (readPlanBytes c t plan) known) (go (readPlanBytes c t plan) refl)
     where
-      go : (o : Outcome (List Placed)) → readPlanBytes c t plan ≡ o → Refuses OfPlan o
+      go : (o : Outcome Contents) → readPlanBytes c t plan ≡ o → Refuses OfPlan o
       go (done ss) e = tt
       go (refused k i) e =
           rw (refuses (λ (k i : ℕ). k ≡ 11) (readPlanBytes c t plan) k i (plan-eleven c t plan) e)
           (at-offset i (omega (arith, plan-figure c t plan k i e, r .tests, r .is-job .tests-bounds .1)))
 
   check-small : (order : List ℕ) (p : Plan) → length order ≤ 256 → Refuses OfPlan (checking (jobIn j) order p)
-  unfolding checking checkingKnown setsKnown
+  unfolding checking checkingKnown setsKnown endKnown
   check-small order p m =
       let n = length (j .wants) in
       let l : n ≤ 256 = r .is-job .tests-bounds .1 in
       refuses-both OfPlan _ _ (rw (done-both (jobKnown (jobIn j)) (orderKnown n order) (job-exact (jobIn j) .1 (r .is-job)))
       (order-small n [] order (omega arith)))
       (refuses-both OfPlan _ _ (refuses-demand OfPlan _ 12 (min (min (length (p .drops)) (length (p .loads))) n) (at-step _ (omega arith)))
-      (refuses-both OfPlan _ _ (steps-small (capacity (j .head .rig)) (allCurves c) (moves (inOrder (j .wants) order) (p .drops) (p .loads))
-      (omega (arith, length-moves (inOrder (j .wants) order) (p .drops) (p .loads), length-inOrder (j .wants) order))) tt))
+      (refuses-both OfPlan _ _ (steps-small (capacity (j .head .rig)) (allCurves c) (planMoves (jobIn j) order p)
+      (omega (arith, length-moves (inOrder (j .wants) order) (p .drops) (p .loads), length-inOrder (j .wants) order)))
+      (refuses-both OfPlan _ _ (refuses-demand OfPlan _ 12 n (at-step n l)) tt)))
 
   audit-small : (plan : List ℕ) → Refuses OfPlan (auditPlan j plan)
   unfolding auditPlan auditSteps _>>=_
@@ -121,7 +122,7 @@ module _ (j : Request) (r : ReadJob j) where
       (λ ss e.
       refuses-bind OfPlan (checking (jobIn j) (testsOf ss) (planIn ss)) _
       (check-small (testsOf ss) (planIn ss) (omega
-      (arith, steps-count c t plan ss e, length-map ss (λ s. s .step .test), r .tests, r .is-job .tests-bounds .1)))
+      (arith, steps-count c t plan ss e, length-map (ss .steps) (λ s. s .step .test), r .tests, r .is-job .tests-bounds .1)))
       (λ m f. rw (passed-planned (jobIn j) (testsOf ss) (planIn ss) m f t (omega (arith, r .tests))) tt))
 
 -- A REFUSED JOB has a number from 1 to 6 ..
@@ -196,7 +197,7 @@ audit-longest job plan all = go (audit job plan) refl
         counts-short (a .loads) (a .fewest)
         (omega (
           arith,
-          check-few (jobIn (s .request)) (testsOf (s .steps)) (planIn (s .steps)) (a .loads) (s .passes),
+          check-few (jobIn (s .request)) (testsOf (s .contents)) (planIn (s .contents)) (a .loads) (s .passes),
           read-exact job (s .request) all (s .job-read) .is-job .tests-bounds .1,
         ))
         (audit-fewer job plan a all e)

@@ -12,9 +12,11 @@ use Rattle.job_bytes.specs.JobBytes.{Request, jobIn, readBytes}
 use Rattle.job.proofs.Laws.{both-done, done-room, mapped-done, mapped-refused, done-mapped, refused-mapped, leaves-done}
 use Rattle.lists.proofs.Overwritten.{front}
 use Rattle.drive.specs.Steps.{loadCount}
-use Rattle.planning.specs.Plan.{Plan, first, entries}
+use Rattle.planning.specs.declared.PlanCounted.{PlanCounted}
+use Rattle.planning.specs.Plan.{Plan, SetLists, first, entries, CountEnd, countEnd, planOutcome}
 use Rattle.planning.specs.Planning.{planning, checking, planAnswer}
-use Rattle.plan_bytes.specs.PlanBytes.{Placed, testsOf, planIn, planSteps, readPlan, planRead, readPlanBytes, readPlanAnswer, readPlanOrder, readPlanLists}
+use Rattle.planning.proofs.Planned.{plan-made, plan-not-made}
+use Rattle.plan_bytes.specs.PlanBytes.{Contents, testsOf, planIn, planSteps, readPlan, planRead, readPlanBytes, readPlanAnswer, readPlanOrder, readPlanLists}
 use Rattle.plan_bytes.proofs.ReadPlan.{plan-count}
 use Rattle.planned.proofs.Stages.{planning-room}
 use Rattle.report.specs.declared.audit.Audited.{Audited}
@@ -36,27 +38,27 @@ mapped-bind f (refused k i) = refl
 
 -- ---- the fewest loads
 
-module _ (j : Job) (order : List ℕ) (lent : Plan) (k n : ℕ) (fits : length (j .wants) ≤ n) (long : length (j .wants) ≤ entries lent)
-    (x : Counted) (e : countOutcome x ≡ planAnswer j order lent) where
+module _ (j : Job) (order : List ℕ) (lent : SetLists) (k n : ℕ) (fits : length (j .wants) ≤ n) (long : length (j .wants) ≤ entries lent)
+    (x : PlanCounted) (e : planOutcome x ≡ planAnswer j order lent) where
   abbrev beside : Outcome Audit
   beside = mapped (λ q. record { loads = k; fewest = loadCount q }) (planning j order n)
 
-  counts : mapped (λ m. record { loads = k; fewest = m }) (countOutcome x) ≡ beside
+  counts : mapped (λ m. record { loads = k; fewest = m .count }) (planOutcome x) ≡ beside
   unfolding planAnswer
   counts =
       rw (
         e,
-        mapped-twice {C = Audit} loadCount (λ m. record { loads = k; fewest = m }) (planning j order (entries lent)),
+        mapped-twice {C = Audit} countEnd (λ m. record { loads = k; fewest = m .count }) (planning j order (entries lent)),
         planning-room j order (entries lent) n long fits,
       ) refl
 
-  pub fewest-refused : (r : Refusal) → x ≡ Counted.Refused r → auditedOutcome (Audited.PlanRefused r) ≡ done beside
-  unfolding auditedOutcome countOutcome mapped
+  pub fewest-refused : (r : Refusal) → x ≡ PlanCounted.Refused r → auditedOutcome (Audited.PlanRefused r) ≡ done beside
+  unfolding auditedOutcome planOutcome mapped
   fewest-refused r f = ap done (rw f at counts)
 
-  pub fewest-counted : (m : ℕ) → x ≡ Counted.Count m → auditedOutcome (Audited.Counts k m) ≡ done beside
-  unfolding auditedOutcome countOutcome mapped
-  fewest-counted m f = ap done (rw f at counts)
+  pub fewest-counted : (m end : ℕ) → x ≡ PlanCounted.Count m end → auditedOutcome (Audited.Counts k m) ≡ done beside
+  unfolding auditedOutcome planOutcome mapped
+  fewest-counted m end f = ap done (rw f at counts)
 
 -- ---- the plan check
 
@@ -72,7 +74,7 @@ module _ (q : Request) (order : List ℕ) (p : Plan) (x : Counted) (e : countOut
 
 -- ---- the plan's bytes
 
-module _ (q : Request) (plan O : List ℕ) (lent : Plan) (long : q .head .tests ≤ min (length O) (entries lent)) where
+module _ (q : Request) (plan O : List ℕ) (lent : SetLists) (long : q .head .tests ≤ min (length O) (entries lent)) where
   abbrev c : ℕ
   c = q .head .rig .curves
 
@@ -84,42 +86,45 @@ module _ (q : Request) (plan O : List ℕ) (lent : Plan) (long : q .head .tests 
   unfolding readPlan _>>=_
   whole = rw (done-room (min (length O) (entries lent)) t long) (go (planSteps c t plan))
     where
-      go : (r : Outcome (List Placed)) → _>>=_ r (λ ss. _>>_ (done (tt {0})) (done ss)) ≡ r
+      go : (r : Outcome Contents) → _>>=_ r (λ ss. _>>_ (done (tt {0})) (done ss)) ≡ r
       go (done ss) = unfold _>>_ in refl
       go (refused k i) = refl
 
   -- the first entries are the steps
-  given : (ss : List Placed) → planSteps c t plan ≡ done ss → (O′ : List ℕ) (new : Plan) → O′ ≡ readPlanOrder c t plan O lent
+  given : (ss : Contents) → planSteps c t plan ≡ done ss → (O′ : List ℕ) (new : SetLists) → O′ ≡ readPlanOrder c t plan O lent
       → new ≡ readPlanLists c t plan O lent
-      → auditSteps q (take t O′) (first t new) ≡ auditPlan q plan
+      → auditSteps q (take t O′) (first t new (ss .end)) ≡ auditPlan q plan
   unfolding auditPlan readPlanOrder readPlanLists planSteps _>>=_
   given ss m O′ new eo el =
       let r : planRead c t plan O lent ≡ done ss = whole ∙ m in
       let k = plan-count c t plan ss (both-done (countsKnown c t) (readPlanBytes c t plan) ss m .1) in
       let po : take t O′ ≡ testsOf ss =
-      ap (take t) (eo ∙ leaves-done testsOf (planRead c t plan O lent) ss O r) ∙ front (testsOf ss) O t (length-map ss (λ s. s .step .test) ∙ k) in
+      ap (take t) (eo ∙ leaves-done testsOf (planRead c t plan O lent) ss O r) ∙ front (testsOf ss) O t (length-map (ss .steps) (λ s. s .step .test) ∙ k) in
       let pd = ap (take t) (leaves-done (λ ss. planIn ss .drops) (planRead c t plan O lent) ss (lent .drops) r)
-      ∙ front (planIn ss .drops) (lent .drops) t (length-map ss (λ s. s .step .drops) ∙ k) in
+      ∙ front (planIn ss .drops) (lent .drops) t (length-map (ss .steps) (λ s. s .step .drops) ∙ k) in
       let pl = ap (take t) (leaves-done (λ ss. planIn ss .loads) (planRead c t plan O lent) ss (lent .loads) r)
-      ∙ front (planIn ss .loads) (lent .loads) t (length-map ss (λ s. s .step .loads) ∙ k) in
+      ∙ front (planIn ss .loads) (lent .loads) t (length-map (ss .steps) (λ s. s .step .loads) ∙ k) in
       rw (el, po, pd, pl, m) refl
 
-  module _ (x : Counted) (e : countOutcome x ≡ readPlanAnswer c t plan O lent) where
-    answered : countOutcome x ≡ mapped length (planSteps c t plan)
+  module _ (x : PlanCounted) (e : planOutcome x ≡ readPlanAnswer c t plan O lent) where
+    -- the number of steps, and the end set
+    abbrev told : Contents → CountEnd
+    told ss = record { count = length (ss .steps); end = ss .end }
+
+    answered : planOutcome x ≡ mapped told (planSteps c t plan)
     unfolding readPlanAnswer
-    answered = e ∙ ap (mapped length) whole
+    answered = e ∙ ap (mapped told) whole
 
-    pub plan-refused : (r : Refusal) → x ≡ Counted.Refused r → auditedOutcome (Audited.PlanRefused r) ≡ done (auditPlan q plan)
-    unfolding auditedOutcome auditPlan countOutcome _>>=_
-    plan-refused r f =
-        let m : planSteps c t plan ≡ refused (number r) (figure r) =
-        mapped-refused length (planSteps c t plan) (number r) (figure r) (sym answered ∙ rw f refl) in
-        rw m refl
+    pub plan-refused : (r : Refusal) → x ≡ PlanCounted.Refused r → auditedOutcome (Audited.PlanRefused r) ≡ done (auditPlan q plan)
+    unfolding auditedOutcome auditPlan _>>=_
+    plan-refused r f = rw (mapped-refused told (planSteps c t plan) (number r) (figure r) (plan-not-made x _ answered r f)) refl
 
-    pub plan-counted : (n : ℕ) → x ≡ Counted.Count n → (O′ : List ℕ) (new : Plan) → O′ ≡ readPlanOrder c t plan O lent → new ≡ readPlanLists c t plan O lent
-        → auditSteps q (take t O′) (first t new) ≡ auditPlan q plan
-    unfolding countOutcome
-    plan-counted n f O′ new eo el = let m = mapped-done length (planSteps c t plan) n (sym answered ∙ rw f refl) in given (m .0) (m .1) O′ new eo el
+    pub plan-counted : (n end : ℕ) → x ≡ PlanCounted.Count n end → (O′ : List ℕ) (new : SetLists) → O′ ≡ readPlanOrder c t plan O lent
+        → new ≡ readPlanLists c t plan O lent
+        → auditSteps q (take t O′) (first t new end) ≡ auditPlan q plan
+    plan-counted n end f O′ new eo el =
+        let m = mapped-done told (planSteps c t plan) (record { count = n; end = end }) (plan-made x _ answered n end f) in
+        ap (λ (a : CountEnd). auditSteps q (take t O′) (first t new (a .end))) (sym (m .2)) ∙ given (m .0) (m .1) O′ new eo el
 
 -- ---- the job's bytes
 

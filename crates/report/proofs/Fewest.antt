@@ -26,7 +26,7 @@ use Rattle.planning.specs.Planning.{ourPlan, planning, checking}
 use Rattle.planning.proofs.CheckExact.{passed, check-count}
 use Rattle.planning.proofs.Sequence.{exact-known, planning-known, plan-done}
 use Rattle.planning.proofs.Demand3.{our-check, our-least}
-use Rattle.plan_bytes.specs.PlanBytes.{Placed, testsOf, planIn, planSteps}
+use Rattle.plan_bytes.specs.PlanBytes.{Contents, testsOf, planIn, planSteps}
 use Rattle.report.specs.Audit.{Audit, auditSteps, auditPlan, audit}
 
 abbrev Small : ℕ → List ℕ → Type 0
@@ -77,15 +77,15 @@ ours-least j order p m e = omega (arith, our-least j order p m e, check-count j 
 
 pub record Says (job plan : List ℕ) (a : Audit) : Type 0 where
   pub request : Request
-  pub steps : List Placed
+  pub contents : Contents
   pub job-read : readBytes job ≡ done request
-  pub plan-read : planSteps (request .head .rig .curves) (request .head .tests) plan ≡ done steps
+  pub plan-read : planSteps (request .head .rig .curves) (request .head .tests) plan ≡ done contents
   -- the plan passes, with the loads answered
-  pub passes : checking (jobIn request) (testsOf steps) (planIn steps) ≡ done (a .loads)
+  pub passes : checking (jobIn request) (testsOf contents) (planIn contents) ≡ done (a .loads)
   -- a plan for the same job and order passes with the fewest loads answered
-  pub reached : (other : Plan) × (checking (jobIn request) (testsOf steps) other ≡ done (a .fewest))
+  pub reached : (other : Plan) × (checking (jobIn request) (testsOf contents) other ≡ done (a .fewest))
   -- and none that passes has fewer
-  pub least : (other : Plan) (m : ℕ) → checking (jobIn request) (testsOf steps) other ≡ done m → a .fewest ≤ m
+  pub least : (other : Plan) (m : ℕ) → checking (jobIn request) (testsOf contents) other ≡ done m → a .fewest ≤ m
 
 -- a job that was read, and steps of which the check passes
 said : (q : Request) (order : List ℕ) (p : Plan) (a : Audit) → length (q .wants) ≤ q .head .tests → auditSteps q order p ≡ done a
@@ -113,7 +113,7 @@ audit-says job plan a all e =
     let t = said q (testsOf (s .0)) (planIn (s .0)) a (omega (arith, read-exact job q all (r .1) .tests)) (s .2) in
     record {
       request = q;
-      steps = s .0;
+      contents = s .0;
       job-read = r .1;
       plan-read = s .1;
       passes = t .0;
@@ -122,4 +122,4 @@ audit-says job plan a all e =
     }
 
 pub audit-fewer : (job plan : List ℕ) (a : Audit) → Bytes job → audit job plan ≡ done (done a) → a .fewest ≤ a .loads
-audit-fewer job plan a all e = let s = audit-says job plan a all e in s .least (planIn (s .steps)) (a .loads) (s .passes)
+audit-fewer job plan a all e = let s = audit-says job plan a all e in s .least (planIn (s .contents)) (a .loads) (s .passes)

@@ -1,4 +1,4 @@
--- What can matter of an input: the 2,311 first bytes of a job and the 5,121 first of a plan. So a buffer of at least as many bytes takes enough of every one.
+-- What can matter of an input: the 2,311 first bytes of a job and the 5,131 first of a plan. So a buffer of at least as many bytes takes enough of every one.
 use mathlib.Core.Path.{_≡_, refl, sym, ap, _∙_, subst}
 use mathlib.Core.List.{List}
 use Prim.Native.Nat.{ℕ, _≤_}
@@ -34,8 +34,8 @@ pub audit-job-prefix : (n : ℕ) (job plan : List ℕ) → 2311 ≤ n → audit 
 unfolding audit
 audit-job-prefix n job plan l = rw (job-prefix n job l) refl
 
--- BYTES BEHIND THE PLAN'S 5,121ST never change an audit
-pub audit-plan-prefix : (n : ℕ) (job plan : List ℕ) → 5121 ≤ n → audit job (take n plan) ≡ audit job plan
+-- BYTES BEHIND THE PLAN'S 5,131ST never change an audit
+pub audit-plan-prefix : (n : ℕ) (job plan : List ℕ) → 5131 ≤ n → audit job (take n plan) ≡ audit job plan
 unfolding audit
 audit-plan-prefix n job plan l = go (readBytes job) refl
   where
@@ -43,8 +43,8 @@ audit-plan-prefix n job plan l = go (readBytes job) refl
     go (refused k i) e = unfold mapped in refl
     go (done j) e = unfold mapped auditPlan in rw (prefix-plan (j .head .rig .curves) (j .head .tests) n plan (omega (arith, few job j e))) refl
 
-pub audit-prefix : (job plan : List ℕ) → audit (take 2311 job) (take 5121 plan) ≡ audit job plan
-audit-prefix job plan = audit-job-prefix 2311 job (take 5121 plan) (omega arith) ∙ audit-plan-prefix 5121 job plan (omega arith)
+pub audit-prefix : (job plan : List ℕ) → audit (take 2311 job) (take 5131 plan) ≡ audit job plan
+audit-prefix job plan = audit-job-prefix 2311 job (take 5131 plan) (omega arith) ∙ audit-plan-prefix 5131 job plan (omega arith)
 
 -- a buffer takes enough for f where no byte behind it changes f
 pub enough : {A : Type 0} (f : List ℕ → A) (n : ℕ) (buffer : List ℕ) → ((whole : List ℕ) → f (take (length buffer) whole) ≡ f whole) → Enough f n buffer

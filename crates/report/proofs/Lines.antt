@@ -1,7 +1,7 @@
 -- The lines of the sheet, grouped as they are put.
-use mathlib.Core.Path.{_≡_, refl}
+use mathlib.Core.Path.{_≡_, refl, ap}
 use mathlib.Core.List.{List, [], _∷_, _++_, append-assoc}
-use Prim.Native.Nat.{ℕ, suc, _+_, _*_, _^_, _≤_, _<_, zero-le}
+use Prim.Native.Nat.{ℕ, zero, suc, _+_, _*_, _^_, _≤_, _<_, zero-le}
 use native.Mathlib.Nat.{mul-suc}
 use native.Mathlib.Numerals.{add-one}
 use native.Mathlib.Omega.{arith}
@@ -11,16 +11,16 @@ use Rattle.job.specs.Refusal.{refused}
 use Rattle.job.specs.declared.Head.{Head}
 use Rattle.drive.specs.Steps.{curveCount}
 use Rattle.planning.specs.Plan.{steps}
-use Rattle.report.specs.Report.{text, decimal, setText, stepText, stepsText, headText, planText, printed}
+use Rattle.report.specs.Report.{text, decimal, setText, stepText, stepsText, endText, headText, planText, printed}
 use Rattle.report.specs.Contracts.{shown}
 use Rattle.report.proofs.Digits.{decimal-length, decimal-word}
 use Rattle.report.proofs.Curves.{set-length}
 
-pub head-line : (h : Head) (order drops loads : List ℕ) →
-    headText (shown h order drops loads)
+pub head-line : (h : Head) (order drops loads : List ℕ) (end : ℕ) →
+    headText (shown h order drops loads end)
     ≡ (decimal (h .tests) ++ text " tests, ") ++ (decimal (h .rig .places) ++ text " places, method ") ++ (decimal (h .method) ++ text "\n")
 unfolding headText
-head-line h order drops loads = simp append-assoc
+head-line h order drops loads end = simp append-assoc
 
 pub step-line : (i t d l : ℕ) →
     stepText i (record { test = t; drops = d; loads = l })
@@ -31,11 +31,22 @@ step-line i t d l = simp append-assoc
 pub loads-line : (n : ℕ) → text "loads " ++ decimal n ++ text "\n" ≡ text "loads " ++ (decimal n ++ text "\n")
 loads-line n = append-assoc (text "loads ") (decimal n) (text "\n")
 
-pub plan-lines : (h : Head) (order drops loads : List ℕ) →
-    planText (shown h order drops loads)
-    ≡ headText (shown h [] [] []) ++ stepsText 0 (steps order drops loads) ++ (text "loads " ++ decimal (curveCount loads) ++ text "\n")
+-- no line, or the end step's
+pub no-end-line : (n s : ℕ) → s ≡ 0 → endText n s ≡ []
+unfolding endText
+no-end-line n s e = rw e refl
+
+pub end-line : (n s : ℕ) → (s ≡ 0 → ⊥) → endText n s ≡ (decimal n ++ text ": end drop") ++ setText s ++ text "\n"
+unfolding endText
+end-line n zero h = absurd (h refl)
+end-line n (suc s) h = simp append-assoc
+
+pub plan-lines : (h : Head) (order drops loads : List ℕ) (end : ℕ) →
+    planText (shown h order drops loads end)
+    ≡ headText (shown h [] [] [] 0) ++ stepsText 0 (steps order drops loads) ++ endText (h .tests) end
+    ++ (text "loads " ++ decimal (curveCount loads) ++ text "\n")
 unfolding planText headText
-plan-lines h order drops loads = simp append-assoc
+plan-lines h order drops loads end = simp append-assoc
 
 pub refusal-line : (k i : ℕ) → printed (refused k i) ≡ text "refused " ++ (decimal k ++ text " at ") ++ (decimal i ++ text "\n")
 unfolding printed
@@ -59,14 +70,17 @@ steps-end i drops loads = refl
 lengths₃ : (a b c : List ℕ) → length (a ++ b ++ c) ≡ length a + length b + length c
 lengths₃ a b c = simp length-append
 
+lengths₄ : (a b c d : List ℕ) → length (a ++ b ++ c ++ d) ≡ length a + length b + length c + length d
+lengths₄ a b c d = simp length-append
+
 lengths₆ : (a b c d e f : List ℕ) → length (a ++ b ++ c ++ d ++ e ++ f) ≡ length a + length b + length c + length d + length e + length f
 lengths₆ a b c d e f = simp length-append
 
-pub head-length : (h : Head) (order drops loads : List ℕ) →
-    length (headText (shown h order drops loads))
+pub head-length : (h : Head) (order drops loads : List ℕ) (end : ℕ) →
+    length (headText (shown h order drops loads end))
     ≡ length (decimal (h .tests) ++ text " tests, ") + length (decimal (h .rig .places) ++ text " places, method ") + length (decimal (h .method) ++ text "\n")
-head-length h order drops loads =
-    rw (head-line h order drops loads) (lengths₃ (decimal (h .tests) ++ text " tests, ") (decimal (h .rig .places) ++ text " places, method ")
+head-length h order drops loads end =
+    rw (head-line h order drops loads end) (lengths₃ (decimal (h .tests) ++ text " tests, ") (decimal (h .rig .places) ++ text " places, method ")
     (decimal (h .method) ++ text "\n"))
 
 pub step-length : (i t d l : ℕ) →
@@ -79,11 +93,15 @@ step-length i t d l =
 pub loads-length : (n : ℕ) → length (text "loads " ++ decimal n ++ text "\n") ≡ length (text "loads ") + length (decimal n ++ text "\n")
 loads-length n = rw (loads-line n) (length-append (text "loads ") (decimal n ++ text "\n"))
 
-pub plan-length : (h : Head) (order drops loads : List ℕ) →
-    length (planText (shown h order drops loads))
-    ≡ length (headText (shown h [] [] [])) + length (stepsText 0 (steps order drops loads)) + length (text "loads " ++ decimal (curveCount loads) ++ text "\n")
-plan-length h order drops loads =
-    rw (plan-lines h order drops loads) (lengths₃ (headText (shown h [] [] [])) (stepsText 0 (steps order drops loads))
+pub end-length : (n s : ℕ) → (s ≡ 0 → ⊥) → length (endText n s) ≡ length (decimal n ++ text ": end drop") + length (setText s) + length (text "\n")
+end-length n s h = rw (end-line n s h) (lengths₃ (decimal n ++ text ": end drop") (setText s) (text "\n"))
+
+pub plan-length : (h : Head) (order drops loads : List ℕ) (end : ℕ) →
+    length (planText (shown h order drops loads end))
+    ≡ length (headText (shown h [] [] [] 0)) + length (stepsText 0 (steps order drops loads)) + length (endText (h .tests) end) + length
+    (text "loads " ++ decimal (curveCount loads) ++ text "\n")
+plan-length h order drops loads end =
+    rw (plan-lines h order drops loads end) (lengths₄ (headText (shown h [] [] [] 0)) (stepsText 0 (steps order drops loads)) (endText (h .tests) end)
     (text "loads " ++ decimal (curveCount loads) ++ text "\n"))
 
 pub refusal-length : (k i : ℕ) → length (printed (refused k i)) ≡ length (text "refused ") + length (decimal k ++ text " at ") + length (decimal i ++ text "\n")
@@ -129,16 +147,30 @@ step-short k =
           );
     }
 
--- the whole: of at most 256 steps, all of whose numbers a word holds
-pub plan-word : (h : Head) (order drops loads : List ℕ) → h .tests < 2 ^ 64 → h .rig .places < 2 ^ 64 → h .method < 2 ^ 64 → length order ≤ 256
-    → ((j : ℕ) → j < length order → getD order j 0 < 2 ^ 64) → curveCount loads < 2 ^ 64
-    → length (planText (shown h order drops loads)) < 2 ^ 64
+-- the end step's line, behind a number of tests with at most k + 1 digits
+pub end-short : (k n s : ℕ) → n < 10 ^ suc k → length (endText n s) ≤ k + 204
 unfolding text
-plan-word h order drops loads t p m n o c =
+end-short k n zero h = omega (arith, ap length (no-end-line n 0 refl))
+end-short k n (suc s) h =
     omega (
       arith,
-      plan-length h order drops loads,
-      head-length h [] [] [],
+      end-length n (suc s) (λ e. omega arith),
+      length-append (decimal n) (text ": end drop"),
+      decimal-length k n h,
+      set-length (suc s),
+    )
+
+-- the whole: of at most 256 steps, all of whose numbers a word holds
+pub plan-word : (h : Head) (order drops loads : List ℕ) (end : ℕ) → h .tests < 2 ^ 64 → h .rig .places < 2 ^ 64 → h .method < 2 ^ 64 → length order ≤ 256
+    → ((j : ℕ) → j < length order → getD order j 0 < 2 ^ 64) → curveCount loads < 2 ^ 64
+    → length (planText (shown h order drops loads end)) < 2 ^ 64
+unfolding text
+plan-word h order drops loads end t p m n o c =
+    omega (
+      arith,
+      plan-length h order drops loads end,
+      head-length h [] [] [] 0,
+      end-short 19 (h .tests) end (omega arith),
       length-append (decimal (h .tests)) (text " tests, "),
       length-append (decimal (h .rig .places)) (text " places, method "),
       length-append (decimal (h .method)) (text "\n"),

@@ -29,23 +29,24 @@ use Rattle.planned.proofs.Composed.{orderOf, setsOf, checked, job-planned, job-
 use Rattle.report.specs.Report.{text, decimal, headText, planText, sheet, writeSheet, printed}
 use Rattle.report.specs.Contracts.{shown}
 use Rattle.report.proofs.Digits.{decimal-length}
-use Rattle.report.proofs.Lines.{step-short, steps-short, head-length, loads-length, plan-length, refusal-length}
+use Rattle.report.proofs.Lines.{step-short, steps-short, end-short, head-length, loads-length, plan-length, refusal-length}
 
 -- the text shows no wants
-same-text : (p : Planned) → printed (done p) ≡ planText (shown (p .request .head) (p .order) (p .plan .drops) (p .plan .loads))
+same-text : (p : Planned) → printed (done p) ≡ planText (shown (p .request .head) (p .order) (p .plan .drops) (p .plan .loads) (p .plan .end))
 unfolding printed planText headText
 same-text p = refl
 
--- a sheet of at most 256 tests: at most 408 bytes for each step, 31 for the head and 12 for the load count
-bound : (h : Head) (order drops loads : List ℕ) → h .tests < 1000 → h .rig .places < 100 → h .method < 10 → length order ≤ 256
+-- a sheet of at most 256 tests: at most 408 bytes for each step, 31 for the head, 206 for the end step and 12 for the load count
+bound : (h : Head) (order drops loads : List ℕ) (end : ℕ) → h .tests < 1000 → h .rig .places < 100 → h .method < 10 → length order ≤ 256
     → ((j : ℕ) → j < length order → getD order j 0 < 1000) → curveCount loads < 100000
-    → length (planText (shown h order drops loads)) ≤ 105000
+    → length (planText (shown h order drops loads end)) ≤ 105000
 unfolding text
-bound h order drops loads t p m n o c =
+bound h order drops loads end t p m n o c =
     omega (
       arith,
-      plan-length h order drops loads,
-      head-length h [] [] [],
+      plan-length h order drops loads end,
+      head-length h [] [] [] 0,
+      end-short 2 (h .tests) end (omega arith),
       length-append (decimal (h .tests)) (text " tests, "),
       length-append (decimal (h .rig .places)) (text " places, method "),
       length-append (decimal (h .method)) (text "\n"),
@@ -60,12 +61,12 @@ bound h order drops loads t p m n o c =
 
 -- of a job that was read, all of whose tests fit
 planned-bound : (q : Request) → ReadJob q → wantsFit (capacity (q .head .rig)) (q .wants) ≡ done tt
-    → length (planText (shown (q .head) (orderOf q) (handed (setsOf q) .drops) (handed (setsOf q) .loads))) ≤ 105000
+    → length (planText (shown (q .head) (orderOf q) (handed (setsOf q) .drops) (handed (setsOf q) .loads) (handed (setsOf q) .end))) ≤ 105000
 planned-bound q r f =
     let whole = order-complete (q .head .method) (capacity (q .head .rig)) (q .wants) in
     let long = order-length (length (q .wants)) (orderOf q) whole in
     let tests = r .is-job .tests-bounds in
-    bound (q .head) (orderOf q) (handed (setsOf q) .drops) (handed (setsOf q) .loads)
+    bound (q .head) (orderOf q) (handed (setsOf q) .drops) (handed (setsOf q) .loads) (handed (setsOf q) .end)
     (omega (arith, r .tests))
     (omega (arith, r .is-job .places-bounds .1))
     (omega (arith, r .method))

@@ -16,8 +16,8 @@ module _ (job old : List ℕ) {answer : Outcome ℕ} {new : List ℕ} where
   sheet-refused k i e f = rw e (f .answers, f .holds)
 
   -- the text shows the head, the order and the plan
-  pub sheet-planned : (p : Planned) (h : Head) (order drops loads : List ℕ) → planJob job ≡ done p → p .request .head ≡ h → order ≡ p .order
-      → planOf drops loads ≡ p .plan
-      → Filled (planText (shown h order drops loads)) old answer new → (answer ≡ sheetAnswer job old) × (new ≡ sheetBuffer job old)
+  pub sheet-planned : (p : Planned) (h : Head) (order drops loads : List ℕ) (end : ℕ) → planJob job ≡ done p → p .request .head ≡ h → order ≡ p .order
+      → planOf drops loads end ≡ p .plan
+      → Filled (planText (shown h order drops loads end)) old answer new → (answer ≡ sheetAnswer job old) × (new ≡ sheetBuffer job old)
   unfolding sheetAnswer sheetBuffer writeSheet sheet printed planText headText
-  sheet-planned p h order drops loads e f g k l = rw (e, f, ← g, ← k) (l .answers, l .holds)
+  sheet-planned p h order drops loads end e f g k l = rw (e, f, ← g, ← k) (l .answers, l .holds)

@@ -26,8 +26,8 @@ auditSteps q order p = do
 -- a plan's bytes for a job: 11 before that
 unfoldable pub auditPlan : Request → List ℕ → Outcome Audit
 auditPlan q plan = do
-  ss ← planSteps (q .head .rig .curves) (q .head .tests) plan
-  auditSteps q (testsOf ss) (planIn ss)
+  c ← planSteps (q .head .rig .curves) (q .head .tests) plan
+  auditSteps q (testsOf c) (planIn c)
 
 -- a job's bytes and a plan's bytes: what comes of reading the job, 1 to 6, and within it what comes of the plan, so that a refusal tells which of the two it
 -- is of

@@ -1,4 +1,5 @@
 -- "The sheet program prints test count, places and method; for each step its position, test, drops and loads in rising order; the load count."
+-- With the end step of 02, wish 1.
 use mathlib.Core.List.{List, [], _∷_, _++_}
 use Prim.Native.Nat.{ℕ, zero, suc, _+_, _/_, _%_}
 use Prim.Native.Char.{code}
@@ -50,6 +51,11 @@ unfoldable pub stepsText : ℕ → List Step → List ℕ
 stepsText i [] = []
 stepsText i (s ∷ ss) = stepText i s ++ stepsText (suc i) ss
 
+-- wish 1: the end step, behind n tests, "prints as `4: end drop 1 3`". "If nothing is held, there is no end step."
+unfoldable pub endText : ℕ → ℕ → List ℕ
+endText n zero = []
+endText n (suc s) = decimal n ++ text ": end drop" ++ setText (suc s) ++ text "\n"
+
 -- the first line: "4 tests, 2 places, method 0"
 unfoldable pub headText : Planned → List ℕ
 headText p =
@@ -59,7 +65,8 @@ headText p =
 -- the sheet of a planned job: its head, a line for each step, the load count
 unfoldable pub planText : Planned → List ℕ
 planText p =
-    headText p ++ stepsText 0 (steps (p .order) (p .plan .drops) (p .plan .loads)) ++ text "loads " ++ decimal (curveCount (p .plan .loads)) ++ text "\n"
+    headText p ++ stepsText 0 (steps (p .order) (p .plan .drops) (p .plan .loads)) ++ endText (p .request .head .tests) (p .plan .end) ++ text "loads "
+    ++ decimal (curveCount (p .plan .loads)) ++ text "\n"
 
 -- "A refusal prints only `refused 7 at 0` with its own figures."
 unfoldable pub printed : Outcome Planned → List ℕ

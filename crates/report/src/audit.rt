@@ -7,6 +7,7 @@ use job::Head;
 use job::JobRead;
 use job::MOST_TESTS;
 use job::Refusal;
+use planning::PlanCounted;
 ghost use mathlib.Core.Path.{_≡_};
 ghost use Prim.Native.Nat.{_≤_};
 ghost use lib.ListN.{length};
@@ -38,17 +39,24 @@ fn beside_fewest(head: Head, wants: &[u64], order: &[u16], count: usize) -> Audi
     let mut drops = [0u64; MOST_TESTS];
     let mut loads = [0u64; MOST_TESTS];
     match planning::plan(head.rig, wants, order, &mut drops, &mut loads) {
-        Counted::Refused(r) => Audited::PlanRefused(r),
-        Counted::Count(fewest) => Audited::Counts(count, fewest),
+        PlanCounted::Refused(r) => Audited::PlanRefused(r),
+        PlanCounted::Count(fewest, _) => Audited::Counts(count, fewest),
     }
 }
 
-// The steps of a plan: the plan check, then the fewest loads.
-fn audit_steps(head: Head, wants: &[u64], order: &[u16], drops: &[u64], loads: &[u64]) -> Audited
+// The steps and the end set of a plan: the plan check, then the fewest loads.
+fn audit_steps(
+    head: Head,
+    wants: &[u64],
+    order: &[u16],
+    drops: &[u64],
+    loads: &[u64],
+    end: u64,
+) -> Audited
     requires { ⌜ (length (now wants) ≡ head .tests) × (head .tests ≤ 256) ⌝ }
-    ensures { λ r. ⌜ auditedOutcome r ≡ done (auditSteps (record { head = head; wants = was wants }) (was order) (planOf (was drops) (was loads))) ⌝ }
+    ensures { λ r. ⌜ auditedOutcome r ≡ done (auditSteps (record { head = head; wants = was wants }) (was order) (planOf (was drops) (was loads) end)) ⌝ }
 {
-    match planning::check_plan(head.rig, wants, order, drops, loads) {
+    match planning::check_plan(head.rig, wants, order, drops, loads, end) {
         Counted::Refused(r) => Audited::PlanRefused(r),
         Counted::Count(count) => beside_fewest(head, wants, order, count),
     }
@@ -64,8 +72,10 @@ fn audit_plan(head: Head, wants: &[u64], plan: &[u8]) -> Audited
     let mut drops = [0u64; MOST_TESTS];
     let mut loads = [0u64; MOST_TESTS];
     match plan_bytes::read_plan(head.rig.curves, n, plan, &mut order, &mut drops, &mut loads) {
-        Counted::Refused(r) => Audited::PlanRefused(r),
-        Counted::Count(_) => audit_steps(head, wants, &order[..n], &drops[..n], &loads[..n]),
+        PlanCounted::Refused(r) => Audited::PlanRefused(r),
+        PlanCounted::Count(_, end) => {
+            audit_steps(head, wants, &order[..n], &drops[..n], &loads[..n], end)
+        }
     }
 }
 

@@ -9,7 +9,8 @@ ghost use mathlib.Core.List.{[], _∷_, _++_};
 ghost use Prim.Native.Nat.{_+_, _^_, _≤_, _<_};
 ghost use lib.ListN.{length};
 ghost use Rattle.lists.specs.Lent.{was, after};
-ghost use Rattle.report.specs.Report.{text, decimal, setText, stepText, stepsText, headText, planText, printed, sheet, sheetAnswer, sheetBuffer};
+ghost use Rattle.report.specs.Report.{text, decimal, setText, stepText, stepsText, endText, headText, planText, printed};
+ghost use Rattle.report.specs.Report.{sheet, sheetAnswer, sheetBuffer};
 ghost use Rattle.report.specs.Contracts.{Wrote, shown, Filled};
 ghost use Rattle.job.specs.Refusal.{refused, number, figure, countOutcome, overwritten};
 ghost use Rattle.drive.specs.Steps.{curveCount};
@@ -120,10 +121,23 @@ fn put_steps(out: &mut [u8], at: usize, order: &[u16], drops: &[u64], loads: &[u
     to
 }
 
+// 02, wish 1: the line of the end step, where something is held at the end.
+fn put_end(out: &mut [u8], at: usize, position: usize, end: u64) -> usize
+    requires { ⌜ at + length (endText position end) < 2 ^ 64 ⌝ }
+    ensures { λ r. ⌜ Wrote (was out) at (endText position end) (after out) r ⌝ }
+{
+    if end == 0 {
+        return at;
+    }
+    let mut to = put_number(out, at, position, b": end drop");
+    to = put_set(out, to, end);
+    put_byte(out, to, b'\n')
+}
+
 // "test count, places and method"
 fn put_head(out: &mut [u8], at: usize, head: Head) -> usize
-    requires { ⌜ at + length (headText (shown head [] [] [])) < 2 ^ 64 ⌝ }
-    ensures { λ r. ⌜ Wrote (was out) at (headText (shown head [] [] [])) (after out) r ⌝ }
+    requires { ⌜ at + length (headText (shown head [] [] [] 0)) < 2 ^ 64 ⌝ }
+    ensures { λ r. ⌜ Wrote (was out) at (headText (shown head [] [] [] 0)) (after out) r ⌝ }
 {
     let mut to = put_number(out, at, head.tests, b" tests, ");
     to = put_number(out, to, head.rig.places, b" places, method ");
@@ -145,15 +159,17 @@ fn put_plan(
     order: &[u16],
     drops: &[u64],
     loads: &[u64],
+    end: u64,
     count: usize,
 ) -> usize
     requires { ⌜ (length (now drops) ≡ length (now order)) × (length (now loads) ≡ length (now order)) ⌝ }
     requires { ⌜ count ≡ curveCount (now loads) ⌝ }
-    requires { ⌜ length (planText (shown head (now order) (now drops) (now loads))) < 2 ^ 64 ⌝ }
-    ensures { λ r. ⌜ Wrote (was out) 0 (planText (shown head (was order) (was drops) (was loads))) (after out) r ⌝ }
+    requires { ⌜ length (planText (shown head (now order) (now drops) (now loads) end)) < 2 ^ 64 ⌝ }
+    ensures { λ r. ⌜ Wrote (was out) 0 (planText (shown head (was order) (was drops) (was loads) end)) (after out) r ⌝ }
 {
     let mut to = put_head(out, 0, head);
     to = put_steps(out, to, order, drops, loads);
+    to = put_end(out, to, head.tests, end);
     put_loads(out, to, count)
 }
 
@@ -174,20 +190,21 @@ fn write_plan(
     order: &[u16],
     drops: &[u64],
     loads: &[u64],
+    end: u64,
     count: usize,
     out: &mut [u8],
 ) -> Counted
     requires { ⌜ (length (now drops) ≡ length (now order)) × (length (now loads) ≡ length (now order)) ⌝ }
     requires { ⌜ count ≡ curveCount (now loads) ⌝ }
     requires { ⌜ (head .tests ≤ 256) × (head .rig .places ≤ 64) × (head .method ≤ 3) × (length (now order) ≤ 256) ⌝ }
-    ensures { λ r. ⌜ Filled (planText (shown head (was order) (was drops) (was loads))) (was out) (countOutcome r) (after out) ⌝ }
+    ensures { λ r. ⌜ Filled (planText (shown head (was order) (was drops) (was loads) end)) (was out) (countOutcome r) (after out) ⌝ }
 {
     let mut none = [0u8; 1];
-    let needed = put_plan(&mut none, head, order, drops, loads, count);
+    let needed = put_plan(&mut none, head, order, drops, loads, end, count);
     if out.len() < needed {
         return Counted::Refused(Refusal::BufferTooSmall(needed));
     }
-    Counted::Count(put_plan(out, head, order, drops, loads, count))
+    Counted::Count(put_plan(out, head, order, drops, loads, end, count))
 }
 
 // The line of a refusal, where the buffer has room for it.
@@ -217,9 +234,9 @@ pub fn write_report(job: &[u8], out: &mut [u8]) -> Counted
     let mut loads = [0u64; MOST_TESTS];
     match planned::plan_job(job, &mut wants, &mut order, &mut drops, &mut loads) {
         JobPlanned::Refused(r) => write_refusal(b"", r, out),
-        JobPlanned::Planned(head, count) => {
+        JobPlanned::Planned(head, count, end) => {
             let n = head.tests;
-            write_plan(head, &order[..n], &drops[..n], &loads[..n], count, out)
+            write_plan(head, &order[..n], &drops[..n], &loads[..n], end, count, out)
         }
     }
 }

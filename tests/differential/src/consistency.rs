@@ -2,10 +2,12 @@
 //! implementations.
 
 use crate::fast;
-use crate::generate::{self, permutation, Size};
+use crate::generate::{self, permutation, Ending, Size, ENDINGS, PLAN_MADE, PLAN_READ};
+use crate::parts;
 use crate::random::Random;
 use crate::reference::*;
 use crate::tuned;
+use std::collections::BTreeSet;
 
 /// A small job whose tests all fit: places up to 4, curves up to 6, tests up to 7.
 fn small_job(random: &mut Random) -> (usize, usize, Vec<u64>) {
@@ -21,6 +23,17 @@ fn small_job(random: &mut Random) -> (usize, usize, Vec<u64>) {
     (places, curves, wants)
 }
 
+/// How many curves these sets have together.
+fn curves_in(sets: &[u64]) -> u64 {
+    sets.iter().map(|&set| parts::size(set)).sum()
+}
+
+/// What holds of every plan that passes: what was loaded is dropped again, by a step or at the end.
+fn assert_ends_empty(drops: &[u64], loads: &[u64], end: u64) {
+    assert_eq!(curves_in(drops) + curves_in(&[end]), curves_in(loads));
+    assert_eq!(held_behind(drops, loads), end);
+}
+
 #[test]
 fn plan_passes_and_loads_least() {
     let mut random = Random::new(1);
@@ -29,18 +42,13 @@ fn plan_passes_and_loads_least() {
         let tests = wants.len();
         let order = permutation(&mut random, tests);
         let made = plan(places, curves, &wants, &order, tests, tests).unwrap();
+        let (drops, loads, end) = (&made.drops, &made.loads, made.end);
         assert_eq!(
-            check_plan(places, curves, &wants, &order, &made.drops, &made.loads),
+            check_plan(places, curves, &wants, &order, drops, loads, end),
             Ok(made.count)
         );
-        assert!(passes(
-            places,
-            curves,
-            &wants,
-            &order,
-            &made.drops,
-            &made.loads
-        ));
+        assert!(passes(places, curves, &wants, &order, drops, loads, end));
+        assert_ends_empty(drops, loads, end);
         assert_eq!(
             least_loads(places, curves, &wants, &order),
             Some(made.count),
@@ -62,6 +70,7 @@ fn the_stays_tell_the_loads_of_our_plan() {
         if let Ok(made) = plan(job.places, job.curves, &job.wants, &order, tests, tests) {
             planned += 1;
             assert_eq!(fewest_loads(job.places, &job.wants, &order), made.count);
+            assert_ends_empty(&made.drops, &made.loads, made.end);
         }
     }
     assert!(planned > 2_000);
@@ -96,7 +105,7 @@ fn no_plan_passes_exactly_if_a_test_is_too_wide() {
 #[test]
 fn the_two_checks_agree() {
     let mut random = Random::new(3);
-    let (mut good, mut bad) = (0, 0);
+    let (mut good, mut bad, mut at_the_end) = (0, 0, 0);
     for _ in 0..30_000 {
         let size = random.pick(&[Size::Tiny, Size::Tiny, Size::Small]);
         let generate::Case::CheckPlan {
@@ -106,59 +115,140 @@ fn the_two_checks_agree() {
             order,
             drops,
             loads,
+            end,
         } = generate::case_of(4, size, &mut random)
         else {
             unreachable!()
         };
-        let answer = check_plan(places, curves, &wants, &order, &drops, &loads);
+        let answer = check_plan(places, curves, &wants, &order, &drops, &loads, end);
         if matches!(answer, Err(Refusal { number: 5 | 10, .. })) {
             continue;
         }
-        let pass = passes(places, curves, &wants, &order, &drops, &loads);
+        let pass = passes(places, curves, &wants, &order, &drops, &loads, end);
         assert_eq!(answer.is_ok(), pass);
         if pass {
             good += 1;
-            let count: u32 = loads.iter().map(|set| set.count_ones()).sum();
-            assert_eq!(answer, Ok(count as u64));
+            assert_eq!(answer, Ok(curves_in(&loads)));
+            assert_ends_empty(&drops, &loads, end);
         } else {
             bad += 1;
         }
+        // Of all end sets only what is held passes, and only behind sound steps.
+        let held = held_behind(&drops, &loads);
+        let ended = check_plan(places, curves, &wants, &order, &drops, &loads, held);
+        if end != held {
+            assert!(!pass);
+            if ended.is_ok() {
+                at_the_end += 1;
+                assert_eq!(answer, Err(refusal(12, wants.len())));
+            } else {
+                assert_eq!(answer, ended);
+            }
+        }
     }
     assert!(good > 5_000 && bad > 5_000, "{good} good, {bad} bad");
+    assert!(at_the_end > 2_000, "{at_the_end} with another end set");
+}
+
+/// The fewest loads of every plan whatever that the check passes, end set included: all numbers of
+/// so many bits are tried for each set.
+fn least_by_the_check(
+    places: usize,
+    curves: usize,
+    wants: &[u64],
+    order: &[u16],
+    bits: usize,
+) -> Option<u64> {
+    let tests = wants.len();
+    let mut least = None;
+    for plan in 0..1u64 << (bits * (2 * tests + 1)) {
+        let set = |number: usize| plan >> (bits * number) & generate::all_curves(bits);
+        let drops: Vec<u64> = (0..tests).map(|step| set(1 + step)).collect();
+        let loads: Vec<u64> = (0..tests).map(|step| set(1 + tests + step)).collect();
+        let end = set(0);
+        let answer = check_plan(places, curves, wants, order, &drops, &loads, end);
+        let pass = passes(places, curves, wants, order, &drops, &loads, end);
+        assert_eq!(answer.is_ok(), pass);
+        if let Ok(count) = answer {
+            assert_ends_empty(&drops, &loads, end);
+            least = Some(least.map_or(count, |known: u64| known.min(count)));
+        }
+    }
+    least
 }
 
 #[test]
 fn no_small_plan_at_all_beats_ours() {
-    // Every plan whatever of two steps on three curves, told by the check alone.
     let mut random = Random::new(4);
-    for _ in 0..6 {
-        let places = random.between(1, 3);
-        let wants: Vec<u64> = (0..2)
-            .map(|_| {
-                let number = random.between(0, places);
-                generate::random_set(&mut random, 3, number)
-            })
-            .collect();
-        let order = permutation(&mut random, 2);
-        let mut least = None;
-        for d0 in 0..16u64 {
-            for l0 in 0..16u64 {
-                for d1 in 0..16u64 {
-                    for l1 in 0..16u64 {
-                        let (drops, loads) = ([d0, d1], [l0, l1]);
-                        let answer = check_plan(places, 3, &wants, &order, &drops, &loads);
-                        let pass = passes(places, 3, &wants, &order, &drops, &loads);
-                        assert_eq!(answer.is_ok(), pass);
-                        if let Ok(count) = answer {
-                            least = Some(least.map_or(count, |known: u64| known.min(count)));
-                        }
-                    }
-                }
+    // Jobs of so many tests and curves; one curve more is tried, which is foreign.
+    for (rounds, tests, curves) in [(6, 1, 4), (3, 2, 3), (20, 3, 1), (1, 3, 2)] {
+        for _ in 0..rounds {
+            let places = random.between(1, curves);
+            let wants: Vec<u64> = (0..tests)
+                .map(|_| {
+                    let number = random.between(0, places);
+                    generate::random_set(&mut random, curves, number)
+                })
+                .collect();
+            let order = permutation(&mut random, tests);
+            let least = least_by_the_check(places, curves, &wants, &order, curves + 1);
+            assert_eq!(least, least_loads(places, curves, &wants, &order));
+            let made = plan(places, curves, &wants, &order, tests, tests).unwrap();
+            assert_eq!(least, Some(made.count));
+        }
+    }
+}
+
+#[test]
+fn another_end_set_is_refused_behind_everything_else() {
+    let mut random = Random::new(13);
+    let mut checked = 0;
+    while checked < 200 {
+        let job = generate::job(&mut random, Size::Small);
+        let tests = job.wants.len();
+        let generate::SomePlan {
+            order,
+            drops,
+            loads,
+            end,
+        } = generate::some_plan(&mut random, &job);
+        let check = |drops: &[u64], loads: &[u64], end: u64| {
+            check_plan(
+                job.places, job.curves, &job.wants, &order, drops, loads, end,
+            )
+        };
+        if check(&drops, &loads, end).is_err() {
+            continue; // a test is too wide
+        }
+        checked += 1;
+        let needed = plan_bytes(&order, &drops, &loads, end).len();
+        let mut others: BTreeSet<u64> = (0..64).map(|curve| end ^ 1 << curve).collect();
+        others.extend([0, u64::MAX, !end, random.word()]);
+        others.remove(&end);
+        for other in others {
+            assert_eq!(check(&drops, &loads, other), Err(refusal(12, tests)));
+            // Also before a buffer that is too short.
+            for length in [0, needed - 1, needed, 6_000] {
+                let (places, curves, wants) = (job.places, job.curves, &job.wants);
+                let answer =
+                    write_plan(places, curves, wants, &order, &drops, &loads, other, length);
+                assert_eq!(answer, Err(refusal(12, tests)));
             }
         }
-        assert_eq!(least, least_loads(places, 3, &wants, &order));
-        let made = plan(places, 3, &wants, &order, 2, 2).unwrap();
-        assert_eq!(least, Some(made.count));
+        // The lengths and the steps go first.
+        assert_eq!(
+            check(&drops[1..], &loads, !end),
+            Err(refusal(12, tests - 1))
+        );
+        let mut longer = loads.clone();
+        longer.push(0);
+        assert_eq!(check(&drops, &longer, !end), Err(refusal(12, tests)));
+        let step = random.below(tests);
+        let mut foreign = drops.clone();
+        foreign[step] = u64::MAX;
+        if job.places < 64 {
+            assert_eq!(check(&foreign, &loads, !end), Err(refusal(12, step)));
+        }
     }
 }
 
@@ -211,29 +301,192 @@ fn plan_bytes_round_trip_and_part() {
             &order,
             &made.drops,
             &made.loads,
-            5_120,
+            made.end,
+            PLAN_MADE,
         )
         .unwrap();
         let steps = read_plan(job.curves, tests, &bytes, tests, tests, tests).unwrap();
-        let read_order: Vec<u16> = steps.iter().map(|step| step.test).collect();
-        let read_drops: Vec<u64> = steps.iter().map(|step| step.drops).collect();
-        let read_loads: Vec<u64> = steps.iter().map(|step| step.loads).collect();
-        assert_eq!(read_order, order);
-        assert_eq!(read_drops, made.drops);
-        assert_eq!(read_loads, made.loads);
+        assert_eq!(steps.order(), order);
+        assert_eq!(steps.drops(), made.drops);
+        assert_eq!(steps.loads(), made.loads);
+        assert_eq!(steps.end_set(), made.end);
+        assert_eq!(steps.end.is_some(), made.end != 0);
         // The steps' parts, one behind the other, are the whole.
-        let mut end = 0;
-        for position in 0..tests.min(12) {
-            let (start, length) = step_bytes(job.curves, tests, &bytes, position);
-            assert_eq!(start, end);
+        let mut behind = 0;
+        for position in 0..tests {
+            let (start, length) = part(&steps, &bytes, position);
+            assert_eq!(start, behind);
             assert!(length >= 2);
-            end = start + length;
+            behind = start + length;
         }
-        assert_eq!(
-            step_bytes(job.curves, tests, &bytes, tests),
-            (bytes.len(), 0)
-        );
+        let last = step_bytes(job.curves, tests, &bytes, tests);
+        assert_eq!(last, (behind, bytes.len() - behind));
+        assert_eq!(last.1 > 0, made.end != 0);
+        for position in [tests + 1, tests + 2, usize::MAX] {
+            assert_eq!(
+                step_bytes(job.curves, tests, &bytes, position),
+                (bytes.len(), 0)
+            );
+        }
     }
+}
+
+#[test]
+fn plan_bytes_that_read_are_those_written() {
+    let mut random = Random::new(14);
+    let (mut read, mut ended) = (0, 0);
+    for _ in 0..20_000 {
+        let generate::Case::ReadPlan {
+            curves,
+            tests,
+            plan,
+            ..
+        } = generate::case_of(6, Size::Tiny, &mut random)
+        else {
+            unreachable!()
+        };
+        if let Ok(steps) = read_steps(curves, tests, &plan) {
+            read += 1;
+            ended += (steps.end_set() != 0) as usize;
+            let (order, drops, loads) = (steps.order(), steps.drops(), steps.loads());
+            assert_eq!(plan_bytes(&order, &drops, &loads, steps.end_set()), plan);
+        }
+    }
+    assert!(read > 5_000 && ended > 3_000, "{read} read, {ended} ended");
+}
+
+#[test]
+fn the_end_of_plan_bytes_is_read_as_foreseen() {
+    let mut random = Random::new(15);
+    for (ending, name) in ENDINGS {
+        let longest = matches!(
+            ending,
+            Ending::LongestMade | Ending::LongestRead | Ending::LongerStill
+        );
+        for round in 0..if longest { 10 } else { 300 } {
+            let size = if round < 2 { Size::Full } else { Size::Tiny };
+            let made = generate::ended_plan(&mut random, size, ending);
+            let (curves, tests) = (made.job.curves, made.job.wants.len());
+            let answer = read_plan(curves, tests, &made.plan, tests, tests, tests);
+            let found = answer.map(|steps| steps.end_set());
+            let foreseen = made.foreseen.map_err(|offset| refusal(11, offset));
+            assert_eq!(found, foreseen, "{name}");
+            assert_eq!(found.is_ok(), ending.reads(), "{name}");
+            // 11 goes before a short list.
+            let short = match found {
+                Ok(_) => refusal(9, tests),
+                Err(no) => no,
+            };
+            for list in 0..3 {
+                let mut lengths = [tests; 3];
+                lengths[list] -= 1;
+                let [order, drops, loads] = lengths;
+                let answer = read_plan(curves, tests, &made.plan, order, drops, loads);
+                assert_eq!(answer, Err(short), "{name}");
+            }
+            // What is not read has no step.
+            if found.is_err() {
+                for position in [0, tests - 1, tests, tests + 1] {
+                    let part = step_bytes(curves, tests, &made.plan, position);
+                    assert_eq!(part, (made.plan.len(), 0), "{name}");
+                }
+            }
+            // And the check decides about the others.
+            let audited = audit(&generate::job_bytes(&made.job), &made.plan);
+            match (ending, audited) {
+                (_, Err(Refused::Job(no))) => panic!("{name}: {no:?}"),
+                (_, Err(Refused::Plan(no))) if found.is_err() => assert_eq!(no, short, "{name}"),
+                (_, Ok(_)) if found.is_err() => panic!("{name}"),
+                (Ending::LongestMade, answer) => assert!(answer.is_ok()),
+                (Ending::LongestRead, answer) => {
+                    assert_eq!(answer, Err(Refused::Plan(refusal(12, 0))));
+                }
+                (Ending::Held, Ok(_)) => {}
+                (_, Ok(_)) => panic!("{name}"),
+                (Ending::Held, Err(Refused::Plan(no))) => {
+                    // Only a test that is too wide.
+                    assert!(no.number == 12 && no.figure < tests as u64, "{no:?}");
+                }
+                (_, Err(Refused::Plan(no))) => assert_eq!(no.number, 12, "{name}"),
+            }
+        }
+    }
+}
+
+#[test]
+fn every_cut_of_a_plan_is_told_by_its_length() {
+    let mut random = Random::new(16);
+    for round in 0..300 {
+        // Of the longest only the last bytes.
+        let (ending, from) = match round {
+            0 => (Ending::LongestRead, PLAN_READ - 30),
+            _ => (Ending::Held, 0),
+        };
+        let made = generate::ended_plan(&mut random, Size::Small, ending);
+        let (job, bytes) = (made.job, made.plan);
+        let tests = job.wants.len();
+        let steps = read_steps(job.curves, tests, &bytes).unwrap();
+        let behind_tests = steps.tests.last().unwrap().behind;
+        for length in from..bytes.len() {
+            let answer = read_steps(job.curves, tests, &bytes[..length]);
+            if length == behind_tests {
+                // Only the end step is missing.
+                assert_eq!(answer.unwrap().end_set(), 0);
+            } else {
+                assert_eq!(answer, Err(refusal(11, length)));
+            }
+        }
+    }
+}
+
+/// Whatever stands behind the only test's step of a job with nine curves. Those that read are
+/// nothing and the end steps of its sets. Of the others the first byte is refused with which no such
+/// end begins any more, or the length if there is no such byte. (Where all groups named can be there:
+/// a group map alone names no curve.)
+#[test]
+fn every_short_end_of_a_plan() {
+    let mut ends = BTreeSet::from([vec![]]);
+    for set in 1..1u64 << 9 {
+        let mut end = vec![1];
+        end.extend(parts::set_bytes(set));
+        ends.insert(end);
+    }
+    let mut begun = BTreeSet::new();
+    for end in &ends {
+        for length in 0..=end.len() {
+            begun.insert(end[..length].to_vec());
+        }
+    }
+    let bytes = || 0..=255u8;
+    let mut tried: Vec<Vec<u8>> = vec![vec![]];
+    tried.extend(bytes().map(|a| vec![a]));
+    tried.extend(bytes().flat_map(|a| bytes().map(move |b| vec![a, b])));
+    for map in 0..4 {
+        tried.extend(bytes().flat_map(|a| bytes().map(move |b| vec![1, map, a, b])));
+        tried.extend(bytes().map(|a| vec![1, map, a]));
+        tried.extend(bytes().map(|a| vec![1, map, 1, 1, a]));
+    }
+    let mut read = 0;
+    for end in tried {
+        let groups = end.get(1).copied().unwrap_or(0);
+        if end.first() == Some(&1) && groups > 3 {
+            continue;
+        }
+        let mut plan = vec![4, 0];
+        plan.extend(&end);
+        let answer = read_steps(9, 1, &plan);
+        if ends.contains(&end) {
+            read += 1;
+            assert_eq!(
+                plan_bytes(&[0], &[0], &[0], answer.unwrap().end_set()),
+                plan
+            );
+        } else {
+            let sound = (0..=end.len()).rfind(|&length| begun.contains(&end[..length]));
+            assert_eq!(answer, Err(refusal(11, 2 + sound.unwrap())), "{end:x?}");
+        }
+    }
+    assert_eq!(read, 512);
 }
 
 #[test]
@@ -280,11 +533,15 @@ fn tuned_and_the_c_program_agree() {
             0..=99 => random.pick(&[Size::Full, Size::Edge]),
             _ => random.pick(&[Size::Tiny, Size::Tiny, Size::Small]),
         };
-        let job = generate::any_job_bytes(&mut random, size);
-        let length = if random.chance(1, 8) {
-            random.below(80)
-        } else {
-            5_120
+        let job = match round {
+            0..=11 => generate::job_bytes(&generate::longest_job(&mut random, 1 + round % 4)),
+            _ => generate::any_job_bytes(&mut random, size),
+        };
+        let length = match round {
+            0..=3 => PLAN_MADE,
+            4..=7 => PLAN_MADE - 1,
+            _ if random.chance(1, 8) => random.below(80),
+            _ => PLAN_READ,
         };
         let (number, bytes) = call(&job, length);
         let mut expected = vec![0x5a; length];

@@ -1,4 +1,4 @@
-//! Every example of the paper.
+//! Every example of the papers.
 
 use crate::reference::*;
 use crate::tuned;
@@ -56,40 +56,130 @@ fn job_a_sheet() {
          1: test 1 drop 0 load 2\n\
          2: test 2 drop 2 load 0\n\
          3: test 3 drop 0 load 3\n\
+         4: end drop 1 3\n\
          loads 5\n"
     );
 }
 
+/// Job A's steps, without the end step.
+const A_STEPS: &str = "06 01 03 00 07 01 01 01 04 01 07 01 04 01 01 02 07 01 01 01 08 03";
+const A_END: &str = "01 01 0a";
+
+fn a_plan() -> Vec<u8> {
+    [bytes(A_STEPS), bytes(A_END)].concat()
+}
+
 #[test]
 fn job_a_plan_bytes() {
-    let expected = bytes("06 01 03 00 07 01 01 01 04 01 07 01 04 01 01 02 07 01 01 01 08 03");
-    assert_eq!(expected.len(), 22);
-    assert_eq!(call(&bytes(A), 22), (22, expected.clone()));
-    assert_eq!(call(&bytes(A), 5_120), (22, expected.clone()));
-    assert_eq!(call(&bytes(A), 21), (9 * 65_536 + 22, vec![]));
+    let expected = a_plan();
+    assert_eq!(expected.len(), 25);
+    assert_eq!(call(&bytes(A), 25), (25, expected.clone()));
+    assert_eq!(call(&bytes(A), 5_121), (25, expected.clone()));
+    assert_eq!(call(&bytes(A), 24), (9 * 65_536 + 25, vec![]));
+    assert_eq!(call(&bytes(A), 22), (9 * 65_536 + 25, vec![]));
 
-    let mut out = [0xaa; 30];
-    assert_eq!(tuned::call(&bytes(A), &mut out), 22);
-    assert_eq!(out[..22], expected[..]);
-    assert_eq!(out[22..], [0xaa; 8]);
-    let mut short = [0xaa; 21];
-    assert_eq!(tuned::call(&bytes(A), &mut short), 9 * 65_536 + 22);
-    assert_eq!(short, [0xaa; 21]);
+    let mut out = [0xaa; 33];
+    assert_eq!(tuned::call(&bytes(A), &mut out), 25);
+    assert_eq!(out[..25], expected[..]);
+    assert_eq!(out[25..], [0xaa; 8]);
+    let mut short = [0xaa; 24];
+    assert_eq!(tuned::call(&bytes(A), &mut short), 9 * 65_536 + 25);
+    assert_eq!(short, [0xaa; 24]);
 
     let steps = read_plan(4, 4, &expected, 4, 4, 4).unwrap();
-    let drops: Vec<u64> = steps.iter().map(|step| step.drops).collect();
-    let loads: Vec<u64> = steps.iter().map(|step| step.loads).collect();
+    let (order, drops, loads) = (steps.order(), steps.drops(), steps.loads());
     assert_eq!(drops, sets(&[&[], &[0], &[2], &[0]]));
     assert_eq!(loads, sets(&[&[0, 1], &[2], &[0], &[3]]));
-    let order: Vec<u16> = steps.iter().map(|step| step.test).collect();
     assert_eq!(order, as_listed(4));
-    assert_eq!(check_plan(2, 4, &a_wants(), &order, &drops, &loads), Ok(5));
-    assert_eq!(step_bytes(4, 4, &expected, 0), (0, 4));
-    assert_eq!(step_bytes(4, 4, &expected, 1), (4, 6));
-    assert_eq!(step_bytes(4, 4, &expected, 3), (16, 6));
-    assert_eq!(step_bytes(4, 4, &expected, 4), (22, 0));
-    assert_eq!(step_bytes(4, 5, &expected, 0), (22, 0));
-    assert_eq!(step_bytes(0, 4, &expected, 0), (22, 0));
+    assert_eq!(steps.end_set(), sets(&[&[1, 3]])[0]);
+    let check = |end: u64| check_plan(2, 4, &a_wants(), &order, &drops, &loads, end);
+    assert_eq!(check(0x0a), Ok(5));
+    for end in [0, 0x02, 0x08, 0x0b, 0x0e, 0x1a, 1 << 63 | 0x0a, u64::MAX] {
+        assert_eq!(check(end), Err(no(12, 4)));
+    }
+    for (position, part) in [
+        (0, (0, 4)),
+        (1, (4, 6)),
+        (3, (16, 6)),
+        (4, (22, 3)),
+        (5, (25, 0)),
+        (6, (25, 0)),
+    ] {
+        assert_eq!(step_bytes(4, 4, &expected, position), part);
+    }
+    assert_eq!(step_bytes(4, 5, &expected, 0), (25, 0));
+    assert_eq!(step_bytes(4, 3, &expected, 0), (25, 0));
+    assert_eq!(step_bytes(0, 4, &expected, 0), (25, 0));
+    // Without its end step the plan reads, but something is left in the drive.
+    let base = bytes(A_STEPS);
+    assert_eq!(read_plan(4, 4, &base, 4, 4, 4).unwrap().end_set(), 0);
+    assert_eq!(step_bytes(4, 4, &base, 3), (16, 6));
+    assert_eq!(step_bytes(4, 4, &base, 4), (22, 0));
+    let left = audit(&bytes(A), &base);
+    assert_eq!(left, Err(Refused::Plan(no(12, 4))));
+    assert_eq!(audit_text(&left), "plan refused 12 at 4\n");
+    let whole = audit(&bytes(A), &expected);
+    assert_eq!(audit_text(&whole), "loads 5\nfewest 5\nshorter by 0\n");
+}
+
+#[test]
+fn refusals_of_the_end_of_job_a() {
+    // Behind the 22 bytes of its steps, and the offset from there.
+    for (end, figure) in [
+        ("00", 0),
+        ("00 01 0a", 0),
+        ("02 01 0a", 0),
+        ("03 01 0a 01 01", 0),
+        ("04 00", 0),
+        ("05 01 0a 00", 0),
+        ("06 01 0a 00", 0),
+        ("07 01 0a 01 01 00", 0),
+        ("08 01 0a", 0),
+        ("09 01 0a", 0),
+        ("11 01 0a", 0),
+        ("80 01 0a", 0),
+        ("81 01 0a", 0),
+        ("ff 01 0a", 0),
+        ("01", 1),
+        ("01 00", 1),
+        ("01 00 0a", 1),
+        ("01 01", 2),
+        ("01 01 00", 2),
+        ("01 01 10", 2),
+        ("01 01 ff", 2),
+        ("01 02", 2),
+        ("01 02 01", 2),
+        ("01 03 0a", 3),
+        ("01 03 0a 00", 3),
+        ("01 03 0a 01", 3),
+        ("01 01 0a 00", 3),
+        ("01 01 0a 01", 3),
+        ("01 01 0a 01 01 0a", 3),
+        ("01 01 0a 04 00", 3),
+    ] {
+        let plan = [bytes(A_STEPS), bytes(end)].concat();
+        let refused = no(11, 22 + figure);
+        assert_eq!(read_plan(4, 4, &plan, 4, 4, 4), Err(refused), "{end}");
+        assert_eq!(read_plan(4, 4, &plan, 4, 4, 3), Err(refused), "{end}");
+        for position in 0..7 {
+            assert_eq!(step_bytes(4, 4, &plan, position), (plan.len(), 0));
+        }
+        assert_eq!(audit(&bytes(A), &plan), Err(Refused::Plan(refused)));
+    }
+    // Any curves of the job read, and the check decides.
+    for (end, set) in [("01 01 01", 1), ("01 01 02", 2), ("01 01 0f", 15)] {
+        let plan = [bytes(A_STEPS), bytes(end)].concat();
+        assert_eq!(read_plan(4, 4, &plan, 4, 4, 4).unwrap().end_set(), set);
+        assert_eq!(step_bytes(4, 4, &plan, 4), (22, 3));
+        assert_eq!(audit(&bytes(A), &plan), Err(Refused::Plan(no(12, 4))));
+    }
+    // An end step before the last step has no test.
+    for (start, steps) in [(0, 0), (4, 1), (10, 2), (16, 3)] {
+        let mut plan = a_plan();
+        drop(plan.splice(start..start, bytes(A_END)));
+        let refused = no(11, start as u64);
+        assert_eq!(read_plan(4, 4, &plan, 4, 4, 4), Err(refused), "{steps}");
+    }
 }
 
 #[test]
@@ -104,8 +194,11 @@ fn job_a_orders() {
         assert_eq!(order, expected);
         let made = plan(2, 4, &a_wants(), &order, 4, 4).unwrap();
         assert_eq!(made.count, if method == 0 { 5 } else { 4 });
+        // Test 3 runs last, with curve 3.
+        assert_eq!(set_of(made.end).len(), 2);
+        assert!(set_of(made.end).contains(&3));
         assert_eq!(
-            check_plan(2, 4, &a_wants(), &order, &made.drops, &made.loads),
+            check_plan(2, 4, &a_wants(), &order, &made.drops, &made.loads, made.end),
             Ok(made.count)
         );
     }
@@ -116,6 +209,7 @@ fn never_used_again_goes_first() {
     let wants = sets(&[&[0], &[1], &[2], &[0]]);
     let made = plan(2, 3, &wants, &as_listed(4), 4, 4).unwrap();
     assert_eq!(made.drops, sets(&[&[], &[], &[1], &[]]));
+    assert_eq!(made.end, sets(&[&[0, 2]])[0]);
     assert_eq!(made.count, 3);
 }
 
@@ -124,6 +218,7 @@ fn places_are_not_compared_with_loads_so_far() {
     let wants = sets(&[&[0, 1], &[0, 2], &[0, 2]]);
     let made = plan(2, 3, &wants, &as_listed(3), 3, 3).unwrap();
     assert_eq!(made.drops[2], 0);
+    assert_eq!(made.end, sets(&[&[0, 2]])[0]);
     assert_eq!(made.count, 3);
 }
 
@@ -132,10 +227,30 @@ fn one_test_without_wants() {
     let job = bytes("04 01 00 00");
     assert_eq!(read_job(&job, 1).unwrap().wants, vec![0]);
     assert_eq!(call(&job, 2), (2, bytes("04 00")));
+    assert_eq!(tuned::call(&job, &mut [0; 2]), 2);
     assert_eq!(
         sheet(&job),
         "1 tests, 8 places, method 0\n0: test 0 drop none load none\nloads 0\n"
     );
+    // Nothing is held, so there is no end step, and none passes.
+    assert_eq!(plan(8, 64, &[0], &[0], 1, 1).unwrap().end, 0);
+    assert_eq!(check_plan(8, 64, &[0], &[0], &[0], &[0], 0), Ok(0));
+    assert_eq!(check_plan(8, 64, &[0], &[0], &[0], &[0], 1), Err(no(12, 1)));
+    assert_eq!(step_bytes(64, 1, &bytes("04 00"), 1), (2, 0));
+}
+
+#[test]
+fn nothing_is_held_where_all_was_dropped_before() {
+    // A plan of two tests, the last without wants, that leaves nothing for the end.
+    let (wants, order) = ([1, 0], [0, 1]);
+    let check = |end: u64| check_plan(1, 1, &wants, &order, &[0, 1], &[1, 0], end);
+    assert_eq!(check(0), Ok(1));
+    assert_eq!(check(1), Err(no(12, 2)));
+    let written = write_plan(1, 1, &wants, &order, &[0, 1], &[1, 0], 0, 8);
+    assert_eq!(written, Ok(bytes("06 01 01 00 05 01 01 01")));
+    // Ours keeps the curve until the end.
+    let ours = plan(1, 1, &wants, &order, 2, 2).unwrap();
+    assert_eq!((ours.drops, ours.end), (vec![0, 0], 1));
 }
 
 #[test]
@@ -146,7 +261,8 @@ fn one_test_with_three_curves() {
     let job = write_job(2, 3, 0, &wants, 99).unwrap();
     assert_eq!(call(&job, 99), (7 * 65_536, vec![]));
     assert_eq!(sheet(&job), "refused 7 at 0\n");
-    assert_eq!(plan(3, 3, &wants, &[0], 1, 1).unwrap().count, 3);
+    let made = plan(3, 3, &wants, &[0], 1, 1).unwrap();
+    assert_eq!((made.count, made.end), (3, 7));
 }
 
 #[test]
@@ -193,7 +309,7 @@ fn refusals_of_orders() {
     let wants = [0, 0, 0];
     for order in [&[0, 1, 1][..], &[0, 1]] {
         assert_eq!(plan(1, 1, &wants, order, 3, 3), Err(no(8, 2)));
-        assert_eq!(check_plan(1, 1, &wants, order, &[], &[]), Err(no(8, 2)));
+        assert_eq!(check_plan(1, 1, &wants, order, &[], &[], 1), Err(no(8, 2)));
     }
     assert_eq!(plan(1, 1, &wants, &[0, 1, 2, 0], 3, 3), Err(no(8, 3)));
     assert_eq!(plan(1, 1, &wants, &[0, 3, 2, 0], 3, 3), Err(no(8, 1)));
@@ -237,6 +353,10 @@ fn refusals_of_plan_bytes() {
         ("04 01", 4, 1, 1),
         ("04 00 00", 4, 1, 2),
         ("04 00", 4, 2, 2),
+        // An end step before the last test's step.
+        ("01 01 01", 4, 1, 0),
+        ("01 01 01 04 00", 4, 1, 0),
+        ("04 00 01 01 01", 4, 2, 2),
     ] {
         let plan = bytes(plan);
         assert_eq!(
@@ -249,8 +369,8 @@ fn refusals_of_plan_bytes() {
     assert_eq!(
         read_plan(1, 2, &bytes("04 00 04 00"), 2, 2, 2)
             .unwrap()
-            .len(),
-        2
+            .order(),
+        [0, 0]
     );
     assert_eq!(
         read_plan(1, 2, &bytes("04 00 04 00"), 2, 1, 2),
@@ -262,7 +382,7 @@ fn refusals_of_plan_bytes() {
 fn refusals_of_the_check() {
     let wants = sets(&[&[0], &[1]]);
     let order = [0, 1];
-    let check = |drops: &[u64], loads: &[u64]| check_plan(1, 2, &wants, &order, drops, loads);
+    let check = |drops: &[u64], loads: &[u64]| check_plan(1, 2, &wants, &order, drops, loads, 2);
     assert_eq!(check(&[0, 1], &[1, 2]), Ok(2));
     assert_eq!(check(&[0], &[1, 2, 3]), Err(no(12, 1)));
     assert_eq!(check(&[0, 1, 0], &[1, 2]), Err(no(12, 2)));
@@ -271,10 +391,32 @@ fn refusals_of_the_check() {
     assert_eq!(check(&[0, 0], &[1, 2]), Err(no(12, 1))); // more than the places
     assert_eq!(check(&[0, 1], &[0, 2]), Err(no(12, 0))); // wants not held
     assert_eq!(check(&[0, 1], &[1 << 2, 2]), Err(no(12, 0))); // a foreign load
-    let again = check_plan(1, 1, &[1, 1], &order, &[0, 1], &[1, 1]);
+    let again = check_plan(1, 1, &[1, 1], &order, &[0, 1], &[1, 1], 1);
     assert_eq!(again, Ok(2)); // leaves and comes back in one step
-    let held = check_plan(1, 1, &[1, 1], &order, &[0, 0], &[1, 1]);
+    let held = check_plan(1, 1, &[1, 1], &order, &[0, 0], &[1, 1], 1);
     assert_eq!(held, Err(no(12, 1)));
+    // Another end set, alone and beside the faults above.
+    let ended = |drops: &[u64], loads: &[u64], end: u64| {
+        check_plan(1, 2, &wants, &order, drops, loads, end)
+    };
+    for end in [0, 1, 3, 4, 6, u64::MAX] {
+        assert_eq!(ended(&[0, 1], &[1, 2], end), Err(no(12, 2)));
+        assert_eq!(ended(&[0], &[1, 2, 3], end), Err(no(12, 1)));
+        assert_eq!(ended(&[0, 1, 0], &[1, 2], end), Err(no(12, 2)));
+        assert_eq!(ended(&[0, 1, 0], &[], end), Err(no(12, 0)));
+        assert_eq!(ended(&[2, 1], &[1, 2], end), Err(no(12, 0)));
+        assert_eq!(ended(&[0, 0], &[1, 2], end), Err(no(12, 1)));
+        // 12 goes before 9.
+        let written = write_plan(1, 2, &wants, &order, &[0, 1], &[1, 2], end, 0);
+        assert_eq!(written, Err(no(12, 2)));
+    }
+    let written = write_plan(1, 2, &wants, &order, &[0, 1], &[1, 2], 2, 12);
+    assert_eq!(written, Err(no(9, 13)));
+    // Behind 8 and 10.
+    let order_first = check_plan(1, 2, &wants, &[0, 0], &[0, 1], &[1, 2], 9);
+    assert_eq!(order_first, Err(no(8, 1)));
+    let numbers_first = check_plan(1, 0, &wants, &[0, 0], &[0, 1], &[1, 2], 9);
+    assert_eq!(numbers_first, Err(no(10, 1)));
 }
 
 #[test]
@@ -286,5 +428,30 @@ fn full_size() {
     let longest = write_job(63, 63, 3, &vec![u64::MAX >> 1; 256], usize::MAX).unwrap();
     assert_eq!(longest.len(), 2_310);
     assert_eq!(read_job(&longest, 256).unwrap().tests, 256);
-    assert_eq!(call(&job, 5_120).0, 11 + 255 * 2);
+    assert_eq!(call(&job, 5_121).0, 11 + 255 * 2 + 10);
+    assert_eq!(
+        plan(64, 64, &wants, &as_listed(256), 256, 256).unwrap().end,
+        u64::MAX
+    );
+    // Half of the curves and the other half in turns, with curves of all groups in each.
+    let half = 0x5555_5555_5555_5555;
+    let wants: Vec<u64> = (0..256).map(|test| half << (test % 2)).collect();
+    let job = write_job(32, 64, 0, &wants, usize::MAX).unwrap();
+    let plan = call_bytes(&job, 5_121).unwrap();
+    assert_eq!(plan.len(), 5_121);
+    assert_eq!(call(&job, 5_120), (9 * 65_536 + 5_121, vec![]));
+    assert_eq!(audit(&job, &plan).unwrap().loads, 8_192);
+    assert_eq!(sheet(&job).len(), 52_577);
+    // The first step may drop as well, for reading.
+    let order = as_listed(256);
+    let longest = plan_bytes(&order, &[u64::MAX; 256], &[u64::MAX; 256], u64::MAX);
+    assert_eq!(longest.len(), 5_130);
+    let steps = read_plan(64, 256, &longest, 256, 256, 256).unwrap();
+    assert_eq!(steps.end_set(), u64::MAX);
+    assert_eq!(step_bytes(64, 256, &longest, 255), (5_100, 20));
+    assert_eq!(step_bytes(64, 256, &longest, 256), (5_120, 10));
+    assert_eq!(step_bytes(64, 256, &longest, 257), (5_130, 0));
+    let longer = [&longest[..], &[0]].concat();
+    let refused = Err(no(11, 5_130));
+    assert_eq!(read_plan(64, 256, &longer, 256, 256, 256), refused);
 }

@@ -1,5 +1,6 @@
 //! Inputs for every function: random, on the bounds, damaged once and damaged twice.
 
+use crate::parts;
 use crate::random::Random;
 use crate::reference;
 use std::fmt::Write;
@@ -40,6 +41,7 @@ pub enum Case {
         order: Vec<u16>,
         drops: Vec<u64>,
         loads: Vec<u64>,
+        end: u64,
     },
     WritePlan {
         places: usize,
@@ -48,21 +50,25 @@ pub enum Case {
         order: Vec<u16>,
         drops: Vec<u64>,
         loads: Vec<u64>,
+        end: u64,
         out_len: usize,
     },
     ReadPlan {
         curves: usize,
         tests: usize,
         plan: Vec<u8>,
+        /// How the plan's end was made, if on purpose.
+        ending: Option<Ending>,
         order_len: usize,
         drops_len: usize,
         loads_len: usize,
     },
-    /// Fetched at each position of the plan, behind the last, and at a further one.
+    /// Fetched at each position of a test, at the end step's, at two behind it, and at a further one.
     StepBytes {
         curves: usize,
         tests: usize,
         plan: Vec<u8>,
+        ending: Option<Ending>,
         further: usize,
     },
     Call {
@@ -76,6 +82,7 @@ pub enum Case {
     Audit {
         job: Vec<u8>,
         plan: Vec<u8>,
+        ending: Option<Ending>,
         out_len: usize,
     },
     Examine {
@@ -367,6 +374,13 @@ impl Case {
             }
             Case::Sets { k, .. } => number("k", *k),
         }
+        if let Case::ReadPlan { ending, .. }
+        | Case::StepBytes { ending, .. }
+        | Case::Audit { ending, .. } = self
+        {
+            let name = ending.map_or("any", Ending::name);
+            let _ = writeln!(text, "  the plan's end = {name}");
+        }
         let mut list = |name: &str, entries: Vec<String>| {
             let _ = writeln!(text, "  {name} ({}) = {}", entries.len(), entries.join(" "));
         };
@@ -399,6 +413,7 @@ impl Case {
                 order,
                 drops,
                 loads,
+                end,
                 ..
             }
             | Case::WritePlan {
@@ -406,12 +421,14 @@ impl Case {
                 order,
                 drops,
                 loads,
+                end,
                 ..
             } => {
                 list("wants", hex_sets(wants));
                 list("order", hex_order(order));
                 list("drops", hex_sets(drops));
                 list("loads", hex_sets(loads));
+                list("end", hex_sets(&[*end]));
             }
             Case::ReadPlan { plan, .. } | Case::StepBytes { plan, .. } => {
                 list("plan", hex_bytes(plan))
@@ -437,7 +454,14 @@ pub fn hex_order(list: &[u16]) -> Vec<String> {
 // Jobs
 
 /// Room for every sheet: the longest has as many bytes.
-pub const SHEET: usize = 52_477;
+pub const SHEET: usize = 52_577;
+
+/// The longest plan that reads: 256 steps of map, two sets of nine bytes and test, and an end step of
+/// map and set.
+pub const PLAN_READ: usize = 5_130;
+
+/// The longest plan that passes, so the longest of the C call: the first step drops nothing.
+pub const PLAN_MADE: usize = 5_121;
 
 /// How large a case is.
 #[derive(Clone, Copy, Debug, PartialEq, Eq)]
@@ -452,6 +476,10 @@ pub enum Size {
     Full,
     /// On the bounds: 1 or 256 tests, 1 or 64 curves, 1 or 64 places.
     Edge,
+}
+
+fn large(size: Size) -> bool {
+    matches!(size, Size::Full | Size::Edge)
 }
 
 pub fn size(random: &mut Random) -> Size {
@@ -502,15 +530,30 @@ fn some_of(random: &mut Random, set: u64) -> u64 {
         0 => 0,
         1 => set & random.word(),
         2 => set & random.word() & random.word(),
-        _ => {
-            let ones: Vec<u64> = (0..64).filter(|k| set >> k & 1 == 1).collect();
-            if ones.is_empty() {
-                0
-            } else {
-                1 << random.pick(&ones)
-            }
-        }
+        _ => one_of(random, set),
     }
+}
+
+/// One curve of a set; none of the empty set.
+fn one_of(random: &mut Random, set: u64) -> u64 {
+    let ones: Vec<u64> = (0..64).filter(|k| set >> k & 1 == 1).collect();
+    if ones.is_empty() {
+        0
+    } else {
+        1 << random.pick(&ones)
+    }
+}
+
+/// A set with curves in exactly so many groups of eight; there are as many.
+fn in_groups(random: &mut Random, curves: usize, number: usize) -> u64 {
+    let mut groups: Vec<usize> = (0..curves.div_ceil(8)).collect();
+    random.shuffle(&mut groups);
+    let mut set = 0;
+    for &group in &groups[..number] {
+        let of_group = all_curves(curves) & (0xff_u64 << (8 * group));
+        set |= one_of(random, of_group) | (random.word() & of_group);
+    }
+    set
 }
 
 fn tests_of(random: &mut Random, size: Size) -> usize {
@@ -592,6 +635,32 @@ fn flipping_job(random: &mut Random) -> Job {
         places,
         curves: link + 1,
         method: 3,
+        wants,
+    }
+}
+
+/// A job whose plan is the longest, in its listed order: 256 tests, each with `each` curves (up to 4)
+/// of every group, none of them wanted by the test before. So each step but the first drops all that
+/// is held. With 4 of each group its sheet is the longest too.
+pub fn longest_job(random: &mut Random, each: usize) -> Job {
+    let curves = random.between(56 + 2 * each, 64);
+    let mut wants = Vec::new();
+    let mut last = 0u64;
+    for _ in 0..256 {
+        let mut set = 0u64;
+        for group in 0..8 {
+            for _ in 0..each {
+                let of_group = all_curves(curves) & (0xff_u64 << (8 * group));
+                set |= one_of(random, of_group & !last & !set);
+            }
+        }
+        wants.push(set);
+        last = set;
+    }
+    Job {
+        places: 8 * each,
+        curves,
+        method: 0,
         wants,
     }
 }
@@ -852,6 +921,11 @@ fn lent(random: &mut Random, needed: usize) -> usize {
     }
 }
 
+/// A length on the bound of what is needed.
+fn around(random: &mut Random, needed: usize) -> usize {
+    random.pick(&[needed, needed, needed - 1, needed + 1])
+}
+
 /// A length that always suffices.
 fn enough(random: &mut Random, needed: usize) -> usize {
     needed + random.pick(&[0, 0, 1, 5, 40])
@@ -971,9 +1045,9 @@ fn spoil_order(random: &mut Random, order: &mut Vec<u16>, tests: usize) {
     }
 }
 
-/// Drops and loads of some plan that passes, if the tests fit: with early loads, drops that were
-/// not needed, and curves that leave and come back in one step.
-fn free_plan(random: &mut Random, job: &Job, order: &[u16]) -> (Vec<u64>, Vec<u64>) {
+/// Drops, loads and end set of some plan that passes, if the tests fit: with early loads, drops that
+/// were not needed, and curves that leave and come back in one step.
+fn free_plan(random: &mut Random, job: &Job, order: &[u16]) -> (Vec<u64>, Vec<u64>, u64) {
     let all = all_curves(job.curves);
     let places = job.places as u32;
     let mut held = 0u64;
@@ -1007,7 +1081,7 @@ fn free_plan(random: &mut Random, job: &Job, order: &[u16]) -> (Vec<u64>, Vec<u6
         drops.push(drop);
         loads.push(load);
     }
-    (drops, loads)
+    (drops, loads, held)
 }
 
 fn spoil_plan(random: &mut Random, drops: &mut Vec<u64>, loads: &mut Vec<u64>, curves: usize) {
@@ -1067,36 +1141,456 @@ fn spoil_plan(random: &mut Random, drops: &mut Vec<u64>, loads: &mut Vec<u64>, c
     }
 }
 
-/// An order of the job, and drops and loads for it: ours or another plan.
-fn some_plan(random: &mut Random, job: &Job) -> (Vec<u16>, Vec<u64>, Vec<u64>) {
+/// An end set other than this: none, all ones, with a foreign curve, one curve more or fewer, or any.
+fn spoil_end(random: &mut Random, end: &mut u64, curves: usize) {
+    let all = all_curves(curves);
+    match random.below(8) {
+        0 => *end = 0,
+        1 => *end = u64::MAX,
+        2 => *end |= one_of(random, !all),
+        3 | 4 => *end |= one_of(random, all & !*end),
+        5 | 6 => *end &= !one_of(random, *end),
+        _ => *end = any_set(random),
+    }
+}
+
+/// An order of a job, and drops, loads and end set for it.
+#[derive(Clone, Debug)]
+pub struct SomePlan {
+    pub order: Vec<u16>,
+    pub drops: Vec<u64>,
+    pub loads: Vec<u64>,
+    pub end: u64,
+}
+
+impl SomePlan {
+    fn bytes(&self) -> Vec<u8> {
+        reference::plan_bytes(&self.order, &self.drops, &self.loads, self.end)
+    }
+
+    /// The bytes of the first steps alone.
+    fn first_bytes(&self, steps: usize) -> Vec<u8> {
+        let (drops, loads) = (&self.drops[..steps], &self.loads[..steps]);
+        reference::plan_bytes(&self.order[..steps], drops, loads, 0)
+    }
+}
+
+/// Our plan in this order, if the tests fit.
+fn our_plan(job: &Job, order: &[u16]) -> Option<SomePlan> {
+    let room = job.wants.len();
+    let plan = reference::plan(job.places, job.curves, &job.wants, order, room, room).ok()?;
+    Some(SomePlan {
+        order: order.to_vec(),
+        drops: plan.drops,
+        loads: plan.loads,
+        end: plan.end,
+    })
+}
+
+/// An order of the job and a plan for it: ours or another.
+pub fn some_plan(random: &mut Random, job: &Job) -> SomePlan {
     let order = permutation(random, job.wants.len());
     if random.chance(1, 2) {
-        let room = job.wants.len();
-        if let Ok(plan) = reference::plan(job.places, job.curves, &job.wants, &order, room, room) {
-            return (order, plan.drops, plan.loads);
+        if let Some(plan) = our_plan(job, &order) {
+            return plan;
         }
     }
-    let (drops, loads) = free_plan(random, job, &order);
-    (order, drops, loads)
+    let (drops, loads, end) = free_plan(random, job, &order);
+    SomePlan {
+        order,
+        drops,
+        loads,
+        end,
+    }
+}
+
+/// A job and the longest plan of any that passes.
+fn longest_made(random: &mut Random) -> (Job, SomePlan) {
+    let each = random.between(1, 4);
+    let job = longest_job(random, each);
+    let listed: Vec<u16> = (0..256).collect();
+    let plan = our_plan(&job, &listed).expect("its tests fit");
+    assert_eq!(plan.bytes().len(), PLAN_MADE);
+    (job, plan)
+}
+
+/// A job, and steps for its counts that mean nothing, but are well formed and as long as can be.
+fn longest_read(random: &mut Random) -> (Job, SomePlan) {
+    let job = longest_job(random, 1);
+    let mut full = || in_groups(random, job.curves, 8);
+    let drops: Vec<u64> = (0..256).map(|_| full()).collect();
+    let loads: Vec<u64> = (0..256).map(|_| full()).collect();
+    let end = full();
+    let plan = SomePlan {
+        order: permutation(random, 256),
+        drops,
+        loads,
+        end,
+    };
+    assert_eq!(plan.bytes().len(), PLAN_READ);
+    (job, plan)
+}
+
+// ---------------------------------------------------------------------------------------------
+// Plan bytes and their end
+
+/// How the end of plan bytes is made, behind the last test's step.
+#[derive(Clone, Copy, Debug, PartialEq, Eq)]
+pub enum Ending {
+    /// An end step that drops what is held; none where nothing is.
+    Held,
+    /// No end step, though something is held.
+    Missing,
+    /// An end step that drops a curve more than is held.
+    OneMore,
+    /// One that leaves one of several curves.
+    OneFewer,
+    /// One that drops all curves of the job, though they are not all held.
+    All,
+    /// The same with 64 curves.
+    All64,
+    /// One that drops any others.
+    Others,
+    /// Another map byte instead of 1.
+    Map(u8),
+    AnyMap,
+    /// A group map without groups.
+    NoGroups,
+    /// A group byte zero.
+    HollowGroup,
+    /// A curve that the job lacks.
+    Foreign,
+    /// All 64 curves, though the job has fewer.
+    AllOnes,
+    /// Cut behind so many bytes of the end step.
+    Cut(usize),
+    /// The same end step twice.
+    Doubled,
+    /// Another end step behind it.
+    Another,
+    /// A test's step behind it.
+    Step,
+    /// One byte behind it.
+    Surplus,
+    /// Before the last test's step.
+    BeforeLast,
+    /// Before any test's step.
+    Early,
+    /// As held, and of the longest plan of the C call.
+    LongestMade,
+    /// Of the longest plan that reads.
+    LongestRead,
+    /// One byte behind that.
+    LongerStill,
+}
+
+/// All of them, with their names.
+pub const ENDINGS: [(Ending, &str); 43] = [
+    (Ending::Held, "held"),
+    (Ending::Missing, "missing"),
+    (Ending::OneMore, "one-more"),
+    (Ending::OneFewer, "one-fewer"),
+    (Ending::All, "all"),
+    (Ending::All64, "all-64"),
+    (Ending::Others, "others"),
+    (Ending::Map(0x00), "map-00"),
+    (Ending::Map(0x02), "map-02"),
+    (Ending::Map(0x03), "map-03"),
+    (Ending::Map(0x04), "map-04"),
+    (Ending::Map(0x05), "map-05"),
+    (Ending::Map(0x06), "map-06"),
+    (Ending::Map(0x07), "map-07"),
+    (Ending::Map(0x08), "map-08"),
+    (Ending::Map(0x09), "map-09"),
+    (Ending::Map(0x11), "map-11"),
+    (Ending::Map(0x80), "map-80"),
+    (Ending::Map(0x81), "map-81"),
+    (Ending::Map(0xff), "map-ff"),
+    (Ending::AnyMap, "map-any"),
+    (Ending::NoGroups, "no-groups"),
+    (Ending::HollowGroup, "hollow-group"),
+    (Ending::Foreign, "foreign"),
+    (Ending::AllOnes, "all-ones"),
+    (Ending::Cut(1), "cut-1"),
+    (Ending::Cut(2), "cut-2"),
+    (Ending::Cut(3), "cut-3"),
+    (Ending::Cut(4), "cut-4"),
+    (Ending::Cut(5), "cut-5"),
+    (Ending::Cut(6), "cut-6"),
+    (Ending::Cut(7), "cut-7"),
+    (Ending::Cut(8), "cut-8"),
+    (Ending::Cut(9), "cut-9"),
+    (Ending::Doubled, "doubled"),
+    (Ending::Another, "another"),
+    (Ending::Step, "step"),
+    (Ending::Surplus, "surplus"),
+    (Ending::BeforeLast, "before-last"),
+    (Ending::Early, "early"),
+    (Ending::LongestMade, "5121-bytes"),
+    (Ending::LongestRead, "5130-bytes"),
+    (Ending::LongerStill, "5131-bytes"),
+];
+
+impl Ending {
+    pub fn name(self) -> &'static str {
+        let found = ENDINGS.iter().find(|(ending, _)| *ending == self);
+        found.expect("all are named").1
+    }
+
+    /// Whether the bytes read; if not, they get refusal 11.
+    pub fn reads(self) -> bool {
+        use Ending::*;
+        matches!(self, Held | LongestMade | LongestRead)
+            || matches!(self, Missing | OneMore | OneFewer | All | All64 | Others)
+    }
+}
+
+/// Plan bytes of a job with an end made on purpose.
+pub struct EndedPlan {
+    pub job: Job,
+    pub plan: Vec<u8>,
+    /// What reading has to answer: the end set, or the offset of refusal 11.
+    pub foreseen: Result<u64, usize>,
+}
+
+/// Map and set.
+fn end_step(set: u64) -> Vec<u8> {
+    let mut bytes = vec![1];
+    bytes.extend(parts::set_bytes(set));
+    bytes
+}
+
+/// What the bits 0 to 2 of a map ask for: drops, loads and a test.
+fn asked_for(random: &mut Random, map: u8, curves: usize, tests: usize) -> Vec<u8> {
+    let mut bytes = Vec::new();
+    for bit in [1, 2] {
+        if map & bit != 0 {
+            bytes.extend(parts::set_bytes(in_groups(random, curves, 1)));
+        }
+    }
+    if map & 4 != 0 {
+        bytes.push(random.below(tests) as u8);
+    }
+    bytes
+}
+
+/// A plan's bytes with this end, and what is foreseen of them. `None`: the plan does not allow it.
+fn with_ending(
+    random: &mut Random,
+    job: &Job,
+    made: &SomePlan,
+    ending: Ending,
+) -> Option<(Vec<u8>, Result<u64, usize>)> {
+    let tests = job.wants.len();
+    let all = all_curves(job.curves);
+    let held = made.end;
+    let mut bytes = made.first_bytes(tests);
+    let start = bytes.len();
+    // Where reading does not come to an end, any set will do.
+    let groups = random.between(1, job.curves.div_ceil(8));
+    let set = match random.below(2) {
+        0 if held != 0 => held,
+        _ => in_groups(random, job.curves, groups),
+    };
+    let step = end_step(set);
+    let behind = start + step.len();
+    let foreseen = match ending {
+        Ending::Held => {
+            bytes = made.bytes();
+            Ok(held)
+        }
+        Ending::Missing if held != 0 => Ok(0),
+        Ending::OneMore if held != all => {
+            let more = held | one_of(random, all & !held);
+            bytes.extend(end_step(more));
+            Ok(more)
+        }
+        Ending::OneFewer if held.count_ones() > 1 => {
+            let fewer = held & !one_of(random, held);
+            bytes.extend(end_step(fewer));
+            Ok(fewer)
+        }
+        Ending::All | Ending::All64 if held != all => {
+            bytes.extend(end_step(all));
+            Ok(all)
+        }
+        Ending::Others if set != held => {
+            bytes.extend(step);
+            Ok(set)
+        }
+        Ending::Map(map) => {
+            bytes.push(map);
+            if random.chance(1, 2) {
+                bytes.extend(&step[1..]);
+            } else {
+                bytes.extend(asked_for(random, map, job.curves, tests));
+            }
+            Err(start)
+        }
+        Ending::AnyMap => {
+            bytes.push(random.byte() | random.pick(&[2, 4, 8, 16, 32, 64, 128]));
+            bytes.extend(&step[1..]);
+            Err(start)
+        }
+        Ending::NoGroups => {
+            bytes.extend([1, 0]);
+            if random.chance(1, 2) {
+                bytes.extend(&step[2..]);
+            }
+            Err(start + 1)
+        }
+        Ending::HollowGroup => {
+            let at = start + random.between(2, step.len() - 1);
+            bytes.extend(step);
+            bytes[at] = 0;
+            Err(at)
+        }
+        Ending::Foreign if job.curves < 64 => {
+            let own = if random.chance(1, 4) { 0 } else { set };
+            let foreign = one_of(random, !all);
+            let group = foreign.trailing_zeros() / 8;
+            let before = (0..group).filter(|g| own >> (8 * g) & 0xff != 0).count();
+            bytes.extend(end_step(own | foreign));
+            Err(start + 2 + before)
+        }
+        Ending::AllOnes if job.curves < 64 => {
+            bytes.extend(end_step(u64::MAX));
+            Err(start + 2 + job.curves / 8)
+        }
+        // The set has so many groups that something is cut off.
+        Ending::Cut(length) if length <= 1 + job.curves.div_ceil(8) => {
+            let least = length.saturating_sub(1).max(1);
+            let groups = random.between(least, job.curves.div_ceil(8));
+            bytes.extend(&end_step(in_groups(random, job.curves, groups))[..length]);
+            Err(start + length)
+        }
+        Ending::Doubled => {
+            bytes.extend(&step);
+            bytes.extend(&step);
+            Err(behind)
+        }
+        Ending::Another => {
+            bytes.extend(step);
+            bytes.extend(end_step(in_groups(random, job.curves, groups)));
+            Err(behind)
+        }
+        Ending::Step => {
+            bytes.extend(step);
+            bytes.extend(made.first_bytes(1));
+            Err(behind)
+        }
+        Ending::Surplus => {
+            bytes.extend(step);
+            let byte = random.byte();
+            bytes.push(random.pick(&[0, 1, 4, 255, byte]));
+            Err(behind)
+        }
+        Ending::BeforeLast | Ending::Early => {
+            let steps = match ending {
+                Ending::BeforeLast => tests - 1,
+                _ => random.below(tests),
+            };
+            let at = made.first_bytes(steps).len();
+            // The right end step may stand at the end as well.
+            if random.chance(1, 2) {
+                bytes = made.bytes();
+            }
+            drop(bytes.splice(at..at, step));
+            Err(at)
+        }
+        _ => return None,
+    };
+    Some((bytes, foreseen))
+}
+
+/// Plan bytes with this end, of a job that allows it.
+pub fn ended_plan(random: &mut Random, size: Size, ending: Ending) -> EndedPlan {
+    let (job, plan, foreseen) = match ending {
+        Ending::LongestMade => {
+            let (job, made) = longest_made(random);
+            (job, made.bytes(), Ok(made.end))
+        }
+        Ending::LongestRead => {
+            let (job, made) = longest_read(random);
+            (job, made.bytes(), Ok(made.end))
+        }
+        Ending::LongerStill => {
+            let (job, made) = longest_read(random);
+            let mut plan = made.bytes();
+            plan.push(random.byte());
+            (job, plan, Err(PLAN_READ))
+        }
+        _ => loop {
+            let mut job = job(random, size);
+            if ending == Ending::All64 {
+                job.curves = 64;
+            }
+            let made = some_plan(random, &job);
+            if let Some((plan, foreseen)) = with_ending(random, &job, &made, ending) {
+                break (job, plan, foreseen);
+            }
+        },
+    };
+    EndedPlan {
+        job,
+        plan,
+        foreseen,
+    }
+}
+
+/// Faults in the counts handed over with plan bytes.
+fn spoil_counts(random: &mut Random, curves: &mut usize, tests: &mut usize) {
+    match random.below(7) {
+        0 => *curves = random.pick(&WILD),
+        1 => *tests = random.pick(&[0, 0, 257, 257, 258, 512, 1 << 32, usize::MAX]),
+        2 => {
+            *curves = random.pick(&WILD);
+            *tests = random.pick(&[0, 257, 1 << 32, usize::MAX]);
+        }
+        3 => *curves = curves.saturating_sub(1),
+        4 => *tests = tests.saturating_sub(1),
+        5 => *tests += 1,
+        _ => *curves += 1,
+    }
 }
 
 /// Plan bytes with the counts handed over for them.
-fn any_plan_bytes(random: &mut Random, size: Size) -> (usize, usize, Vec<u8>) {
+struct HandedBytes {
+    curves: usize,
+    tests: usize,
+    plan: Vec<u8>,
+    ending: Option<Ending>,
+}
+
+fn any_plan_bytes(random: &mut Random, size: Size) -> HandedBytes {
+    if random.chance(1, 3) {
+        let (ending, _) = random.pick(&ENDINGS);
+        let EndedPlan { job, plan, .. } = ended_plan(random, size, ending);
+        let mut curves = job.curves;
+        let mut tests = job.wants.len();
+        if random.chance(1, 8) {
+            spoil_counts(random, &mut curves, &mut tests);
+        }
+        return HandedBytes {
+            curves,
+            tests,
+            plan,
+            ending: Some(ending),
+        };
+    }
     let job = job(random, size);
     let mut curves = job.curves;
     let mut tests = job.wants.len();
     let mut bytes = match random.below(8) {
-        0..=4 => {
-            let (order, drops, loads) = some_plan(random, &job);
-            reference::plan_bytes(&order, &drops, &loads)
-        }
+        0..=4 => some_plan(random, &job).bytes(),
         5 | 6 => {
             // Steps that mean nothing, but are well formed: tests may repeat.
             let all = all_curves(curves);
             let order: Vec<u16> = (0..tests).map(|_| random.below(tests) as u16).collect();
             let drops: Vec<u64> = (0..tests).map(|_| some_of(random, all)).collect();
             let loads: Vec<u64> = (0..tests).map(|_| some_of(random, all)).collect();
-            reference::plan_bytes(&order, &drops, &loads)
+            let end = some_of(random, all);
+            reference::plan_bytes(&order, &drops, &loads, end)
         }
         _ => {
             let length = random.below(16);
@@ -1113,40 +1607,51 @@ fn any_plan_bytes(random: &mut Random, size: Size) -> (usize, usize, Vec<u8>) {
             damage(random, &mut bytes);
         }
     }
-    match random.below(24) {
-        0 => curves = random.pick(&WILD),
-        1 => tests = random.pick(&[0, 0, 257, 257, 258, 512, 1 << 32, usize::MAX]),
-        2 => {
-            curves = random.pick(&WILD);
-            tests = random.pick(&[0, 257, 1 << 32, usize::MAX]);
-        }
-        3 => curves = curves.saturating_sub(1),
-        4 => tests = tests.saturating_sub(1),
-        5 => tests += 1,
-        6 => curves += 1,
-        _ => {}
+    if random.chance(7, 24) {
+        spoil_counts(random, &mut curves, &mut tests);
     }
-    (curves, tests, bytes)
+    HandedBytes {
+        curves,
+        tests,
+        plan: bytes,
+        ending: None,
+    }
 }
 
-/// Job bytes and plan bytes for an audit: a plan of the job, ours or another, with faults in the
-/// steps, in the bytes of either or of both, or with the bytes of another job.
-fn audited(random: &mut Random, size: Size) -> (Vec<u8>, Vec<u8>) {
+/// Job bytes and plan bytes for an audit: a plan with an end made on purpose; or a plan of the job,
+/// ours or another, with faults in the steps or the end set, in the bytes of either or of both, or
+/// with the bytes of another job.
+fn audited(random: &mut Random, size: Size) -> (Vec<u8>, Vec<u8>, Option<Ending>) {
+    if random.chance(1, 4) {
+        let (ending, _) = random.pick(&ENDINGS);
+        let EndedPlan { job, plan, .. } = ended_plan(random, size, ending);
+        let mut bytes = job_bytes(&job);
+        if random.chance(1, 12) {
+            damage(random, &mut bytes);
+        }
+        return (bytes, plan, Some(ending));
+    }
     let job = job(random, size);
     let tests = job.wants.len();
-    let (mut order, mut drops, mut loads) = some_plan(random, &job);
+    let mut made = some_plan(random, &job);
     if random.chance(1, 3) {
-        spoil_plan(random, &mut drops, &mut loads, job.curves);
+        spoil_plan(random, &mut made.drops, &mut made.loads, job.curves);
         // In bytes every step has its sets.
-        drops.resize(tests, 0);
-        loads.resize(tests, 0);
+        made.drops.resize(tests, 0);
+        made.loads.resize(tests, 0);
+        if random.chance(1, 2) {
+            made.end = reference::held_behind(&made.drops, &made.loads);
+        }
+    }
+    if random.chance(1, 8) {
+        spoil_end(random, &mut made.end, job.curves);
     }
     if random.chance(1, 8) {
         let at = random.below(tests);
-        order[at] = random.pick(&order);
+        made.order[at] = random.pick(&made.order);
     }
     let mut bytes = job_bytes(&job);
-    let mut plan = reference::plan_bytes(&order, &drops, &loads);
+    let mut plan = made.bytes();
     match random.below(14) {
         0..=7 => {}
         8 => damage(random, &mut plan),
@@ -1161,7 +1666,7 @@ fn audited(random: &mut Random, size: Size) -> (Vec<u8>, Vec<u8>) {
         }
         _ => bytes = any_job_bytes(random, size),
     }
-    (bytes, plan)
+    (bytes, plan, None)
 }
 
 // ---------------------------------------------------------------------------------------------
@@ -1394,6 +1899,12 @@ pub fn case_of(function: usize, size: Size, random: &mut Random) -> Case {
                 mut method,
                 mut wants,
             } = job(random, size);
+            if large(size) && random.chance(1, 4) {
+                // All 64 curves are held at the end.
+                (places, curves) = (64, 64);
+                let test = random.below(wants.len());
+                wants[test] = u64::MAX;
+            }
             let mut order = permutation(random, wants.len());
             if random.chance(1, 8) && method != 3 {
                 if let Ok(made) =
@@ -1418,10 +1929,40 @@ pub fn case_of(function: usize, size: Size, random: &mut Random) -> Case {
                 loads_len,
             }
         }
+        5 if large(size) && random.chance(1, 3) => {
+            let (job, made) = longest_made(random);
+            Case::WritePlan {
+                places: job.places,
+                curves: job.curves,
+                wants: job.wants,
+                order: made.order,
+                drops: made.drops,
+                loads: made.loads,
+                end: made.end,
+                out_len: around(random, PLAN_MADE),
+            }
+        }
         4 | 5 => {
-            let mut job = job(random, size);
-            let (mut order, mut drops, mut loads) = some_plan(random, &job);
+            let (mut job, made) = if large(size) && random.chance(1, 4) {
+                longest_made(random)
+            } else {
+                let job = job(random, size);
+                let made = some_plan(random, &job);
+                (job, made)
+            };
+            let SomePlan {
+                mut order,
+                mut drops,
+                mut loads,
+                mut end,
+            } = made;
             spoil_plan(random, &mut drops, &mut loads, job.curves);
+            if random.chance(1, 2) {
+                end = reference::held_behind(&drops, &loads);
+            }
+            if random.chance(1, 3) {
+                spoil_end(random, &mut end, job.curves);
+            }
             if random.chance(1, 4) {
                 let Job {
                     places,
@@ -1451,18 +1992,29 @@ pub fn case_of(function: usize, size: Size, random: &mut Random) -> Case {
                     order,
                     drops,
                     loads,
+                    end,
                 };
             }
-            let needed = match reference::write_plan(
+            let tests = wants.len();
+            let answer = reference::write_plan(
                 places,
                 curves,
                 &wants,
                 &order,
                 &drops,
                 &loads,
+                end,
                 usize::MAX,
-            ) {
+            );
+            let needed = match answer {
                 Ok(bytes) => bytes.len(),
+                // Sound steps and another end set: what the bytes would take.
+                Err(no)
+                    if no == reference::refusal(12, tests)
+                        && (drops.len(), loads.len()) == (tests, tests) =>
+                {
+                    reference::plan_bytes(&order, &drops, &loads, end).len()
+                }
                 Err(_) => random.below(40),
             };
             Case::WritePlan {
@@ -1472,11 +2024,17 @@ pub fn case_of(function: usize, size: Size, random: &mut Random) -> Case {
                 order,
                 drops,
                 loads,
+                end,
                 out_len: lent(random, needed),
             }
         }
         6 => {
-            let (curves, tests, plan) = any_plan_bytes(random, size);
+            let HandedBytes {
+                curves,
+                tests,
+                plan,
+                ending,
+            } = any_plan_bytes(random, size);
             let needed = tests.min(300);
             let (order_len, drops_len, loads_len) = match random.below(6) {
                 0 => (
@@ -1500,13 +2058,19 @@ pub fn case_of(function: usize, size: Size, random: &mut Random) -> Case {
                 curves,
                 tests,
                 plan,
+                ending,
                 order_len,
                 drops_len,
                 loads_len,
             }
         }
         7 => {
-            let (curves, tests, plan) = any_plan_bytes(random, size);
+            let HandedBytes {
+                curves,
+                tests,
+                plan,
+                ending,
+            } = any_plan_bytes(random, size);
             let further = match random.below(3) {
                 0 => random.pick(&[257, 300, 65_535, 65_536, 1 << 32, usize::MAX]),
                 1 => tests.saturating_add(random.between(1, 9)),
@@ -1516,13 +2080,21 @@ pub fn case_of(function: usize, size: Size, random: &mut Random) -> Case {
                 curves,
                 tests,
                 plan,
+                ending,
                 further,
+            }
+        }
+        8 if large(size) && random.chance(1, 3) => {
+            let each = random.between(1, 4);
+            Case::Call {
+                job: job_bytes(&longest_job(random, each)),
+                plan_len: around(random, PLAN_MADE),
             }
         }
         8 => {
             let job = any_job_bytes(random, size);
             let plan_len = match random.below(8) {
-                0..=4 => random.pick(&[5_120, 5_120, 5_121, 6_000]),
+                0..=4 => random.pick(&[PLAN_MADE, PLAN_MADE, PLAN_READ, 6_000]),
                 5 => random.below(64),
                 _ => {
                     // Exactly enough, or one too few.
@@ -1537,6 +2109,10 @@ pub fn case_of(function: usize, size: Size, random: &mut Random) -> Case {
             };
             Case::Call { job, plan_len }
         }
+        9 if large(size) && random.chance(1, 2) => Case::Sheet {
+            job: job_bytes(&longest_job(random, 4)),
+            out_len: around(random, SHEET),
+        },
         9 => {
             let job = any_job_bytes(random, size);
             // Ordering it twice may be slow: see the C call.
@@ -1549,11 +2125,12 @@ pub fn case_of(function: usize, size: Size, random: &mut Random) -> Case {
             Case::Sheet { job, out_len }
         }
         10 => {
-            let (job, plan) = audited(random, size);
+            let (job, plan, ending) = audited(random, size);
             let needed = reference::audit_text(&reference::audit(&job, &plan)).len();
             Case::Audit {
                 job,
                 plan,
+                ending,
                 out_len: lent(random, needed),
             }
         }
@@ -1629,7 +2206,7 @@ pub fn case_of(function: usize, size: Size, random: &mut Random) -> Case {
         },
         18 => {
             let set = any_set(random);
-            let needed = crate::parts::set_bytes(set).len();
+            let needed = parts::set_bytes(set).len();
             Case::PutSet {
                 set,
                 out_len: lent(random, needed),

@@ -1,4 +1,4 @@
-//! An independent implementation of the curve planner's paper (`reference`) and of the small public
+//! An independent implementation of the curve planner's papers (`reference`) and of the small public
 //! functions below it (`parts`), two fast ones for the benchmark (`tuned`, and in C `fast`), random
 //! inputs (`generate`) and the library under test (`product`, only with the feature of that name).
 

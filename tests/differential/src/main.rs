@@ -6,10 +6,13 @@
 //!
 //! Without the feature `product` the tuned implementation of the C call is compared, and the
 //! other functions are only counted. Ends with 1 at the first difference, with 2 if some outcome
-//! that a function can have, one of method 3's flips or one of the audit's two kinds of refusal was
-//! never reached.
+//! that a function can have was never reached, or something else that is counted: one of method 3's
+//! flips, one of the audit's two kinds of refusal, a kind of end set or of plan's end, a wrong end
+//! set beside another fault, or a length on its bound.
 
-use differential::generate::{self, Case, SetFunction, FUNCTIONS};
+use differential::generate::{
+    self, Case, Ending, SetFunction, ENDINGS, FUNCTIONS, PLAN_MADE, SHEET,
+};
 use differential::parts::{self, GroupRead};
 use differential::random::{mix, Random};
 use differential::reference::{self, Refusal, Refused};
@@ -27,6 +30,7 @@ use differential::product;
 // What is compared
 
 /// An implementation under test. `None`: it does not offer the function.
+#[allow(clippy::too_many_arguments)]
 #[rustfmt::skip]
 trait Subject {
     fn name(&self) -> &'static str;
@@ -37,14 +41,13 @@ trait Subject {
     fn order_tests(&self, _places: usize, _curves: usize, _method: usize, _wants: &[u64],
         _order: &mut [u16]) -> Option<u64> { None }
     fn plan_order(&self, _places: usize, _curves: usize, _wants: &[u64], _order: &[u16],
-        _drops: &mut [u64], _loads: &mut [u64]) -> Option<u64> { None }
+        _drops: &mut [u64], _loads: &mut [u64], _end: &mut u64) -> Option<u64> { None }
     fn check_plan(&self, _places: usize, _curves: usize, _wants: &[u64], _order: &[u16],
-        _drops: &[u64], _loads: &[u64]) -> Option<u64> { None }
-    #[allow(clippy::too_many_arguments)]
+        _drops: &[u64], _loads: &[u64], _end: u64) -> Option<u64> { None }
     fn write_plan(&self, _places: usize, _curves: usize, _wants: &[u64], _order: &[u16],
-        _drops: &[u64], _loads: &[u64], _out: &mut [u8]) -> Option<u64> { None }
+        _drops: &[u64], _loads: &[u64], _end: u64, _out: &mut [u8]) -> Option<u64> { None }
     fn read_plan(&self, _curves: usize, _tests: usize, _plan: &[u8], _order: &mut [u16],
-        _drops: &mut [u64], _loads: &mut [u64]) -> Option<u64> { None }
+        _drops: &mut [u64], _loads: &mut [u64], _end: &mut u64) -> Option<u64> { None }
     /// Start and count.
     fn step_bytes(&self, _curves: usize, _tests: usize, _plan: &[u8], _position: usize)
         -> Option<(usize, usize)> { None }
@@ -100,20 +103,20 @@ impl Subject for Product {
         Some(product::order_tests(places, curves, method, wants, order))
     }
     fn plan_order(&self, places: usize, curves: usize, wants: &[u64], order: &[u16],
-        drops: &mut [u64], loads: &mut [u64]) -> Option<u64> {
-        Some(product::plan_order(places, curves, wants, order, drops, loads))
+        drops: &mut [u64], loads: &mut [u64], end: &mut u64) -> Option<u64> {
+        Some(product::plan_order(places, curves, wants, order, drops, loads, end))
     }
     fn check_plan(&self, places: usize, curves: usize, wants: &[u64], order: &[u16],
-        drops: &[u64], loads: &[u64]) -> Option<u64> {
-        Some(product::check_plan(places, curves, wants, order, drops, loads))
+        drops: &[u64], loads: &[u64], end: u64) -> Option<u64> {
+        Some(product::check_plan(places, curves, wants, order, drops, loads, end))
     }
     fn write_plan(&self, places: usize, curves: usize, wants: &[u64], order: &[u16],
-        drops: &[u64], loads: &[u64], out: &mut [u8]) -> Option<u64> {
-        Some(product::write_plan(places, curves, wants, order, drops, loads, out))
+        drops: &[u64], loads: &[u64], end: u64, out: &mut [u8]) -> Option<u64> {
+        Some(product::write_plan(places, curves, wants, order, drops, loads, end, out))
     }
     fn read_plan(&self, curves: usize, tests: usize, plan: &[u8], order: &mut [u16],
-        drops: &mut [u64], loads: &mut [u64]) -> Option<u64> {
-        Some(product::read_plan(curves, tests, plan, order, drops, loads))
+        drops: &mut [u64], loads: &mut [u64], end: &mut u64) -> Option<u64> {
+        Some(product::read_plan(curves, tests, plan, order, drops, loads, end))
     }
     fn step_bytes(&self, curves: usize, tests: usize, plan: &[u8], position: usize)
         -> Option<(usize, usize)> {
@@ -296,6 +299,44 @@ fn named(no: &Refusal) -> String {
     }
 }
 
+/// The outcome's name of a check: which rule of 12 was broken.
+fn check_outcome<T>(answer: &Result<T, Refusal>, tests: usize, lengths: [usize; 2]) -> String {
+    match answer {
+        Err(no) if no.number == 12 && lengths != [tests, tests] => "12:lengths".to_string(),
+        Err(no) if no.number == 12 && no.figure < tests as u64 => "12:step".to_string(),
+        Err(no) if no.number == 12 => "12:end".to_string(),
+        _ => outcome(answer),
+    }
+}
+
+/// How a handed end set stands to what is held.
+fn kind_of_end(held: u64, end: u64, curves: usize) -> &'static str {
+    let more = parts::without(end, held);
+    let fewer = parts::without(held, end);
+    match (parts::size(more), parts::size(fewer)) {
+        (0, 0) if held == 0 => "nothing-held",
+        (0, 0) => "held",
+        _ if end == 0 => "zero",
+        _ if end == u64::MAX => "all-ones",
+        _ if !parts::inside(end, parts::below(curves)) => "foreign",
+        (1, 0) => "one-more",
+        (0, 1) => "one-fewer",
+        _ => "others",
+    }
+}
+
+/// The refusal that a plan with another end set than what is held gets for another fault.
+fn before_end(outcome: &str) -> Option<&'static str> {
+    match outcome {
+        "5" => Some("5"),
+        "8" => Some("8"),
+        "12:lengths" => Some("12:lengths"),
+        "12:step" => Some("12:step"),
+        _ if outcome.starts_with("10:") => Some("10"),
+        _ => None,
+    }
+}
+
 /// The outcome's name of a text in a buffer of this length: what the text tells, or 9 and what
 /// kind of text did not fit.
 fn text_outcome(text: &str, out_len: usize) -> String {
@@ -371,8 +412,8 @@ fn set_answer(function: SetFunction, a: u64, b: u64, k: usize) -> (u64, String) 
 
 struct Verdict {
     outcome: String,
-    /// What else the reference met, and how often.
-    notes: Vec<(&'static str, u64)>,
+    /// What else was met, and how often: a table's title and a name in it.
+    notes: Vec<(&'static str, &'static str, u64)>,
     /// For each subject: not offered, alike, or the difference.
     results: Vec<Option<Result<(), String>>>,
 }
@@ -449,7 +490,7 @@ fn run(case: &Case, random: &mut Random, subjects: &[Box<dyn Subject>]) -> Verdi
             let answer = reference::order_and_flips(*places, *curves, *method, wants, *order_len);
             let number = number_of(&answer, |(order, _)| order.len() as u64);
             let (result, flips) = answer.clone().unwrap_or_default();
-            notes.extend(FLIPS.into_iter().zip(flips));
+            notes.extend((0..4).map(|won| (FLIPS_WON, FLIPS[won], flips[won])));
             for subject in subjects {
                 let mut order = Lent::new("order", random, *order_len, &result);
                 let found = subject.order_tests(*places, *curves, *method, wants, order.part());
@@ -467,17 +508,32 @@ fn run(case: &Case, random: &mut Random, subjects: &[Box<dyn Subject>]) -> Verdi
         } => {
             let answer = reference::plan(*places, *curves, wants, order, *drops_len, *loads_len);
             let number = number_of(&answer, |plan| plan.count);
-            let (new_drops, new_loads) = match &answer {
-                Ok(plan) => (plan.drops.clone(), plan.loads.clone()),
-                Err(_) => (vec![], vec![]),
+            let (new_drops, new_loads, new_end) = match &answer {
+                Ok(plan) => (plan.drops.clone(), plan.loads.clone(), vec![plan.end]),
+                Err(_) => (vec![], vec![], vec![]),
             };
+            for &end in &new_end {
+                notes.push((PLANNED_ENDS, kind_of_set(end), 1));
+            }
             for subject in subjects {
                 let mut drops = Lent::new("drops", random, *drops_len, &new_drops);
                 let mut loads = Lent::new("loads", random, *loads_len, &new_loads);
-                let found =
-                    subject.plan_order(*places, *curves, wants, order, drops.part(), loads.part());
+                let mut end = Lent::new("end", random, 1, &new_end);
+                let found = subject.plan_order(
+                    *places,
+                    *curves,
+                    wants,
+                    order,
+                    drops.part(),
+                    loads.part(),
+                    &mut end.part()[0],
+                );
                 results.push(found.map(|found| {
-                    compare(number, found, &[drops.difference(), loads.difference()])
+                    compare(
+                        number,
+                        found,
+                        &[drops.difference(), loads.difference(), end.difference()],
+                    )
                 }));
             }
             outcome(&answer)
@@ -489,14 +545,21 @@ fn run(case: &Case, random: &mut Random, subjects: &[Box<dyn Subject>]) -> Verdi
             order,
             drops,
             loads,
+            end,
         } => {
-            let answer = reference::check_plan(*places, *curves, wants, order, drops, loads);
+            let answer = reference::check_plan(*places, *curves, wants, order, drops, loads, *end);
             let number = number_of(&answer, |count| *count);
             for subject in subjects {
-                let found = subject.check_plan(*places, *curves, wants, order, drops, loads);
+                let found = subject.check_plan(*places, *curves, wants, order, drops, loads, *end);
                 results.push(found.map(|found| compare(number, found, &[])));
             }
-            outcome(&answer)
+            let name = check_outcome(&answer, wants.len(), [drops.len(), loads.len()]);
+            let held = reference::held_behind(drops, loads);
+            notes.push((CHECKED_ENDS, kind_of_end(held, *end, *curves), 1));
+            if *end != held {
+                notes.extend(before_end(&name).map(|fault| (CHECKED_TWICE, fault, 1)));
+            }
+            name
         }
         Case::WritePlan {
             places,
@@ -505,39 +568,65 @@ fn run(case: &Case, random: &mut Random, subjects: &[Box<dyn Subject>]) -> Verdi
             order,
             drops,
             loads,
+            end,
             out_len,
         } => {
             let answer =
-                reference::write_plan(*places, *curves, wants, order, drops, loads, *out_len);
+                reference::write_plan(*places, *curves, wants, order, drops, loads, *end, *out_len);
             let number = number_of(&answer, |bytes| bytes.len() as u64);
             let bytes = answer.clone().unwrap_or_default();
             for subject in subjects {
                 let mut out = Lent::new("out", random, *out_len, &bytes);
-                let found =
-                    subject.write_plan(*places, *curves, wants, order, drops, loads, out.part());
+                let found = subject.write_plan(
+                    *places,
+                    *curves,
+                    wants,
+                    order,
+                    drops,
+                    loads,
+                    *end,
+                    out.part(),
+                );
                 results.push(found.map(|found| compare(number, found, &[out.difference()])));
             }
-            outcome(&answer)
+            let name = check_outcome(&answer, wants.len(), [drops.len(), loads.len()]);
+            let held = reference::held_behind(drops, loads);
+            notes.push((WRITTEN_ENDS, kind_of_end(held, *end, *curves), 1));
+            if *end != held {
+                notes.extend(before_end(&name).map(|fault| (WRITTEN_TWICE, fault, 1)));
+            }
+            if name == "12:end" {
+                let needed = reference::plan_bytes(order, drops, loads, *end).len();
+                notes.push((WRITTEN_TWICE, "short", (*out_len < needed) as u64));
+            }
+            notes.extend(on_bound(WRITTEN_LENGTHS, &answer));
+            name
         }
         Case::ReadPlan {
             curves,
             tests,
             plan,
+            ending,
             order_len,
             drops_len,
             loads_len,
         } => {
             let answer =
                 reference::read_plan(*curves, *tests, plan, *order_len, *drops_len, *loads_len);
-            let number = number_of(&answer, |steps| steps.len() as u64);
+            let number = number_of(&answer, |steps| steps.tests.len() as u64);
             let steps = answer.clone().unwrap_or_default();
-            let new_order: Vec<u16> = steps.iter().map(|step| step.test).collect();
-            let new_drops: Vec<u64> = steps.iter().map(|step| step.drops).collect();
-            let new_loads: Vec<u64> = steps.iter().map(|step| step.loads).collect();
+            let new_end = match &answer {
+                Ok(steps) => vec![steps.end_set()],
+                Err(_) => vec![],
+            };
+            for &end in &new_end {
+                notes.push((READ_ENDS, kind_of_set(end), 1));
+            }
             for subject in subjects {
-                let mut order = Lent::new("order", random, *order_len, &new_order);
-                let mut drops = Lent::new("drops", random, *drops_len, &new_drops);
-                let mut loads = Lent::new("loads", random, *loads_len, &new_loads);
+                let mut order = Lent::new("order", random, *order_len, &steps.order());
+                let mut drops = Lent::new("drops", random, *drops_len, &steps.drops());
+                let mut loads = Lent::new("loads", random, *loads_len, &steps.loads());
+                let mut end = Lent::new("end", random, 1, &new_end);
                 let found = subject.read_plan(
                     *curves,
                     *tests,
@@ -545,28 +634,53 @@ fn run(case: &Case, random: &mut Random, subjects: &[Box<dyn Subject>]) -> Verdi
                     order.part(),
                     drops.part(),
                     loads.part(),
+                    &mut end.part()[0],
                 );
                 results.push(found.map(|found| {
                     compare(
                         number,
                         found,
-                        &[order.difference(), drops.difference(), loads.difference()],
+                        &[
+                            order.difference(),
+                            drops.difference(),
+                            loads.difference(),
+                            end.difference(),
+                        ],
                     )
                 }));
             }
-            outcome(&answer)
+            let name = outcome(&answer);
+            if let Some(ending) = ending {
+                notes.push((READ_ENDINGS, ending.name(), 1));
+                let short = [*order_len, *drops_len, *loads_len]
+                    .iter()
+                    .any(|length| length < tests);
+                notes.extend(beside_ending(*ending, &name, short));
+            }
+            name
         }
         Case::StepBytes {
             curves,
             tests,
             plan,
+            ending,
             further,
         } => {
             let answer = reference::read_steps(*curves, *tests, plan);
             let steps = answer.clone().unwrap_or_default();
+            if let Some(ending) = ending {
+                notes.push((FETCHED_ENDINGS, ending.name(), 1));
+            }
+            let kind = match (&answer, ending) {
+                (Ok(steps), _) if steps.end.is_some() => Some("end-step"),
+                (Ok(_), _) => Some("no-end-step"),
+                (Err(no), Some(ending)) if no.number == 11 && !ending.reads() => Some("refused"),
+                _ => None,
+            };
+            notes.extend(kind.map(|kind| (FETCHED_BEHIND, kind, 1)));
             for subject in subjects {
                 let mut result = None;
-                for position in (0..=(*tests).min(256)).chain([*further]) {
+                for position in (0..=(*tests).min(256) + 2).chain([*further]) {
                     let expected = reference::part(&steps, plan, position);
                     let found = subject.step_bytes(*curves, *tests, plan, position);
                     result = found.map(|found| {
@@ -593,6 +707,7 @@ fn run(case: &Case, random: &mut Random, subjects: &[Box<dyn Subject>]) -> Verdi
                 let found = subject.call(job, plan.part());
                 results.push(found.map(|found| compare(number, found, &[plan.difference()])));
             }
+            notes.extend(on_bound(CALL_LENGTHS, &answer));
             outcome(&answer)
         }
         Case::Sheet { job, out_len } => {
@@ -605,9 +720,23 @@ fn run(case: &Case, random: &mut Random, subjects: &[Box<dyn Subject>]) -> Verdi
                 let found = subject.sheet(job, out.part());
                 results.push(found.map(|found| compare(number, found, &[out.difference()])));
             }
-            text_outcome(&text, *out_len)
+            let name = text_outcome(&text, *out_len);
+            if name == "ok" {
+                let ended = text.contains(": end drop ");
+                notes.push((SHEETS, if ended { "end-line" } else { "no-end-line" }, 1));
+            }
+            if text.len() == SHEET {
+                let short = *out_len < SHEET;
+                notes.push((SHEETS, if short { "longest-short" } else { "longest" }, 1));
+            }
+            name
         }
-        Case::Audit { job, plan, out_len } => {
+        Case::Audit {
+            job,
+            plan,
+            ending,
+            out_len,
+        } => {
             let audit = reference::audit(job, plan);
             let text = reference::audit_text(&audit);
             let answer = reference::written(&text, *out_len);
@@ -618,23 +747,24 @@ fn run(case: &Case, random: &mut Random, subjects: &[Box<dyn Subject>]) -> Verdi
                 let found = subject.audit(job, plan, out.part());
                 results.push(found.map(|found| compare(number, found, &[out.difference()])));
             }
+            if let Some(ending) = ending {
+                notes.push((AUDITED_ENDINGS, ending.name(), 1));
+            }
             let fits = text.len() <= *out_len;
-            let told = [
-                fits && matches!(audit, Err(Refused::Job(_))),
-                fits && matches!(audit, Err(Refused::Plan(_))),
-            ];
-            notes.extend(AUDIT_REFUSALS.into_iter().zip(told.map(u64::from)));
+            match &audit {
+                Err(Refused::Job(_)) => notes.push((AUDITS_REFUSED, "job", fits as u64)),
+                Err(Refused::Plan(_)) => notes.push((AUDITS_REFUSED, "plan", fits as u64)),
+                Ok(audit) => notes.push((AUDITS, "every-plan-tried", audit.tried as u64)),
+            }
             let name = text_outcome(&text, *out_len);
             match audit {
-                Ok(audit) => {
-                    notes.push((TRIED, audit.tried as u64));
-                    if name == "ok" && audit.loads > audit.fewest {
-                        "ok:more".to_string()
-                    } else {
-                        name
-                    }
+                Ok(audit) if name == "ok" && audit.loads > audit.fewest => "ok:more".to_string(),
+                Err(Refused::Plan(no)) if name == "plan:12" => {
+                    let tests = reference::read_job(job, 256).map_or(0, |job| job.tests);
+                    let at_end = no.figure == tests as u64;
+                    format!("plan:12:{}", if at_end { "end" } else { "step" })
                 }
-                Err(_) => name,
+                _ => name,
             }
         }
         Case::Examine {
@@ -778,6 +908,37 @@ fn run(case: &Case, random: &mut Random, subjects: &[Box<dyn Subject>]) -> Verdi
     }
 }
 
+/// A plan of the longest there are, written or too long for its buffer.
+fn on_bound(
+    title: &'static str,
+    answer: &Result<Vec<u8>, Refusal>,
+) -> Option<(&'static str, &'static str, u64)> {
+    match answer {
+        Ok(bytes) if bytes.len() == PLAN_MADE => Some((title, "5121-bytes", 1)),
+        Err(no) if (no.number, no.figure) == (9, PLAN_MADE as u64) => {
+            Some((title, "5121-bytes-short", 1))
+        }
+        _ => None,
+    }
+}
+
+/// Bytes that get 11 at their end, and what is refused before that, or would be behind it.
+fn beside_ending(
+    ending: Ending,
+    outcome: &str,
+    short: bool,
+) -> Option<(&'static str, &'static str, u64)> {
+    let name = match outcome {
+        _ if ending.reads() => return None,
+        "5" => "5-first",
+        "10:1" | "10:2" => "10-first",
+        "11" if short && ending == Ending::Surplus => "surplus-short",
+        "11" if short => "11-short",
+        _ => return None,
+    };
+    Some((READ_TWICE, name, 1))
+}
+
 /// The tests that are written to a list: all, or none where there are more than 256 or too few
 /// entries.
 fn tests_written(
@@ -806,11 +967,64 @@ const MANY: u64 = 100_000;
 /// Which comparison won in the second round of method 3.
 const FLIPS: [&str; 4] = ["tail-head", "tail-tail", "head-head", "head-tail"];
 
-/// What an audit refused whose text was written.
-const AUDIT_REFUSALS: [&str; 2] = ["job", "plan"];
+/// A handed end set, beside what is held.
+const ENDS: [&str; 8] = [
+    "held",
+    "nothing-held",
+    "one-more",
+    "one-fewer",
+    "zero",
+    "foreign",
+    "all-ones",
+    "others",
+];
 
+// The titles of what is counted beside the outcomes.
+const FLIPS_WON: &str = "method 3, comparisons won";
+const PLANNED_ENDS: &str = "plans made, end set";
+const CHECKED_ENDS: &str = "plans checked, end set";
+const CHECKED_TWICE: &str = "plans checked, another end set and refused before";
+const WRITTEN_ENDS: &str = "plans written, end set";
+const WRITTEN_TWICE: &str = "plans written, another end set and refused before, or too short";
+const WRITTEN_LENGTHS: &str = "plans written, longest";
+const READ_ENDS: &str = "plans read, end set";
+const READ_ENDINGS: &str = "plans read, end of the bytes";
+const READ_TWICE: &str = "plans read, a faulty end and refused before, or too short";
+const FETCHED_ENDINGS: &str = "steps fetched, end of the bytes";
+const FETCHED_BEHIND: &str = "steps fetched, up to two behind the end step's position";
+const CALL_LENGTHS: &str = "C calls, longest";
+const SHEETS: &str = "sheets";
+const AUDITED_ENDINGS: &str = "plans audited, end of the bytes";
+/// What an audit refused whose text was written.
+const AUDITS_REFUSED: &str = "audits, refused";
 /// The fewest loads of an audit were confirmed by trying every plan.
-const TRIED: &str = "audits with every plan tried";
+const AUDITS: &str = "audits";
+
+/// What is counted beside the outcomes: the function, the title and the names.
+#[rustfmt::skip]
+fn tables() -> Vec<(&'static str, &'static str, Vec<&'static str>)> {
+    let endings = ENDINGS.map(|(_, name)| name);
+    let tables: [(&str, &str, &[&str]); 17] = [
+        ("order_tests", FLIPS_WON, &FLIPS),
+        ("plan_order", PLANNED_ENDS, &SETS),
+        ("check_plan", CHECKED_ENDS, &ENDS),
+        ("check_plan", CHECKED_TWICE, &["5", "8", "10", "12:lengths", "12:step"]),
+        ("write_plan", WRITTEN_ENDS, &ENDS),
+        ("write_plan", WRITTEN_TWICE, &["5", "8", "10", "12:lengths", "12:step", "short"]),
+        ("write_plan", WRITTEN_LENGTHS, &LONGEST),
+        ("read_plan", READ_ENDS, &SETS),
+        ("read_plan", READ_ENDINGS, &endings),
+        ("read_plan", READ_TWICE, &["5-first", "10-first", "11-short", "surplus-short"]),
+        ("step_bytes", FETCHED_ENDINGS, &endings),
+        ("step_bytes", FETCHED_BEHIND, &["end-step", "no-end-step", "refused"]),
+        ("plan", CALL_LENGTHS, &LONGEST),
+        ("sheet", SHEETS, &["end-line", "no-end-line", "longest", "longest-short"]),
+        ("audit", AUDITED_ENDINGS, &endings),
+        ("audit", AUDITS_REFUSED, &["job", "plan"]),
+        ("audit", AUDITS, &["every-plan-tried"]),
+    ];
+    tables.map(|(function, title, names)| (function, title, names.to_vec())).to_vec()
+}
 
 /// What each function can come out with.
 #[rustfmt::skip]
@@ -819,14 +1033,14 @@ const OUTCOMES: [&[&str]; FUNCTIONS.len()] = [
     &["ok", "5", "9", "10:0", "10:1", "10:2", "10:3", "10:4+"],
     &["ok", "5", "7", "9", "10:0", "10:1", "10:2", "10:3", "10:4+"],
     &["ok", "5", "7", "8", "9", "10:0", "10:1", "10:2", "10:4+"],
-    &["ok", "5", "8", "10:0", "10:1", "10:2", "10:4+", "12"],
-    &["ok", "5", "8", "9", "10:0", "10:1", "10:2", "10:4+", "12"],
+    &["ok", "5", "8", "10:0", "10:1", "10:2", "10:4+", "12:lengths", "12:step", "12:end"],
+    &["ok", "5", "8", "9", "10:0", "10:1", "10:2", "10:4+", "12:lengths", "12:step", "12:end"],
     &["ok", "5", "9", "10:1", "10:2", "11"],
     &["ok", "5", "10:1", "10:2", "11"],
     &["ok", "1", "2", "3", "4", "5", "6", "7", "9"],
     &["ok", "1", "2", "3", "4", "5", "6", "7", "9:ok", "9:job"],
-    &["ok", "ok:more", "1", "2", "3", "4", "5", "6", "plan:8", "plan:11", "plan:12", "9:ok",
-        "9:job", "9:plan"],
+    &["ok", "ok:more", "1", "2", "3", "4", "5", "6", "plan:8", "plan:11", "plan:12:step",
+        "plan:12:end", "9:ok", "9:job", "9:plan"],
     &["ok", "5", "10:0", "10:1", "10:2", "10:4+"],
     &["ok", "5", "10:0", "10:1", "10:2", "10:3", "10:4+"],
     &["ok", "5", "10:1", "10:2"],
@@ -852,6 +1066,7 @@ const OUTCOMES: [&[&str]; FUNCTIONS.len()] = [
 ];
 
 const SETS: [&str; 3] = ["empty", "some", "full"];
+const LONGEST: [&str; 2] = ["5121-bytes", "5121-bytes-short"];
 const NUMBERS: [&str; 7] = ["at0", "at1-62", "at63", "at64", "at65", "at66+", "at-most"];
 
 fn setting(place: usize, name: &str, default: u64) -> u64 {
@@ -901,7 +1116,7 @@ fn main() {
 
     let start = Instant::now();
     let mut histogram: Vec<BTreeMap<String, u64>> = vec![BTreeMap::new(); FUNCTIONS.len()];
-    let mut met: BTreeMap<&str, u64> = BTreeMap::new();
+    let mut met: BTreeMap<(&str, &str), u64> = BTreeMap::new();
     let mut compared = vec![vec![0u64; FUNCTIONS.len()]; subjects.len()];
     let numbers = match only {
         Some(number) => number..number + 1,
@@ -918,8 +1133,8 @@ fn main() {
         *histogram[called]
             .entry(verdict.outcome.clone())
             .or_default() += 1;
-        for (name, count) in &verdict.notes {
-            *met.entry(name).or_default() += count;
+        for (title, name, count) in &verdict.notes {
+            *met.entry((title, name)).or_default() += count;
         }
         for (s, result) in verdict.results.iter().enumerate() {
             match result {
@@ -952,10 +1167,10 @@ fn main() {
         println!("  {:<16}{:>9}", "all", compared[s].iter().sum::<u64>());
     }
     println!(
-        "\noutcomes of the reference (ok, or refusal number; 10 with its figure; plan: where an"
+        "\noutcomes of the reference (ok, or refusal number; 10 with its figure; 12 with what is"
     );
-    println!("audit refuses the plan; 9 of a text with what it would have told: ok, or what is");
-    println!("refused; for sets the kind of set, or the number asked)");
+    println!("faulty; plan: where an audit refuses the plan; 9 of a text with what it would have");
+    println!("told: ok, or what is refused; for sets the kind of set, or the number asked)");
     let mut missing = Vec::new();
     for (called, outcomes) in OUTCOMES.iter().enumerate() {
         if histogram[called].is_empty() && (function.is_some() || only.is_some()) {
@@ -977,16 +1192,14 @@ fn main() {
             }
         }
     }
-    for (title, names) in [
-        ("method 3, comparisons won", &FLIPS[..]),
-        ("audits, refused", &AUDIT_REFUSALS[..]),
-    ] {
-        if !met.contains_key(names[0]) {
+    for (name, title, names) in tables() {
+        let called = FUNCTIONS.iter().position(|known| *known == name).unwrap();
+        if histogram[called].is_empty() {
             continue;
         }
         let mut line = format!("{title}:");
         for name in names {
-            let count = met[name];
+            let count = met.remove(&(title, name)).unwrap_or(0);
             line += &format!(" {name}={count}");
             if count == 0 {
                 missing.push(format!("{title} {name}"));
@@ -994,12 +1207,7 @@ fn main() {
         }
         println!("{line}");
     }
-    if let Some(count) = met.get(TRIED) {
-        println!("{TRIED}: {count}");
-        if *count == 0 {
-            missing.push(TRIED.to_string());
-        }
-    }
+    assert!(met.is_empty(), "counted, but in no table: {met:?}");
     if only.is_none() && cases >= MANY && !missing.is_empty() {
         println!("never reached: {}", missing.join(", "));
         exit(2);

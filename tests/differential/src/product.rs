@@ -61,6 +61,7 @@ extern "C" {
         drops_len: usize,
         loads: *mut u64,
         loads_len: usize,
+        end: *mut u64,
     ) -> u64;
     fn curveplan_check_plan(
         places: usize,
@@ -73,6 +74,7 @@ extern "C" {
         drops_len: usize,
         loads: *const u64,
         loads_len: usize,
+        end: u64,
     ) -> u64;
     fn curveplan_write_plan(
         places: usize,
@@ -85,6 +87,7 @@ extern "C" {
         drops_len: usize,
         loads: *const u64,
         loads_len: usize,
+        end: u64,
         out: *mut u8,
         out_len: usize,
     ) -> u64;
@@ -99,6 +102,7 @@ extern "C" {
         drops_len: usize,
         loads: *mut u64,
         loads_len: usize,
+        end: *mut u64,
     ) -> u64;
     fn curveplan_step_bytes(
         curves: usize,
@@ -160,8 +164,8 @@ extern "C" {
 }
 
 // Safety of all calls below: every pointer comes from a live slice and goes with that slice's own
-// length, or is that of the one number lent to `curveplan_read_group`; what is lent for writing is
-// borrowed alone.
+// length, or is that of the one number lent for a group's or an end step's set; what is lent for
+// writing is borrowed alone.
 
 pub fn read_job(job: &[u8], wants: &mut [u64]) -> JobHead {
     unsafe { curveplan_read_job(job.as_ptr(), job.len(), wants.as_mut_ptr(), wants.len()) }
@@ -214,6 +218,7 @@ pub fn plan_order(
     order: &[u16],
     drops: &mut [u64],
     loads: &mut [u64],
+    end: &mut u64,
 ) -> u64 {
     unsafe {
         curveplan_plan_order(
@@ -227,6 +232,7 @@ pub fn plan_order(
             drops.len(),
             loads.as_mut_ptr(),
             loads.len(),
+            end,
         )
     }
 }
@@ -238,6 +244,7 @@ pub fn check_plan(
     order: &[u16],
     drops: &[u64],
     loads: &[u64],
+    end: u64,
 ) -> u64 {
     unsafe {
         curveplan_check_plan(
@@ -251,10 +258,12 @@ pub fn check_plan(
             drops.len(),
             loads.as_ptr(),
             loads.len(),
+            end,
         )
     }
 }
 
+#[allow(clippy::too_many_arguments)]
 pub fn write_plan(
     places: usize,
     curves: usize,
@@ -262,6 +271,7 @@ pub fn write_plan(
     order: &[u16],
     drops: &[u64],
     loads: &[u64],
+    end: u64,
     out: &mut [u8],
 ) -> u64 {
     unsafe {
@@ -276,6 +286,7 @@ pub fn write_plan(
             drops.len(),
             loads.as_ptr(),
             loads.len(),
+            end,
             out.as_mut_ptr(),
             out.len(),
         )
@@ -289,6 +300,7 @@ pub fn read_plan(
     order: &mut [u16],
     drops: &mut [u64],
     loads: &mut [u64],
+    end: &mut u64,
 ) -> u64 {
     unsafe {
         curveplan_read_plan(
@@ -302,6 +314,7 @@ pub fn read_plan(
             drops.len(),
             loads.as_mut_ptr(),
             loads.len(),
+            end,
         )
     }
 }

@@ -1,9 +1,9 @@
-//! The paper, sentence by sentence, on ordered sets and plain lists. Slow on purpose: nothing in
-//! here is arranged for speed, so that each function can be compared with the paper by eye.
+//! The papers, sentence by sentence, on ordered sets and plain lists. Slow on purpose: nothing in
+//! here is arranged for speed, so that each function can be compared with the papers by eye.
 //!
 //! Handed numbers may be anything; each answer is the result or the refusal.
 
-// Steps, tests and sets are named by their numbers here, as the paper does.
+// Steps, tests and sets are named by their numbers here, as in the papers.
 #![allow(clippy::needless_range_loop)]
 
 use std::collections::BTreeSet;
@@ -541,11 +541,12 @@ fn packages(places: usize, wants: &[Curves], flips: &mut Flips) -> Vec<usize> {
 // ---------------------------------------------------------------------------------------------
 // Plans
 
-/// Drops, loads and the load count.
+/// Drops, loads, what the end step drops (0: there is none) and the load count.
 #[derive(Clone, Debug, PartialEq, Eq)]
 pub struct Plan {
     pub drops: Vec<u64>,
     pub loads: Vec<u64>,
+    pub end: u64,
     pub count: u64,
 }
 
@@ -585,9 +586,11 @@ pub fn plan(
         all_drops.push(bits_of(&drops));
         all_loads.push(bits_of(&loads));
     }
+    // After the last test, all that is held is dropped.
     Ok(Plan {
         drops: all_drops,
         loads: all_loads,
+        end: bits_of(&held),
         count,
     })
 }
@@ -611,6 +614,19 @@ fn furthest(held: &Curves, wanted: &Curves, later: &[Curves]) -> u8 {
     best.expect("a test is never wider than the places here").0
 }
 
+/// What is held behind these steps, whatever they are: step after step, the drops are taken out and
+/// the loads put in.
+pub fn held_behind(drops: &[u64], loads: &[u64]) -> u64 {
+    let mut held = Curves::new();
+    for (&dropped, &loaded) in drops.iter().zip(loads) {
+        for curve in set_of(dropped) {
+            held.remove(&curve);
+        }
+        held.extend(set_of(loaded));
+    }
+    bits_of(&held)
+}
+
 pub fn check_plan(
     places: usize,
     curves: usize,
@@ -618,6 +634,7 @@ pub fn check_plan(
     order: &[u16],
     drops: &[u64],
     loads: &[u64],
+    end: u64,
 ) -> Answer<u64> {
     handed(Some(places), curves, None, wants)?;
     each_test_once(wants.len(), order)?;
@@ -655,14 +672,19 @@ pub fn check_plan(
         count += loaded.len() as u64;
         held = after;
     }
+    // The end set is what is held; one with a foreign curve never is.
+    if set_of(end) != held {
+        return refuse(12, wants.len());
+    }
     Ok(count)
 }
 
 // ---------------------------------------------------------------------------------------------
 // Plan bytes
 
-/// The bytes of steps, whatever they hold. Tests are below 256.
-pub fn plan_bytes(order: &[u16], drops: &[u64], loads: &[u64]) -> Vec<u8> {
+/// The bytes of steps, whatever they hold, and of the end step, if it drops something. Tests are
+/// below 256.
+pub fn plan_bytes(order: &[u16], drops: &[u64], loads: &[u64], end: u64) -> Vec<u8> {
     let mut bytes = Vec::new();
     for step in 0..order.len() {
         let dropped = set_of(drops[step]);
@@ -683,6 +705,12 @@ pub fn plan_bytes(order: &[u16], drops: &[u64], loads: &[u64]) -> Vec<u8> {
         }
         bytes.push(order[step] as u8);
     }
+    // Drops alone: bit 0 stands, bits 1 and 2 do not.
+    let dropped_last = set_of(end);
+    if !dropped_last.is_empty() {
+        bytes.push(1);
+        bytes.extend(groups(&dropped_last));
+    }
     bytes
 }
 
@@ -694,24 +722,62 @@ pub fn write_plan(
     order: &[u16],
     drops: &[u64],
     loads: &[u64],
+    end: u64,
     out_len: usize,
 ) -> Answer<Vec<u8>> {
-    check_plan(places, curves, wants, order, drops, loads)?;
-    let bytes = plan_bytes(order, drops, loads);
+    check_plan(places, curves, wants, order, drops, loads, end)?;
+    let bytes = plan_bytes(order, drops, loads, end);
     if out_len < bytes.len() {
         return refuse(9, bytes.len());
     }
     Ok(bytes)
 }
 
-/// One step as it was read, with the part of the bytes it takes.
+/// One test's step as it was read, with the part of the bytes it takes.
 #[derive(Clone, Debug, PartialEq, Eq)]
 pub struct Step {
     pub test: u16,
     pub drops: u64,
     pub loads: u64,
     pub start: usize,
-    pub end: usize,
+    pub behind: usize,
+}
+
+/// The end step as it was read, with the part of the bytes it takes.
+#[derive(Clone, Debug, PartialEq, Eq)]
+pub struct EndStep {
+    pub drops: u64,
+    pub start: usize,
+    pub behind: usize,
+}
+
+/// A plan as it was read: a step for each test, then perhaps an end step.
+#[derive(Clone, Debug, Default, PartialEq, Eq)]
+pub struct Steps {
+    pub tests: Vec<Step>,
+    pub end: Option<EndStep>,
+}
+
+impl Steps {
+    pub fn order(&self) -> Vec<u16> {
+        self.tests.iter().map(|step| step.test).collect()
+    }
+
+    pub fn drops(&self) -> Vec<u64> {
+        self.tests.iter().map(|step| step.drops).collect()
+    }
+
+    pub fn loads(&self) -> Vec<u64> {
+        self.tests.iter().map(|step| step.loads).collect()
+    }
+
+    /// 0 where there is no end step.
+    pub fn end_set(&self) -> u64 {
+        match &self.end {
+            None => 0,
+            Some(step) => step.drops,
+        }
+    }
 }
 
 /// The plan byte at this offset.
@@ -770,24 +836,42 @@ fn read_step(plan: &[u8], start: usize, curves: usize, tests: usize) -> Answer<S
         drops: bits_of(&drops),
         loads: bits_of(&loads),
         start,
-        end: offset + 1,
+        behind: offset + 1,
     })
 }
 
+/// What stands behind the last test's step: nothing, or the end step alone. It has drops, and
+/// neither loads nor a test, so its map is 1.
+fn read_end_step(plan: &[u8], start: usize, curves: usize) -> Answer<Option<EndStep>> {
+    if start == plan.len() {
+        return Ok(None);
+    }
+    if planned(plan, start)? != 1 {
+        return refuse(11, start);
+    }
+    let (drops, behind) = read_set(plan, start + 1, curves)?;
+    if behind < plan.len() {
+        return refuse(11, behind);
+    }
+    Ok(Some(EndStep {
+        drops: bits_of(&drops),
+        start,
+        behind,
+    }))
+}
+
 /// All steps of a plan: 5, 10, then 11.
-pub fn read_steps(curves: usize, tests: usize, plan: &[u8]) -> Answer<Vec<Step>> {
+pub fn read_steps(curves: usize, tests: usize, plan: &[u8]) -> Answer<Steps> {
     handed_counts(curves, tests)?;
     let mut steps: Vec<Step> = Vec::new();
     let mut offset = 0;
     while steps.len() < tests {
         let step = read_step(plan, offset, curves, tests)?;
-        offset = step.end;
+        offset = step.behind;
         steps.push(step);
     }
-    if offset < plan.len() {
-        return refuse(11, offset);
-    }
-    Ok(steps)
+    let end = read_end_step(plan, offset, curves)?;
+    Ok(Steps { tests: steps, end })
 }
 
 fn handed_counts(curves: usize, tests: usize) -> Answer<()> {
@@ -810,7 +894,7 @@ pub fn read_plan(
     order_len: usize,
     drops_len: usize,
     loads_len: usize,
-) -> Answer<Vec<Step>> {
+) -> Answer<Steps> {
     let steps = read_steps(curves, tests, plan)?;
     if order_len < tests || drops_len < tests || loads_len < tests {
         return refuse(9, tests);
@@ -819,11 +903,18 @@ pub fn read_plan(
 }
 
 /// Start and count of the bytes of one of these steps; the empty part at the plan's end where there
-/// is no such step.
-pub fn part(steps: &[Step], plan: &[u8], position: usize) -> (usize, usize) {
-    match steps.get(position) {
+/// is no such step. The end step stands behind all others.
+pub fn part(steps: &Steps, plan: &[u8], position: usize) -> (usize, usize) {
+    let mut parts = Vec::new();
+    for step in &steps.tests {
+        parts.push((step.start, step.behind - step.start));
+    }
+    if let Some(step) = &steps.end {
+        parts.push((step.start, step.behind - step.start));
+    }
+    match parts.get(position) {
         None => (plan.len(), 0),
-        Some(step) => (step.start, step.end - step.start),
+        Some(&part) => part,
     }
 }
 
@@ -855,6 +946,7 @@ pub fn call_bytes(job: &[u8], plan_len: usize) -> Answer<Vec<u8>> {
         &order,
         &plan.drops,
         &plan.loads,
+        plan.end,
         plan_len,
     )
 }
@@ -905,6 +997,9 @@ pub fn sheet(job: &[u8]) -> String {
                     curve_list(plan.loads[step])
                 );
             }
+            if plan.end != 0 {
+                text += &format!("{}: end drop {}\n", job.tests, curve_list(plan.end));
+            }
             text + &format!("loads {}\n", plan.count)
         }
     }
@@ -937,10 +1032,16 @@ pub fn audit(job: &[u8], plan: &[u8]) -> Result<Audit, Refused> {
 
 fn audit_of(job: &Job, plan: &[u8]) -> Answer<Audit> {
     let steps = read_plan(job.curves, job.tests, plan, LIST, LIST, LIST)?;
-    let order: Vec<u16> = steps.iter().map(|step| step.test).collect();
-    let drops: Vec<u64> = steps.iter().map(|step| step.drops).collect();
-    let loads: Vec<u64> = steps.iter().map(|step| step.loads).collect();
-    let count = check_plan(job.places, job.curves, &job.wants, &order, &drops, &loads)?;
+    let order = steps.order();
+    let count = check_plan(
+        job.places,
+        job.curves,
+        &job.wants,
+        &order,
+        &steps.drops(),
+        &steps.loads(),
+        steps.end_set(),
+    )?;
     let fewest = fewest_loads(job.places, &job.wants, &order);
     let tried = job.curves <= 5 && job.tests <= 8;
     if tried {
@@ -1002,7 +1103,8 @@ pub fn audit_text(answer: &Result<Audit, Refused>) -> String {
 // Two more ways to say what a plan is, for small jobs
 
 /// Whether a plan passes the check, told curve by curve: each curve of the 64 goes through the
-/// steps on its own, and the steps only count how many curves they hold.
+/// steps on its own, and the steps only count how many curves they hold. Behind the last test it is
+/// in the end set exactly if it is inside.
 pub fn passes(
     places: usize,
     curves: usize,
@@ -1010,6 +1112,7 @@ pub fn passes(
     order: &[u16],
     drops: &[u64],
     loads: &[u64],
+    end: u64,
 ) -> bool {
     let tests = wants.len();
     let mut named: Vec<usize> = order.iter().map(|&test| test as usize).collect();
@@ -1041,12 +1144,16 @@ pub fn passes(
                 holding[step] += 1;
             }
         }
+        if inside != has(end) {
+            return false;
+        }
     }
     holding.iter().all(|&number| number <= places)
 }
 
 /// The fewest loads of ANY plan for this job and order that passes the check, by trying every
-/// drop set and every load set from every set that can be held. `None`: no plan passes.
+/// drop set and every load set from every set that can be held, and behind the last test every end
+/// set. So only plans that end empty are compared. `None`: no plan passes.
 /// For small jobs: curves up to about 8.
 pub fn least_loads(places: usize, curves: usize, wants: &[u64], order: &[u16]) -> Option<u64> {
     let all = 1usize << curves;
@@ -1075,7 +1182,17 @@ pub fn least_loads(places: usize, curves: usize, wants: &[u64], order: &[u16]) -
         }
         fewest = then;
     }
-    fewest.into_iter().flatten().min()
+    let mut least = None;
+    for held in 0..all {
+        let Some(total) = fewest[held] else { continue };
+        for end in (0..all).filter(|&end| end & !held == 0) {
+            let left = held & !end;
+            if left == 0 && least.is_none_or(|known| total < known) {
+                least = Some(total);
+            }
+        }
+    }
+    least
 }
 
 #[cfg(test)]

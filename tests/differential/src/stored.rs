@@ -1,6 +1,6 @@
-//! The stored cases of the sheet and audit programs, as the paper has them.
+//! The stored cases of the sheet and audit programs, as the papers have them.
 
-use crate::generate::SHEET;
+use crate::generate::{PLAN_MADE, PLAN_READ, SHEET};
 use crate::reference::*;
 use std::collections::BTreeSet;
 use std::fs;
@@ -63,9 +63,10 @@ fn the_longest_job() {
     assert_eq!(stored("sheet", "longest_job_surplus", "job"), longer);
 }
 
-/// A step of our plan names no curve twice: what it drops is not wanted, what it loads is. So a line
-/// is longest if it names all 64, and only with 32 places can all lines but the first do that. The
-/// first then loads 32 curves, at best all with two digits.
+/// A step of our plan names no curve twice: what it drops is not wanted, what it loads is. So no curve
+/// is loaded more often than in every second step, and each load is dropped again in a step or at the
+/// end. With 32 places half of the curves and the other half can take turns; then only the first step
+/// drops none.
 #[test]
 fn the_longest_sheet() {
     let numbers: usize = (0..256).map(|number: u16| number.to_string().len()).sum();
@@ -74,30 +75,37 @@ fn the_longest_sheet() {
         + 256 * ": test  drop load\n".len()
         + 2 * numbers
         + " none".len()
-        + 32 * " 63".len()
-        + 255 * curves
+        + 2 * 128 * curves
+        + "256: end drop\n".len()
         + "loads 8192\n".len();
     assert_eq!(stored("sheet", "longest_sheet", "out").len(), longest);
     assert_eq!(longest, SHEET);
 }
 
 /// A step's bytes are its map, two sets of at most nine bytes and its test; the first of a plan that
-/// passes drops nothing.
+/// passes drops nothing. The end step's are its map and a set.
 #[test]
 fn the_longest_plan() {
     let job = stored("audit", "longest_plan", "job");
     let plan = stored("audit", "longest_plan", "plan");
-    assert_eq!(plan.len(), (1 + 9 + 1) + 255 * (1 + 9 + 9 + 1));
-    assert_eq!(plan.len(), 5_111);
-    assert_eq!(call_bytes(&job, 5_111), Ok(plan.clone()));
-    for number in [8, 11, 12] {
-        let faulty = stored("audit", &format!("longest_plan_refused_{number}"), "plan");
-        assert_eq!(faulty.len(), 5_111);
+    assert_eq!(plan.len(), (1 + 9 + 1) + 255 * (1 + 9 + 9 + 1) + (1 + 9));
+    assert_eq!(plan.len(), PLAN_MADE);
+    assert_eq!(call_bytes(&job, PLAN_MADE), Ok(plan.clone()));
+    for fault in ["8", "11", "12", "12_end"] {
+        let faulty = stored("audit", &format!("longest_plan_refused_{fault}"), "plan");
+        assert_eq!(faulty.len(), PLAN_MADE);
         assert_eq!(faulty[..5_011], plan[..5_011]);
     }
     let mut longer = plan;
     longer.push(0);
     assert_eq!(stored("audit", "longest_plan_surplus", "plan"), longer);
-    // The longest that reads, but does not pass.
-    assert_eq!(stored("audit", "dropped_from_empty", "plan").len(), 5_120);
+    // The longest that reads, but does not pass, and one byte more.
+    let mut longest = stored("audit", "dropped_from_empty", "plan");
+    assert_eq!(longest.len(), 256 * (1 + 9 + 9 + 1) + (1 + 9));
+    assert_eq!(longest.len(), PLAN_READ);
+    longest.push(0);
+    assert_eq!(
+        stored("audit", "dropped_from_empty_surplus", "plan"),
+        longest
+    );
 }

@@ -5,7 +5,7 @@ use denote.Ref.{now}
 use borrow.Author.Needs.{needs}
 use Rattle.job.specs.Refusal.{countOutcome}
 use Rattle.job_bytes.proofs.SetRoundTrip.{Bytes}
-use Rattle.planning.specs.Plan.{planOf}
+use Rattle.planning.specs.Plan.{setLists}
 use Rattle.planned.specs.Contracts.{Lists, listsOf}
 use Rattle.planned.proofs.Reading.{bytes-of}
 use Rattle.planned.proofs.Entries.{Given, refused-job, planned-job}
@@ -21,16 +21,16 @@ bytes c = bytes-of (now (c .before .args .job)) (λ k l. omega (arith, c .shared
 abbrev filled : tie.After-known-told2 → Lists
 filled c =
     let l = c .before .before .before .before .before .before .before .plan-job .last in
-    listsOf (l .1 .0) (l .1 .1 .0) (planOf (l .1 .1 .1 .0) (l .1 .1 .1 .1 .0))
+    listsOf (l .1 .0) (l .1 .1 .0) (setLists (l .1 .1 .1 .0) (l .1 .1 .1 .1 .0))
 
 given : (c : tie.After-known-told2)
     → Given (now (c .before .before .before .before .before .before .before .before .before .before .before .before .before .before .args .job))
-    (c .before .head .given .0 .0) (c .before .head .given .0 .1 .0) (filled c)
+    (c .before .head .given .0 .0) (c .before .head .given .0 .1 .0) (c .before .head .given .0 .1 .1 .0) (filled c)
 given c =
     let r = c .before .before .before .before .before .before .before .plan-job in
     planned-job (now (c .before .before .before .before .before .before .before .before .before .before .before .before .before .before .args .job))
     (bytes (c .before .before .before .before .before .before .before .before .before .before .before .before .before)) _ _ (r .ensures .0) (omega arith) _
-    _ _ (c .before .head .given .1) (r .ensures .1)
+    _ _ _ (c .before .head .given .1) (r .ensures .1)
 
 array-share-prefix-order : tie.Need-array-share-prefix-order
 array-share-prefix-order c = omega (arith, given c .few, c .before .before .before .before .before .before .before .plan-job .kept .1 .1 .0)

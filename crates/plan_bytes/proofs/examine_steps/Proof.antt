@@ -4,9 +4,10 @@ use mathlib.Core.Path.{refl}
 use mathlib.Core.List.{List, []}
 use denote.Ref.{now}
 use borrow.Author.Needs.{needs}
-use Rattle.job.specs.Refusal.{mapped, examinedOutcome}
+use Rattle.job.specs.Refusal.{mapped}
 use Rattle.plan_bytes.specs.PlanBytes.{Placed}
-use Rattle.plan_bytes.proofs.Steps.{Behind, begin, step-more, step-faulty, surplus, whole}
+use Rattle.plan_bytes.specs.Contracts.{endOutcome}
+use Rattle.plan_bytes.proofs.Steps.{Behind, begin, step-more, step-faulty, end-examined}
 use Rattle.plan_bytes.proofs.examine_steps.Statement.{statement}
 use Rattle.plan_bytes.proofs.examine_steps.Tie as tie
 
@@ -20,7 +21,7 @@ loop-holds : tie.Need-loop-holds Inv-loop μ-loop
 loop-holds c = let a = c .before .args in ([], begin (a .curves) (a .tests) (now (a .plan)))
 
 returns : tie.Need-returns Inv-loop μ-loop
-unfolding mapped examinedOutcome
+unfolding mapped endOutcome
 returns c =
     let l = c .before .before .before .before .before .loop in
     let a = c .before .before .before .before .before .before .before .args in
@@ -37,20 +38,12 @@ loop-again c =
     )
 
 returns-2 : tie.Need-returns-2 Inv-loop μ-loop
-unfolding mapped examinedOutcome
 returns-2 c =
     let l = c .before .before .loop in
     let a = c .before .before .before .before .args in
-    rw (surplus (a .curves) (a .tests) (now (a .plan)) (l .k) (l .at) (l .inv .0) (l .inv .1) (c .before .loop-test .left) (c .if1 .taken)) refl
-
-returns-3 : tie.Need-returns-3 Inv-loop μ-loop
-unfolding mapped examinedOutcome
-returns-3 c =
-    let l = c .before .before .loop in
-    let a = c .before .before .before .before .args in
-    rw (whole (a .curves) (a .tests) (now (a .plan)) (l .k) (l .at) (l .inv .0) (l .inv .1) (c .before .loop-test .left) (c .if1 .left)) refl
+    end-examined (a .curves) (a .tests) (now (a .plan)) (l .k) (l .at) (l .inv .0) (l .inv .1) (c .before .loop-test .left) _ (c .read-end .ensures (a .tests))
 
 pub examine-steps-spec : {M : Type 1} → statement M
 examine-steps-spec =
     tie.close (tie.spec Inv-loop μ-loop loop-holds (λ c κs. search needs) (λ c. search needs) returns (λ c. search needs) (λ c. search needs)
-    (λ c. search needs) loop-again returns-2 returns-3)
+    (λ c. search needs) loop-again (λ c κs. search needs) returns-2)

@@ -97,8 +97,10 @@ returns-2 c =
     let s = c .before .before .before .before .before .before in
     let a = s .args in
     let i = l .inv .1 in
-    let e = all-read (a .curves) (a .tests) (now (a .plan)) (l .k) (l .at) (l .inv .0) (i .behind) (c .loop-test .left) (s .pre .1) in
-    (fill-all _ (now (a .order)) _ _ _ e (i .tests), (fill-all _ (now (a .drops)) _ _ _ e (i .drops), fill-all _ (now (a .loads)) _ _ _ e (i .loads)))
+    let e = all-read (a .curves) (a .tests) (now (a .plan)) (l .k) (l .at) (l .inv .0) (i .behind) (c .loop-test .left) (s .pre .1) in (
+      fill-all _ (now (a .order)) _ _ _ (e .1) (i .tests),
+      (fill-all _ (now (a .drops)) _ _ _ (e .1) (i .drops), fill-all _ (now (a .loads)) _ _ _ (e .1) (i .loads)),
+    )
 
 pub fill-lists-spec : {M : Type 1} → statement M
 fill-lists-spec =

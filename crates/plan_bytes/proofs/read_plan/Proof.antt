@@ -2,76 +2,80 @@
 use mathlib.Core.Path.{_≡_}
 use native.Mathlib.Omega.{arith}
 use denote.Ref.{now}
-use Rattle.job.specs.Refusal.{done, mapped, countOutcome}
-use Rattle.job.proofs.Examination.{examined-refused, examined-passed}
-use Rattle.planning.specs.Plan.{planOf}
-use Rattle.plan_bytes.specs.PlanBytes.{planSteps}
-use Rattle.plan_bytes.proofs.Steps.{counts-bounds}
-use Rattle.plan_bytes.proofs.ReadPlan.{bytes-counts, bytes-passed, plan-refused, bad-bytes, too-short, all-fit, plan-given}
 use borrow.Author.Needs.{needs}
+use Rattle.job.specs.Refusal.{done, mapped}
+use Rattle.planning.specs.Plan.{setLists, planOutcome}
+use Rattle.plan_bytes.specs.PlanBytes.{planSteps}
+use Rattle.plan_bytes.proofs.Reading.{end-answered, end-refused}
+use Rattle.plan_bytes.proofs.Steps.{counts-bounds}
+use Rattle.plan_bytes.proofs.ReadPlan.{bytes-counts, bytes-passed, plan-refused, bad-bytes, too-short, plan-given}
 use Rattle.plan_bytes.proofs.read_plan.Statement.{statement}
 use Rattle.plan_bytes.proofs.read_plan.Tie as tie
 
-returns : tie.Need-returns
-unfolding countOutcome
-returns c =
-    let a = c .before .before .before .before .before .before .before .before .args in
-    plan-refused (a .curves) (a .tests) (now (a .plan)) (now (a .order)) (planOf (now (a .drops)) (now (a .loads))) _ _
-    (bad-bytes (a .curves) (a .tests) (now (a .plan)) _ _ _
-    (examined-refused _ _ _ (c .before .r .given .1) (c .before .before .before .examine-plan .ensures)))
+-- the bytes passed their examination, with this end set
+passed : (c : tie.After-end)
+    → let a = c .before .before .before .before .before .before .before .args in
+    mapped (λ x. x .end) (planSteps (a .curves) (a .tests) (now (a .plan))) ≡ done (c .end .given .0 .0)
+passed c = end-answered _ _ (c .before .before .examine-plan .ensures) _ (c .end .given .1)
 
--- the bytes passed their examination
-passed : (c : tie.After-enum-told) → let a =
-    c .before .before .before .before .before .before .before .args in mapped (λ _. tt) (planSteps (a .curves) (a .tests) (now (a .plan))) ≡ done (tt {0})
-passed c = examined-passed _ _ (c .enum-told .given .1) (c .before .before .examine-plan .ensures)
+returns : tie.Need-returns
+unfolding planOutcome
+returns c =
+    let k = c .before .before in
+    let a = k .before .before .before .before .before .before .before .args in
+    plan-refused (a .curves) (a .tests) (now (a .plan)) (now (a .order)) (setLists (now (a .drops)) (now (a .loads))) _ _
+    (too-short (a .curves) (a .tests) (now (a .plan)) _ (passed k) _ (omega arith))
 
 returns-2 : tie.Need-returns-2
-unfolding countOutcome
+unfolding planOutcome
 returns-2 c =
-    let a = c .before .before .before .before .before .before .before .before .args in
-    plan-refused (a .curves) (a .tests) (now (a .plan)) (now (a .order)) (planOf (now (a .drops)) (now (a .loads))) _ _
-    (too-short (a .curves) (a .tests) (now (a .plan)) (passed (c .before)) _ (omega arith))
+    let k = c .before .before .before in
+    let a = k .before .before .before .before .before .before .before .args in
+    plan-refused (a .curves) (a .tests) (now (a .plan)) (now (a .order)) (setLists (now (a .drops)) (now (a .loads))) _ _
+    (too-short (a .curves) (a .tests) (now (a .plan)) _ (passed k) _ (omega arith))
 
 returns-3 : tie.Need-returns-3
-unfolding countOutcome
+unfolding planOutcome
 returns-3 c =
-    let a = c .before .before .before .before .before .before .before .before .before .args in
-    plan-refused (a .curves) (a .tests) (now (a .plan)) (now (a .order)) (planOf (now (a .drops)) (now (a .loads))) _ _
-    (too-short (a .curves) (a .tests) (now (a .plan)) (passed (c .before .before)) _ (omega arith))
-
-returns-4 : tie.Need-returns-4
-unfolding countOutcome
-returns-4 c =
-    let a = c .before .before .before .before .before .before .before .before .before .before .args in
-    plan-refused (a .curves) (a .tests) (now (a .plan)) (now (a .order)) (planOf (now (a .drops)) (now (a .loads))) _ _
-    (too-short (a .curves) (a .tests) (now (a .plan)) (passed (c .before .before .before)) _ (omega arith))
+    let k = c .before .before .before .before in
+    let a = k .before .before .before .before .before .before .before .args in
+    plan-refused (a .curves) (a .tests) (now (a .plan)) (now (a .order)) (setLists (now (a .drops)) (now (a .loads))) _ _
+    (too-short (a .curves) (a .tests) (now (a .plan)) _ (passed k) _ (omega arith))
 
 fill-lists-requires : tie.Need-fill-lists-requires
 fill-lists-requires c κs =
-    let a = c .before .before .before .before .before .before .before .before .before .before .before .before .before .args in
-    let p = passed (c .before .before .before .before .before .before) in (
+    let q = c .before .before .before in
+    let k = q .before .before .before .before in
+    let a = k .before .before .before .before .before .before .before .args in (
       (
-        counts-bounds (a .curves) (a .tests) (bytes-counts (a .curves) (a .tests) (now (a .plan)) p) .0,
-        c .before .before .before .before .before .if1 .left,
-        c .before .before .before .before .if2 .left,
-        c .before .before .before .if3 .left,
+        counts-bounds (a .curves) (a .tests) (bytes-counts (a .curves) (a .tests) (now (a .plan)) _ (passed k)) .0,
+        q .before .before .if1 .left,
+        q .before .if2 .left,
+        q .if3 .left,
       ),
-      bytes-passed (a .curves) (a .tests) (now (a .plan)) p,
+      bytes-passed (a .curves) (a .tests) (now (a .plan)) _ (passed k),
     )
 
+returns-4 : tie.Need-returns-4
+unfolding planOutcome
+returns-4 c =
+    let r = c .before .before .before in
+    let a = r .before .before .before .before .before .args in
+    plan-refused (a .curves) (a .tests) (now (a .plan)) (now (a .order)) (setLists (now (a .drops)) (now (a .loads))) _ _
+    (bad-bytes (a .curves) (a .tests) (now (a .plan)) _ _ _ (end-refused _ _ (r .examine-plan .ensures) _ (c .before .r .given .1)))
+
 returns-5 : tie.Need-returns-5
-unfolding countOutcome
+unfolding planOutcome
 returns-5 c =
-    let k = c .before .before .before .before .before .before .before .before .before .before in
-    let a = k .before .before .before .before .before .before .before .before .before .before .args in
-    let p = passed (k .before .before .before) in
-    let f = c .before .before .before .before .before .before .fill-lists .ensures in
-    plan-given (a .curves) (a .tests) (now (a .plan)) (now (a .order)) (planOf (now (a .drops)) (now (a .loads))) _ _ _
-    (bytes-passed (a .curves) (a .tests) (now (a .plan)) p)
-    (all-fit (a .curves) (a .tests) (now (a .plan)) p _ (omega (arith, k .before .before .if1 .left, k .before .if2 .left, k .if3 .left))) (f .0) (f .1 .0)
-    (f .1 .1)
+    let f = c .before .before .before .before .before .before in
+    let q = f .before .before .before .before in
+    let k = q .before .before .before .before in
+    let a = k .before .before .before .before .before .before .before .args in
+    let e = f .fill-lists .ensures in
+    plan-given (a .curves) (a .tests) (now (a .plan)) (now (a .order)) (setLists (now (a .drops)) (now (a .loads))) _ (passed k) _ _ _
+    (omega (arith, q .before .before .if1 .left, q .before .if2 .left, q .if3 .left)) (e .0) (e .1 .0) (e .1 .1)
 
 pub read-plan-spec : {M : Type 1} → statement M
 read-plan-spec =
-    tie.close (tie.spec (λ c κs. search needs) (λ c. search needs) returns (λ c. search needs) returns-2 returns-3 returns-4 fill-lists-requires
+    tie.close (tie.spec (λ c κs. search needs) (λ c. search needs) (λ c. search needs) returns returns-2 returns-3 fill-lists-requires returns-4
     (λ c. search needs) (λ c. search needs) (λ c. search needs) returns-5)

@@ -1,7 +1,7 @@
 -- `plan_bytes::write_fitting` meets its contract: the bytes stand in a buffer of its own before their number is asked for.
 use mathlib.Core.Path.{_≡_, sym, ap, _∙_}
 use mathlib.Core.List.{List}
-use Prim.Native.Nat.{ℕ, _≤_}
+use Prim.Native.Nat.{ℕ, _+_, _≤_}
 use native.Mathlib.Omega.{arith}
 use lib.ListN.{length, take}
 use lib.Seq.{length-take-le}
@@ -9,24 +9,26 @@ use denote.Ref.{now}
 use borrow.Author.Needs.{needs}
 use Rattle.job.specs.Refusal.{overwritten, countOutcome}
 use Rattle.job.proofs.Laws.{fitting-short, fitting-whole, made-refused, made-done}
-use Rattle.job_bytes.proofs.Encoding.{put, put-front}
+use Rattle.job_bytes.proofs.Encoding.{own-bytes, own-fits, put, put-front}
+use Rattle.planning.specs.Plan.{planOf}
 use Rattle.plan_bytes.specs.PlanBytes.{planBytes}
-use Rattle.plan_bytes.proofs.Writing.{own-long, own-front}
-use Rattle.plan_bytes.proofs.PlanLength.{bytes-le}
+use Rattle.plan_bytes.proofs.PlanLength.{plan-le}
 use Rattle.plan_bytes.proofs.write_fitting.Statement.{statement}
 use Rattle.plan_bytes.proofs.write_fitting.Tie as tie
 
--- the buffer of its own has the bytes of the steps in front
+-- the buffer of its own has the bytes of the plan in front
 abbrev bytes : tie.After-put-plan → List ℕ
-bytes c = let a = c .before .before .before .before .before .before .args in planBytes (now (a .order)) (now (a .drops)) (now (a .loads))
+bytes c = let a = c .before .before .before .before .before .before .args in planBytes (now (a .order)) (planOf (now (a .drops)) (now (a .loads)) (a .end))
 
-own : (c : tie.After-put-plan) → let p = c .put-plan in (p .result ≤ length (p .last .1 .1 .1 .0)) × (take (p .result) (p .last .1 .1 .1 .0) ≡ bytes c)
+own : (c : tie.After-put-plan) → let p = c .put-plan in (p .result ≤ length (p .last .1 .1 .1 .1 .0)) × (take (p .result) (p .last .1 .1 .1 .1 .0) ≡ bytes c)
 own c =
     let s = c .before .before .before .before .before .before in
     let e = c .put-plan .ensures in
     let few = s .pre .1 .1 in
-    let h = bytes-le (now (s .args .order)) (now (s .args .drops)) (now (s .args .loads)) in
-    (own-long (bytes c) _ _ _ (e .0) (e .1) (omega arith), own-front (bytes c) _ _ _ (e .0) (e .1) (omega arith))
+    let h = plan-le (now (s .args .order)) (planOf (now (s .args .drops)) (now (s .args .loads)) (s .args .end)) in
+    let n = c .put-plan .result in
+    let z : n ≡ 0 + length (bytes c) = omega (arith, e .0) in
+    (own-fits (bytes c) _ _ n z (e .1) (omega arith), own-bytes (bytes c) _ _ n z (e .1) (omega arith))
 
 returns : tie.Need-returns
 unfolding countOutcome

@@ -28,7 +28,7 @@ returns-2 c =
     made-refused _ _ _ _ (no-sets _ _ (ordered (s .before)) _ _ (examined-refused _ _ _ (c .before .r2 .given .1) (s .examine-sets .ensures)) _)
 
 abbrev plan : tie.After-enum-told2 → Plan
-plan c = let a = c .before .before .before .before .before .before .before .before .before .before .args in planOf (now (a .drops)) (now (a .loads))
+plan c = let a = c .before .before .before .before .before .before .before .before .before .before .args in planOf (now (a .drops)) (now (a .loads)) (a .end)
 
 sized : (c : tie.After-enum-told2)
     → setsFor (now (c .before .before .before .before .before .before .before .before .before .before .args .order)) (plan c) ≡ done tt

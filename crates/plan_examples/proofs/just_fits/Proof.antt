@@ -1,6 +1,6 @@
 -- `plan_examples::just_fits` is true: the rule computes to it.
 use mathlib.Core.Path.{refl, ap}
-use Rattle.planning.specs.Plan.{Plan}
+use Rattle.planning.specs.Plan.{SetLists}
 use lib.Dec.{eqb}
 use lib.ListN.{getD}
 use Rattle.examples.proofs.Rules.{rules}
@@ -11,15 +11,15 @@ use Rattle.plan_examples.proofs.just_fits.Tie as tie
 
 returns : tie.Need-returns
 unfolding rules
-returns c = not-refused _ _ (c .before .before .before .before .plan .ensures .0) _ 3 (c .enum-told .given .1) refl
+returns c = not-refused _ _ (c .before .before .before .before .plan .ensures .0) _ 3 7 (c .enum-told .given .1) refl
 
 returns-2 : tie.Need-returns-2
 unfolding rules
-returns-2 c = ap (λ (p : Plan). eqb (getD (p .drops) 0 0) 0) (c .before .before .before .before .before .before .plan .ensures .1 .0)
+returns-2 c = ap (λ (p : SetLists). eqb (getD (p .drops) 0 0) 0) (c .before .before .before .before .before .before .plan .ensures .1 .0)
 
 returns-3 : tie.Need-returns-3
 unfolding rules
-returns-3 c = count-is _ _ (c .before .before .before .before .before .before .plan .ensures .0) _ 3 (c .before .before .n .given .1) refl
+returns-3 c = count-is _ _ (c .before .before .before .before .before .before .plan .ensures .0) _ _ 3 7 (c .before .before .n .given .1) refl
 
 pub just-fits-spec : {M : Type 1} → statement M
 just-fits-spec =

@@ -9,7 +9,7 @@ use Rattle.plan_examples.proofs.too_large.Tie as tie
 
 returns : tie.Need-returns
 unfolding rules
-returns c = not-counted _ _ (c .before .before .before .before .plan .ensures .0) _ 7 0 (c .enum-told .given .1) refl
+returns c = not-counted _ _ (c .before .before .before .before .plan .ensures .0) _ _ 7 0 (c .enum-told .given .1) refl
 
 returns-2 : tie.Need-returns-2
 unfolding rules

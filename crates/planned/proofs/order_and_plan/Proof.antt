@@ -5,10 +5,10 @@ use native.Mathlib.Omega.{arith}
 use lib.ListN.{length, take}
 use denote.Ref.{now}
 use borrow.Author.Needs.{needs}
-use Rattle.job.specs.Refusal.{done, countOutcome, mapped, leaves}
+use Rattle.job.specs.Refusal.{done, mapped, leaves}
 use Rattle.job.proofs.Laws.{count-refused, count-done}
 use Rattle.job_bytes.specs.JobBytes.{Request}
-use Rattle.planning.specs.Plan.{planOf, entries}
+use Rattle.planning.specs.Plan.{setLists, entries, planOutcome}
 use Rattle.planning.proofs.Planned.{tests-answer, tests-lists}
 use Rattle.planned.specs.Planned.{orderRequest}
 use Rattle.planned.proofs.Stages.{order-known, order-left, order-refused, order-given, plan-answer, plan-left, not-ordered, ordered}
@@ -16,7 +16,7 @@ use Rattle.planned.proofs.order_and_plan.Statement.{statement}
 use Rattle.planned.proofs.order_and_plan.Tie as tie
 
 returns : tie.Need-returns
-unfolding countOutcome mapped leaves
+unfolding planOutcome mapped leaves
 returns c =
     let s = c .before .before .before .before .before .before .before .before .before .before .before in
     let a = s .args in
@@ -49,7 +49,7 @@ returns-2 c =
     let s = c .before .before .before .before .before .before .before .before .before .before .before .before .before .before .before .before .before .before in
     let a = s .args in
     let q : Request = record { head = a .head; wants = now (a .wants) } in
-    let lent = planOf (now (a .drops)) (now (a .loads)) in
+    let lent = setLists (now (a .drops)) (now (a .loads)) in
     let t = c .before .before .before .before .before .before .before .before .before .before .before .before .order-tests in
     let g = given (c .before .before .before .before .before .before .before .before) in
     let o = ordered q (s .pre .0 .1) _ (g .0) in

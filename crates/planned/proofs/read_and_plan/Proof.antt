@@ -5,7 +5,7 @@ use denote.Ref.{now}
 use borrow.Author.Needs.{needs}
 use Rattle.job.proofs.Laws.{read-refused, read-done, refused-mapped}
 use Rattle.job_bytes.proofs.SetRoundTrip.{Bytes}
-use Rattle.planning.specs.Plan.{planOf}
+use Rattle.planning.specs.Plan.{setLists}
 use Rattle.planned.specs.Contracts.{listsOf, told, plannedOutcome}
 use Rattle.planned.proofs.Reading.{ReadFirst, bytes-of, wants-left, answer-refused, answer-done}
 use Rattle.planned.proofs.Stages.{unread, unread-lists, read-lists, tells-refusal, tells-count}
@@ -51,7 +51,7 @@ returns c =
     let r = c .before .before .before .before .before .read-job in
     let all = bytes (c .before .before .before .before .before .before .before .before .before .before .before) in
     let e = answer-refused (now (a .job)) (now (a .wants)) all (s .pre .0) _ _ (read-refused _ _ _ (r .ensures .0) (c .before .r .given .1)) in
-    let old = listsOf (now (a .wants)) (now (a .order)) (planOf (now (a .drops)) (now (a .loads))) in (
+    let old = listsOf (now (a .wants)) (now (a .order)) (setLists (now (a .drops)) (now (a .loads))) in (
       refused-mapped told _ _ _ (unread (now (a .job)) _ _ e),
       unread-lists (now (a .job)) old _ (r .ensures .1 ∙ wants-left (now (a .job)) (now (a .wants)) all (s .pre .0)) _ _ e,
     )
@@ -63,7 +63,7 @@ returns-2 c =
     let a = s .args in
     let e = read k .read in
     let p = c .before .before .before .before .before .before .before .before .before .order-and-plan in
-    let old = listsOf (now (a .wants)) (now (a .order)) (planOf (now (a .drops)) (now (a .loads))) in
+    let old = listsOf (now (a .wants)) (now (a .order)) (setLists (now (a .drops)) (now (a .loads))) in
     let w = k .before .before .before .before .before .read-job .ensures .1
     ∙ wants-left (now (a .job)) (now (a .wants)) (bytes (k .before .before .before .before .before .before .before .before .before .before .before))
     (s .pre .0) in (
@@ -78,11 +78,11 @@ returns-3 c =
     let a = s .args in
     let e = read k .read in
     let p = c .before .before .before .before .before .before .before .before .before .order-and-plan in
-    let old = listsOf (now (a .wants)) (now (a .order)) (planOf (now (a .drops)) (now (a .loads))) in
+    let old = listsOf (now (a .wants)) (now (a .order)) (setLists (now (a .drops)) (now (a .loads))) in
     let w = k .before .before .before .before .before .read-job .ensures .1
     ∙ wants-left (now (a .job)) (now (a .wants)) (bytes (k .before .before .before .before .before .before .before .before .before .before .before))
     (s .pre .0) in (
-      tells-count (now (a .job)) _ e _ (p .ensures .0) _ (c .before .count .given .1),
+      tells-count (now (a .job)) _ e _ (p .ensures .0) _ _ (c .before .count .given .1),
       read-lists (now (a .job)) old _ w _ _ _ e (p .ensures .1 .0) (p .ensures .1 .1),
     )
 

@@ -16,7 +16,7 @@ use Rattle.drive.specs.Steps.{Move, moves}
 use Rattle.drive.specs.Check.{checkFrom}
 use Rattle.planning.specs.Plan.{inOrder}
 use Rattle.planning.specs.Planning.{setsKnown}
-use Rattle.planning.proofs.Sequence.{known-exact, first-steps, sets-long, check-refused, check-sets, check-broken, check-ended}
+use Rattle.planning.proofs.Sequence.{known-exact, first-steps, sets-long, check-refused, check-sets, check-broken, check-other-end, check-ended}
 use Rattle.planning.proofs.check_plan.Statement.{statement}
 use Rattle.planning.proofs.check_plan.Tie as tie
 
@@ -78,28 +78,38 @@ checked c =
     ∙ ap (λ (x : ℕ). checkFrom (a .rig .places) x 0 0 (ms (take (length (now (a .wants))) (s .in-order .last .1 .1 .0)))) all
     ∙ ap (λ (ws : List ℕ). checkFrom (a .rig .places) (allCurves (a .rig .curves)) 0 0 (ms ws)) steps
 
-count-curves-requires : tie.Need-count-curves-requires
-count-curves-requires c κs =
-    let t = c .before .before .before .before .before .before .before .before in
-    omega (arith, sets-long _ _ _ (sets-passed t), known-exact _ _ (passed (t .before .before .before)) .0 .tests-bounds)
-
+-- the end set is compared with what is held
 returns-3 : tie.Need-returns-3
 unfolding countOutcome
 returns-3 c =
-    let s = c .before .before .before in
+    let h = c .before .before in
+    let s = h .before .before in
     let t = s .before .before .before .before .before .before in
-    sym (check-broken _ _ _ (passed (t .before .before .before)) (sets-passed t) _ (sym (checked s) ∙ c .before .i .given .1))
+    sym (check-other-end _ _ _ (passed (t .before .before .before)) (sets-passed t) _ (sym (checked s) ∙ h .held .given .1) (c .if1 .taken))
+
+count-curves-requires : tie.Need-count-curves-requires
+count-curves-requires c κs =
+    let t = c .before .before .before .before .before .before .before .before .before .before in
+    omega (arith, sets-long _ _ _ (sets-passed t), known-exact _ _ (passed (t .before .before .before)) .0 .tests-bounds)
 
 returns-4 : tie.Need-returns-4
 unfolding countOutcome
 returns-4 c =
     let s = c .before .before .before in
     let t = s .before .before .before .before .before .before in
-    rw (c .count-curves .ensures) (sym (check-ended _ _ _ (passed (t .before .before .before)) (sets-passed t) _
-    (sym (checked s) ∙ c .before .enum-told3 .given .1)))
+    sym (check-broken _ _ _ (passed (t .before .before .before)) (sets-passed t) _ (sym (checked s) ∙ c .before .i .given .1))
+
+returns-5 : tie.Need-returns-5
+unfolding countOutcome
+returns-5 c =
+    let h = c .before .before .before in
+    let s = h .before .before in
+    let t = s .before .before .before .before .before .before in
+    rw (c .count-curves .ensures)
+    (sym (check-ended _ _ _ (passed (t .before .before .before)) (sets-passed t) _ (sym (checked s) ∙ h .held .given .1) (c .before .if1 .left)))
 
 pub check-plan-spec : {M : Type 1} → statement M
 check-plan-spec =
     tie.close (tie.spec (λ c κs. search needs) (λ c. search needs) returns (λ c. search needs) (λ c κs. search needs) (λ c. search needs) returns-2
     (λ c. search needs) (λ c. search needs) (λ c κs. search needs) (λ c κs. search needs) array-share-prefix-steps slice-aggregate-check-steps
-    (λ c κs. search needs) (λ c. search needs) (λ c. search needs) count-curves-requires returns-3 returns-4)
+    (λ c κs. search needs) (λ c. search needs) (λ c. search needs) returns-3 count-curves-requires returns-4 returns-5)

@@ -1,26 +1,25 @@
 -- `plan` meets its contract: behind the examinations it is planning without them.
 use denote.Ref.{now}
 use borrow.Author.Needs.{needs}
-use Rattle.job.specs.Refusal.{countOutcome}
 use Rattle.job.proofs.Examination.{examined-refused, examined-passed}
-use Rattle.planning.specs.Plan.{planOf}
+use Rattle.planning.specs.Plan.{setLists, planOutcome}
 use Rattle.planning.proofs.Planned.{refused-contract, tests-contract}
 use Rattle.planning.proofs.plan.Statement.{statement}
 use Rattle.planning.proofs.plan.Tie as tie
 
 returns : tie.Need-returns
-unfolding countOutcome
+unfolding planOutcome
 returns c =
     let k = c .before .before .before in
     let a = k .before .before .before .before .before .args in
-    refused-contract _ _ (planOf (now (a .drops)) (now (a .loads))) _ _ (examined-refused _ _ _ (c .before .r .given .1) (k .examine-planning .ensures))
+    refused-contract _ _ (setLists (now (a .drops)) (now (a .loads))) _ _ (examined-refused _ _ _ (c .before .r .given .1) (k .examine-planning .ensures))
 
 returns-2 : tie.Need-returns-2
 returns-2 c =
     let p = c .before .before .before .before in
     let k = p .before .before .before in
     let a = k .before .before .before .before .before .before .before .args in
-    tests-contract _ _ (planOf (now (a .drops)) (now (a .loads)))
+    tests-contract _ _ (setLists (now (a .drops)) (now (a .loads)))
     (examined-passed _ _ (k .enum-told .given .1) (k .before .before .examine-planning .ensures)) _ _
     (p .plan-tests .ensures .0) (p .plan-tests .ensures .1)
 

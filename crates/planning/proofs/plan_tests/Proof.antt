@@ -5,31 +5,30 @@ use lib.ListN.{length, take}
 use lib.Seq.{length-take-le}
 use denote.Ref.{now}
 use borrow.Author.Needs.{needs}
-use Rattle.job.specs.Refusal.{countOutcome}
 use Rattle.lists.proofs.Overwritten.{sets-front}
-use Rattle.planning.specs.Plan.{planOf, inOrder}
+use Rattle.planning.specs.Plan.{setLists, planOutcome, inOrder}
 use Rattle.planning.proofs.Turns.{length-inOrder}
 use Rattle.planning.proofs.Planned.{too-many, too-short, planned}
 use Rattle.planning.proofs.plan_tests.Statement.{statement}
 use Rattle.planning.proofs.plan_tests.Tie as tie
 
 returns : tie.Need-returns
-unfolding countOutcome
+unfolding planOutcome
 returns c =
     let a = c .before .before .before .before .before .args in
-    too-many (a .places) (now (a .wants)) (now (a .order)) (planOf (now (a .drops)) (now (a .loads))) (omega arith)
+    too-many (a .places) (now (a .wants)) (now (a .order)) (setLists (now (a .drops)) (now (a .loads))) (omega arith)
 
 returns-2 : tie.Need-returns-2
-unfolding countOutcome
+unfolding planOutcome
 returns-2 c =
     let a = c .before .before .before .before .before .before .args in
-    too-short (a .places) (now (a .wants)) (now (a .order)) (planOf (now (a .drops)) (now (a .loads))) (omega arith) (omega arith)
+    too-short (a .places) (now (a .wants)) (now (a .order)) (setLists (now (a .drops)) (now (a .loads))) (omega arith) (omega arith)
 
 returns-3 : tie.Need-returns-3
-unfolding countOutcome
+unfolding planOutcome
 returns-3 c =
     let a = c .before .before .before .before .before .before .before .args in
-    too-short (a .places) (now (a .wants)) (now (a .order)) (planOf (now (a .drops)) (now (a .loads))) (omega arith) (omega arith)
+    too-short (a .places) (now (a .wants)) (now (a .order)) (setLists (now (a .drops)) (now (a .loads))) (omega arith) (omega arith)
 
 -- the first entries of the local list are the steps' wants
 steps-are : (c : tie.After-in-order)
@@ -59,12 +58,13 @@ count-curves-requires : tie.Need-count-curves-requires
 count-curves-requires c κs = omega (arith, long (c .before .before .before .before .before))
 
 returns-4 : tie.Need-returns-4
-unfolding countOutcome
+unfolding planOutcome
 returns-4 c =
     let p = c .before .before .before .before .before .before in
     let a = p .before .before .before .before .before .before .before .before .before .before .before .before .before .before .args in
-    planned (a .places) (now (a .wants)) (now (a .order)) (planOf (now (a .drops)) (now (a .loads))) (omega arith) (omega arith) _ _ _ _
-    (steps-are (p .before .before .before .before .before)) (p .plan-steps .ensures .1 .0) (p .plan-steps .ensures .1 .1) (c .count-curves .ensures)
+    planned (a .places) (now (a .wants)) (now (a .order)) (setLists (now (a .drops)) (now (a .loads))) (omega arith) (omega arith) _ _ _ _ _
+    (steps-are (p .before .before .before .before .before)) (p .plan-steps .ensures .0) (p .plan-steps .ensures .1 .0) (p .plan-steps .ensures .1 .1)
+    (c .count-curves .ensures)
 
 pub plan-tests-spec : {M : Type 1} → statement M
 plan-tests-spec =

@@ -10,22 +10,23 @@ use Rattle.report.proofs.put_head.Tie as tie
 
 put-number-requires : tie.Need-put-number-requires
 unfolding text
-put-number-requires c κs = omega (arith, head-length (c .before .before .before .args .head) [] [] [])
+put-number-requires c κs = omega (arith, head-length (c .before .before .before .args .head) [] [] [] 0)
 
 put-number-requires-2 : tie.Need-put-number-requires-2
 unfolding text
-put-number-requires-2 c κs = omega (arith, head-length (c .before .before .before .before .before .before .before .before .args .head) [] [] [])
+put-number-requires-2 c κs = omega (arith, head-length (c .before .before .before .before .before .before .before .before .args .head) [] [] [] 0)
 
 put-number-requires-3 : tie.Need-put-number-requires-3
 unfolding text
 put-number-requires-3 c κs =
-    omega (arith, head-length (c .before .before .before .before .before .before .before .before .before .before .before .before .before .args .head) [] [] [])
+    let a = c .before .before .before .before .before .before .before .before .before .before .before .before .before .args in
+    omega (arith, head-length (a .head) [] [] [] 0)
 
 returns : tie.Need-returns
 unfolding text
 returns c =
     rw (head-line (c .before .before .before .before .before .before .before .before .before .before .before .before .before .before .before .before .args
-    .head) [] [] [])
+    .head) [] [] [] 0)
     (wrote-append (wrote-append (c .before .before .before .before .before .before .before .before .before .before .before .before .put-number .ensures)
     (c .before .before .before .before .before .before .before .put-number2 .ensures)) (c .before .before .put-number3 .ensures))
 

@@ -13,11 +13,11 @@ use Rattle.report.proofs.write_plan.Tie as tie
 
 -- the text is short enough to be counted
 short : (c : tie.After-shared-slice-known) → let a =
-    c .before .args in length (planText (shown (a .head) (now (a .order)) (now (a .drops)) (now (a .loads)))) < 2 ^ 64
+    c .before .args in length (planText (shown (a .head) (now (a .order)) (now (a .drops)) (now (a .loads)) (a .end))) < 2 ^ 64
 short c =
     let a = c .before .args in
     let p = c .before .pre in
-    plan-word (a .head) (now (a .order)) (now (a .drops)) (now (a .loads)) (omega arith) (omega arith) (omega arith) (omega arith)
+    plan-word (a .head) (now (a .order)) (now (a .drops)) (now (a .loads)) (a .end) (omega arith) (omega arith) (omega arith) (omega arith)
     (λ j l. omega (arith, c .shared-slice-known .given j)) (omega (arith, p .1 .0, c .before .fits .count))
 
 put-plan-requires : tie.Need-put-plan-requires
@@ -27,7 +27,7 @@ put-plan-requires c κs =
 returns : tie.Need-returns
 returns c =
     let a = c .before .before .before .before .before .before .before .before .args in
-    let t = planText (shown (a .head) (now (a .order)) (now (a .drops)) (now (a .loads))) in
+    let t = planText (shown (a .head) (now (a .order)) (now (a .drops)) (now (a .loads)) (a .end)) in
     let w = c .before .before .put-plan .ensures in
     (fill-short t (now (a .out)) w (c .if1 .taken))
 
@@ -43,7 +43,7 @@ put-plan-requires-2 c κs = (
 returns-2 : tie.Need-returns-2
 returns-2 c =
     let a = c .before .before .before .before .before .before .before .before .before .before .before .before .args in
-    let t = planText (shown (a .head) (now (a .order)) (now (a .drops)) (now (a .loads))) in
+    let t = planText (shown (a .head) (now (a .order)) (now (a .drops)) (now (a .loads)) (a .end)) in
     let w = c .before .before .before .before .before .before .put-plan .ensures in
     let v = c .before .before .put-plan2 .ensures in
     (fill-whole t (now (a .out)) w (c .before .before .before .before .if1 .left) v)

@@ -25,7 +25,7 @@ const TESTS: [usize; 3] = [16, 64, 256];
 /// Tests of all jobs of a row together.
 const ALL_TESTS: usize = 16 * 256;
 const CURVES: usize = 64;
-const PLAN: usize = 5_120;
+const PLAN: usize = 5_121;
 
 type Call = fn(&[u8], &mut [u8]) -> u64;
 
@@ -185,7 +185,7 @@ fn note<T>(least: &mut u64, clock: u64, stage: impl FnOnce() -> T) {
 #[cfg(feature = "product")]
 fn time_library(kind: &Kind, jobs: &[&[u8]; 4], clock: u64, least: &mut Stages) {
     let (mut wants, mut order) = ([0u64; 256], [0u16; 256]);
-    let (mut drops, mut loads) = ([0u64; 256], [0u64; 256]);
+    let (mut drops, mut loads, mut end) = ([0u64; 256], [0u64; 256], 0);
     let mut plan = [0u8; PLAN];
     note(&mut least.call, clock, || {
         product::call(black_box(jobs[0]), &mut plan)
@@ -208,6 +208,7 @@ fn time_library(kind: &Kind, jobs: &[&[u8]; 4], clock: u64, least: &mut Stages) 
             black_box(&order[..tests]),
             &mut drops,
             &mut loads,
+            &mut end,
         )
     });
 }

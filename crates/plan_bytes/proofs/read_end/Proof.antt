@@ -1,0 +1,48 @@
+-- `plan_bytes::read_end` meets its contract: one law of `Reading` a case.
+use mathlib.Core.Path.{sym}
+use native.Mathlib.Omega.{arith}
+use denote.Ref.{now}
+use borrow.Author.Needs.{needs}
+use Rattle.plan_bytes.specs.Contracts.{endOutcome}
+use Rattle.plan_bytes.proofs.Reading.{set-answered, set-refused, no-end, end-other-map, end-faulty, end-surplus, end-whole}
+use Rattle.plan_bytes.proofs.read_end.Statement.{statement}
+use Rattle.plan_bytes.proofs.read_end.Tie as tie
+
+returns : tie.Need-returns
+unfolding endOutcome
+returns c tests = let a = c .before .before .args in sym (no-end (a .curves) tests (a .at) (now (a .plan)) (c .if1 .taken))
+
+returns-2 : tie.Need-returns-2
+unfolding endOutcome
+returns-2 c tests =
+    let a = c .before .before .before .before .args in
+    sym (end-other-map (a .curves) tests (a .at) (now (a .plan)) (omega arith) (c .if2 .taken))
+
+returns-3 : tie.Need-returns-3
+unfolding endOutcome
+returns-3 c tests =
+    let r = c .before .before .before .before in
+    let a = r .before .before .before .before .before .args in
+    let s = set-answered (now (a .plan)) _ _ (r .read-set .ensures tests) _ _ (c .before .before .end .given .1) in
+    sym (end-surplus (a .curves) tests (a .at) (now (a .plan)) (omega arith) (r .before .if2 .left) _ _ s (c .if3 .taken))
+
+returns-4 : tie.Need-returns-4
+unfolding endOutcome
+returns-4 c tests =
+    let r = c .before .before .before in
+    let a = r .before .before .before .before .before .args in
+    let s = set-refused (now (a .plan)) _ _ (r .read-set .ensures tests) _ (c .before .i .given .1) in
+    sym (end-faulty (a .curves) tests (a .at) (now (a .plan)) (omega arith) (r .before .if2 .left) _ s)
+
+returns-5 : tie.Need-returns-5
+unfolding endOutcome
+returns-5 c tests =
+    let r = c .before .before .before .before in
+    let a = r .before .before .before .before .before .args in
+    let s = set-answered (now (a .plan)) _ _ (r .read-set .ensures tests) _ _ (c .before .before .end .given .1) in
+    sym (end-whole (a .curves) tests (a .at) (now (a .plan)) (omega arith) (r .before .if2 .left) _ _ s (c .if3 .left))
+
+pub read-end-spec : {M : Type 1} → statement M
+read-end-spec =
+    tie.close (tie.spec returns (λ c. search needs) returns-2 (λ c. search needs) (λ c κs. search needs) (λ c. search needs) (λ c. search needs)
+    returns-3 returns-4 returns-5)
