@@ -1,14 +1,16 @@
 -- `plan_bytes::read_plan` meets its contract: one law of `ReadPlan` a case.
 use mathlib.Core.Path.{_≡_}
+use Prim.Native.Nat.{_<_, min}
 use native.Mathlib.Omega.{arith}
+use lib.ListN.{length}
 use denote.Ref.{now}
 use borrow.Author.Needs.{needs}
-use Rattle.job.specs.Refusal.{done, mapped}
-use Rattle.planning.specs.Plan.{setLists, planOutcome}
+use Rattle.job.specs.Refusal.{done, refused, mapped}
+use Rattle.planning.specs.Plan.{setLists, entries, planOutcome}
 use Rattle.plan_bytes.specs.PlanBytes.{planSteps}
 use Rattle.plan_bytes.proofs.Reading.{end-answered, end-refused}
 use Rattle.plan_bytes.proofs.Steps.{counts-bounds}
-use Rattle.plan_bytes.proofs.ReadPlan.{bytes-counts, bytes-passed, plan-refused, bad-bytes, too-short, plan-given}
+use Rattle.plan_bytes.proofs.ReadPlan.{bytes-counts, bytes-passed, Contract, plan-refused, bad-bytes, too-short, plan-given}
 use Rattle.plan_bytes.proofs.read_plan.Statement.{statement}
 use Rattle.plan_bytes.proofs.read_plan.Tie as tie
 
@@ -18,29 +20,28 @@ passed : (c : tie.After-end)
     mapped (λ x. x .end) (planSteps (a .curves) (a .tests) (now (a .plan))) ≡ done (c .end .given .0 .0)
 passed c = end-answered _ _ (c .before .before .examine-plan .ensures) _ (c .end .given .1)
 
+-- where a list is too short
+short : (c : tie.After-end)
+    → let a = c .before .before .before .before .before .before .before .args in
+    let lent = setLists (now (a .drops)) (now (a .loads)) in
+    min (length (now (a .order))) (entries lent) < a .tests
+    → Contract (a .curves) (a .tests) (now (a .plan)) (now (a .order)) lent (refused 9 (a .tests)) (now (a .order)) lent
+short c h =
+    let a = c .before .before .before .before .before .before .before .args in
+    plan-refused (a .curves) (a .tests) (now (a .plan)) (now (a .order)) (setLists (now (a .drops)) (now (a .loads))) _ _
+    (too-short (a .curves) (a .tests) (now (a .plan)) _ (passed c) _ h)
+
 returns : tie.Need-returns
 unfolding planOutcome
-returns c =
-    let k = c .before .before in
-    let a = k .before .before .before .before .before .before .before .args in
-    plan-refused (a .curves) (a .tests) (now (a .plan)) (now (a .order)) (setLists (now (a .drops)) (now (a .loads))) _ _
-    (too-short (a .curves) (a .tests) (now (a .plan)) _ (passed k) _ (omega arith))
+returns c = short (c .before .before) (omega arith)
 
 returns-2 : tie.Need-returns-2
 unfolding planOutcome
-returns-2 c =
-    let k = c .before .before .before in
-    let a = k .before .before .before .before .before .before .before .args in
-    plan-refused (a .curves) (a .tests) (now (a .plan)) (now (a .order)) (setLists (now (a .drops)) (now (a .loads))) _ _
-    (too-short (a .curves) (a .tests) (now (a .plan)) _ (passed k) _ (omega arith))
+returns-2 c = short (c .before .before .before) (omega arith)
 
 returns-3 : tie.Need-returns-3
 unfolding planOutcome
-returns-3 c =
-    let k = c .before .before .before .before in
-    let a = k .before .before .before .before .before .before .before .args in
-    plan-refused (a .curves) (a .tests) (now (a .plan)) (now (a .order)) (setLists (now (a .drops)) (now (a .loads))) _ _
-    (too-short (a .curves) (a .tests) (now (a .plan)) _ (passed k) _ (omega arith))
+returns-3 c = short (c .before .before .before .before) (omega arith)
 
 fill-lists-requires : tie.Need-fill-lists-requires
 fill-lists-requires c κs =
