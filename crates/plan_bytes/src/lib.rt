@@ -151,8 +151,8 @@ fn examine_steps(curves: usize, tests: usize, plan: &[u8]) -> EndRead
     ensures { λ r. ⌜ endOutcome r ≡ mapped (λ c. c .end) (readPlanBytes curves tests (was plan)) ⌝ }
 {
     let mut at: usize = 0;
-    let mut k: usize = 0;
-    while k < tests {
+    let mut passed: usize = 0;
+    while passed < tests {
         match read_step(plan, at, curves, tests) {
             StepRead::Fault(i) => {
                 return EndRead::Refused(Refusal::BadPlanBytes(i));
@@ -161,7 +161,7 @@ fn examine_steps(curves: usize, tests: usize, plan: &[u8]) -> EndRead
                 at = next;
             }
         }
-        k += 1;
+        passed += 1;
     }
     read_end(plan, at, curves)
 }
