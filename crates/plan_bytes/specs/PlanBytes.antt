@@ -11,7 +11,7 @@ use Rattle.job.specs.Words.{Job}
 use Rattle.job.specs.Handed.{between, countsKnown}
 use Rattle.job_bytes.specs.SetBytes.{stands, setBytes, Got, got, byteAt, readGroups}
 use Rattle.job_bytes.specs.JobBytes.{atEnd}
-use Rattle.planning.specs.Plan.{Plan, planOf, SetLists, setLists, entries, CountEnd, Step, steps}
+use Rattle.planning.specs.Plan.{Plan, planOf, SetLists, entries, leavesPlan, CountEnd, Step, steps}
 use Rattle.planning.specs.Planning.{checking}
 use Rattle.plan_bytes.specs.declared.StepPart.{StepPart}
 
@@ -150,7 +150,7 @@ module _ (curves tests : ℕ) where
 
     -- what the lent drops and loads hold afterwards
     unfoldable pub readPlanLists : SetLists
-    readPlanLists = setLists (leaves (mapped (λ c. planIn c .drops) planRead) (lent .drops)) (leaves (mapped (λ c. planIn c .loads) planRead) (lent .loads))
+    readPlanLists = leavesPlan planIn planRead lent
 
 -- ---- "A step's bytes can be fetched by position"
 

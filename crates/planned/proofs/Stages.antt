@@ -21,14 +21,14 @@ use Rattle.ordering.proofs.Complete.{order-complete}
 use Rattle.ordering.proofs.Ordered.{order-entries}
 use Rattle.drive.specs.declared.Sets.{Sets}
 use Rattle.planning.specs.declared.PlanCounted.{PlanCounted}
-use Rattle.planning.specs.Plan.{handed, SetLists, entries, CountEnd, planOutcome}
+use Rattle.planning.specs.Plan.{handed, SetLists, entries, leavesPlan, CountEnd, planOutcome}
 use Rattle.planning.specs.Planning.{planning, planAnswer, planLists}
 use Rattle.planning.proofs.Planned.{plan-made, plan-not-made}
 use Rattle.planning.proofs.Sequence.{exact-known, planning-known}
 use Rattle.planned.specs.declared.JobPlanned.{JobPlanned}
 use Rattle.planned.specs.Planned.{Planned, orderRequest, planInOrder, orderAndPlan, planJob}
 use Rattle.planned.specs.Contracts.{counted, Told, told, plannedOutcome}
-use Rattle.planned.specs.Contracts.{Lists, listsOf, leavesPlan, leavesLists, shortest, planJobAnswer, keptUnless, planJobLists}
+use Rattle.planned.specs.Contracts.{Lists, listsOf, leavesLists, shortest, planJobAnswer, keptUnless, planJobLists}
 
 -- lists that are long enough make no difference
 ordering-room : (m : ℕ) (j : Job) (a b : ℕ) → length (j .wants) ≤ a → length (j .wants) ≤ b → ordering m j a ≡ ordering m j b
@@ -112,7 +112,7 @@ module _ (q : Request) (tests : length (q .wants) ≡ q .head .tests) where
     unfolding planAnswer planInOrder
     plan-answer = rw plan-there (mapped-after counted (λ sets. record { request = q; order = order; plan = handed sets }) (planning j order n))
 
-    pub plan-left : planLists j order lent ≡ leavesPlan (planInOrder q order) lent
+    pub plan-left : planLists j order lent ≡ leavesPlan (λ p. p .plan) (planInOrder q order) lent
     unfolding planLists planInOrder
     plan-left =
         rw (
@@ -147,7 +147,7 @@ module _ (bs : List ℕ) (old : Lists) (wants : List ℕ) (w : wants ≡ leaves 
   unread-lists k i e = rw (w, unread bs k i e, e) refl
 
   pub read-lists : (q : Request) (order : List ℕ) (sets : SetLists) → readBytes bs ≡ done q → order ≡ leaves (orderRequest q) (old .order)
-      → sets ≡ leavesPlan (orderAndPlan q) (old .sets)
+      → sets ≡ leavesPlan (λ p. p .plan) (orderAndPlan q) (old .sets)
       → listsOf wants order sets ≡ leavesLists bs old
   unfolding leavesLists _>>=_
   read-lists q order sets e o p = rw (w, o, p, was-read bs q e, e) refl

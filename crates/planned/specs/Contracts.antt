@@ -7,7 +7,7 @@ use Rattle.job.specs.declared.Head.{Head}
 use Rattle.job.specs.Refusal.{Outcome, done, refused, number, figure, _>>=_, _>>_, mapped, room, leaves}
 use Rattle.job_bytes.specs.JobBytes.{readBytes}
 use Rattle.drive.specs.Steps.{curveCount}
-use Rattle.planning.specs.Plan.{SetLists, setLists, entries, CountEnd}
+use Rattle.planning.specs.Plan.{SetLists, entries, leavesPlan, CountEnd}
 use Rattle.planned.specs.declared.JobPlanned.{JobPlanned}
 use Rattle.planned.specs.Planned.{Planned, orderRequest, planJob}
 
@@ -40,15 +40,11 @@ pub record Lists : Type 0 where
 abbrev pub listsOf : List ℕ → List ℕ → SetLists → Lists
 listsOf wants order sets = record { wants = wants; order = order; sets = sets }
 
--- the drops and loads after a call that comes to o
-abbrev pub leavesPlan : Outcome Planned → SetLists → SetLists
-leavesPlan o old = setLists (leaves (mapped (λ p. p .plan .drops) o) (old .drops)) (leaves (mapped (λ p. p .plan .loads) o) (old .loads))
-
 -- the lists after a call: each stage that succeeds fills its own
 unfoldable pub leavesLists : List ℕ → Lists → Lists
 leavesLists bs old =
     listsOf (leaves (mapped (λ q. q .wants) (readBytes bs)) (old .wants)) (leaves (_>>=_ (readBytes bs) orderRequest) (old .order))
-    (leavesPlan (planJob bs) (old .sets))
+    (leavesPlan (λ p. p .plan) (planJob bs) (old .sets))
 
 -- the lists take the 256 entries that a job can need, else 9 whatever the job, and nothing changes
 abbrev pub shortest : Lists → ℕ

@@ -10,10 +10,10 @@ ghost use Prim.Native.Nat.{_≤_};
 ghost use lib.ListN.{length};
 ghost use Rattle.lists.specs.Lent.{was, after};
 ghost use Rattle.job.specs.Refusal.{mapped, leaves};
-ghost use Rattle.planning.specs.Plan.{setLists, planOutcome};
+ghost use Rattle.planning.specs.Plan.{setLists, leavesPlan, planOutcome};
 ghost use Rattle.planned.specs.Planned.{orderRequest, orderAndPlan, planJob};
 ghost use Rattle.planned.specs.Contracts.{counted, told, plannedOutcome};
-ghost use Rattle.planned.specs.Contracts.{listsOf, leavesPlan, leavesLists, planJobAnswer, planJobLists};
+ghost use Rattle.planned.specs.Contracts.{listsOf, leavesLists, planJobAnswer, planJobLists};
 
 // What comes of a job's bytes: its head, and the load count and the end set of its plan, or the refusal.
 pub enum JobPlanned {
@@ -34,7 +34,7 @@ fn order_and_plan(
     ensures count { λ r. ⌜ planOutcome r ≡ mapped counted (orderAndPlan (record { head = head; wants = was wants })) ⌝ }
     ensures order { λ _. ⌜ after order ≡ leaves (orderRequest (record { head = head; wants = was wants })) (was order) ⌝ }
     ensures plan { λ _. ⌜ setLists (after drops) (after loads)
-        ≡ leavesPlan (orderAndPlan (record { head = head; wants = was wants })) (setLists (was drops) (was loads)) ⌝ }
+        ≡ leavesPlan (λ p. p .plan) (orderAndPlan (record { head = head; wants = was wants })) (setLists (was drops) (was loads)) ⌝ }
 {
     let n = head.tests;
     if let Counted::Refused(r) = ordering::order_tests(head.rig, head.method, wants, order) {

@@ -6,8 +6,7 @@ use Rattle.job.specs.Refusal.{Outcome, done, _>>=_, _>>_, mapped, room}
 use Rattle.job.specs.Handed.{testsKnown}
 use Rattle.drive.specs.declared.Sets.{Sets}
 use Rattle.drive.specs.Plan.{furthest, planFrom}
-use Rattle.planning.specs.Plan.{SetLists, entries, CountEnd, countEnd, inOrder}
-use Rattle.planning.specs.Planning.{leavesSets}
+use Rattle.planning.specs.Plan.{handed, SetLists, entries, leavesPlan, CountEnd, countEnd, inOrder}
 
 module _ (places : ℕ) (wants order : List ℕ) (lent : SetLists) where
   -- 10 and 9, of the lists alone
@@ -23,4 +22,4 @@ module _ (places : ℕ) (wants order : List ℕ) (lent : SetLists) where
 
   -- what the lent drops and loads hold afterwards
   unfoldable pub testsLists : SetLists
-  testsLists = leavesSets planTests lent
+  testsLists = leavesPlan handed planTests lent

@@ -2,7 +2,7 @@
 use mathlib.Core.List.{List, [], _∷_}
 use Prim.Native.Nat.{ℕ, min}
 use lib.ListN.{length, getD, take}
-use Rattle.job.specs.Refusal.{Outcome, done, refused, number, figure}
+use Rattle.job.specs.Refusal.{Outcome, done, refused, number, figure, mapped, leaves}
 use Rattle.drive.specs.declared.Sets.{Sets}
 use Rattle.drive.specs.Steps.{dropsOf, loadsOf, heldAfter, loadCount}
 use Rattle.planning.specs.declared.PlanCounted.{PlanCounted}
@@ -42,6 +42,10 @@ first n l end = planOf (take n (l .drops)) (take n (l .loads)) end
 -- for how many steps two lists have room
 abbrev pub entries : SetLists → ℕ
 entries l = min (length (l .drops)) (length (l .loads))
+
+-- what the lists lent for the drops and loads hold after a call that comes to o, in whose answer there is a plan
+abbrev pub leavesPlan : {A : Type 0} → (A → Plan) → Outcome A → SetLists → SetLists
+leavesPlan plan o old = setLists (leaves (mapped (λ a. plan a .drops) o) (old .drops)) (leaves (mapped (λ a. plan a .loads) o) (old .loads))
 
 -- wish 1: "planning answers it beside the load count": a count, of loads or of steps, and the end set
 pub record CountEnd : Type 0 where

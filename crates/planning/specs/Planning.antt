@@ -4,17 +4,17 @@ use mathlib.Core.List.{List}
 use Prim.Native.Nat.{ℕ, min}
 use lib.ListN.{length}
 use lib.Dec.{eqb}
-use Rattle.job.specs.Refusal.{Outcome, done, refused, _>>=_, _>>_, mapped, demand, room, leaves}
+use Rattle.job.specs.Refusal.{Outcome, done, refused, _>>=_, _>>_, mapped, demand, room}
 use Rattle.job.specs.Words.{Job, capacity}
 use Rattle.job.specs.Handed.{allCurves}
 use Rattle.job.specs.Calls.{checkingKnown, planningKnown}
 use Rattle.drive.specs.declared.Sets.{Sets}
 use Rattle.drive.specs.declared.Checked.{Checked}
 use Rattle.drive.specs.declared.Checked.the-variants.{Ends, Breaks}
-use Rattle.drive.specs.Steps.{Move, dropsOf, loadsOf, setsOf, moves, curveCount}
+use Rattle.drive.specs.Steps.{Move, setsOf, moves, curveCount}
 use Rattle.drive.specs.Check.{checkFrom}
 use Rattle.drive.specs.Plan.{furthest, planFrom}
-use Rattle.planning.specs.Plan.{Plan, heldAtEnd, SetLists, setLists, entries, CountEnd, countEnd, inOrder}
+use Rattle.planning.specs.Plan.{Plan, heldAtEnd, handed, SetLists, entries, leavesPlan, CountEnd, countEnd, inOrder}
 
 -- "Our plan": "The drive is empty before step 0."
 unfoldable pub ourPlan : Job → List ℕ → List Sets
@@ -27,10 +27,6 @@ planning j order lent = do
   _ ← room lent (length (j .wants))
   done (ourPlan j order)
 
--- what the lists lent for the drops and loads hold afterwards, of which the call makes the steps
-abbrev pub leavesSets : Outcome (List Sets) → SetLists → SetLists
-leavesSets o old = setLists (leaves (mapped dropsOf o) (old .drops)) (leaves (mapped loadsOf o) (old .loads))
-
 module _ (j : Job) (order : List ℕ) (lent : SetLists) where
   -- what planning answers: "the load count .. beside its plan", and wish 1: the end set "beside the load count"
   unfoldable pub planAnswer : Outcome CountEnd
@@ -38,7 +34,7 @@ module _ (j : Job) (order : List ℕ) (lent : SetLists) where
 
   -- what the lent drops and loads hold afterwards
   unfoldable pub planLists : SetLists
-  planLists = leavesSets (planning j order (entries lent)) lent
+  planLists = leavesPlan handed (planning j order (entries lent)) lent
 
 -- 12: "before that, first missing or surplus position of the drops or loads, the smaller". A list with an entry for each of the n steps has no such position;
 -- one that is shorter lacks the entry at its length, and one that is longer has the entry n too many.
