@@ -1,5 +1,6 @@
 /*
- * The rig's curve planner. The formats, the orders, the plan and the refusals are those of document 01, with the end step of document 02 (wish 1).
+ * The rig's curve planner. The formats, the orders, the plan and the refusals are those of document 01, with the end step and the tie rule of document 02
+ * (wishes 1 and 2).
  *
  * One call goes from a job's bytes to its plan's bytes: curveplan_plan, in the archive libcurveplan.a. The other functions take the steps between one by one,
  * and are in libexports.a; the smaller parts of these are declared in curveplan_parts.h.
@@ -58,8 +59,8 @@ enum curveplan_refusal {
 /*
  * Reads a job, orders its tests by the job's method, plans the drops and loads, and writes the plan's bytes to `plan`, which has room for `plan_len` bytes.
  *
- * The plan is one with the fewest loads for its order of the tests. It ends with an empty drive: where something is held behind the last test, an end step
- * drops it.
+ * The plan is one with the fewest loads for its order of the tests. Of the curves that may go, those whose next use is furthest are dropped, the highest among
+ * equals. The plan ends with an empty drive: where something is held behind the last test, an end step drops it.
  *
  * Answers
  *   below 65,536      the count of plan bytes written, at most 5,121

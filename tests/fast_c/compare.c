@@ -1,7 +1,7 @@
 /*
- * Compares the C program with the library's call on random, damaged, boundary and two-fault jobs: the answer, and every byte of the plan's buffer. Fails on the
- * first difference, and if some refusal, some method's success, an end with nothing held, with some places taken or with a full drive, or the longest plan
- * never came up. The same jobs in every run.
+ * Compares the C program with the library's call on random, damaged, boundary and two-fault jobs, and on jobs with many curves of equal next use: the answer,
+ * and every byte of the plan's buffer. Fails on the first difference, and if some refusal, some method's success, a plan of a job with many equal next uses, an
+ * end with nothing held, with some places taken or with a full drive, or the longest plan never came up. The same jobs in every run.
  */
 #include <stdio.h>
 #include <string.h>
@@ -11,6 +11,7 @@
 
 #define SMALL_JOBS 60000
 #define LARGE_JOBS 3000
+#define TIED_JOBS 12000
 #define JOB_ROOM (CURVEPLAN_JOB_BYTES + 64)
 #define PLAN_ROOM (CURVEPLAN_PLAN_BYTES + 64)
 #define LONGEST_PLAN 5121 /* of the call: 11 bytes for step 0, which has no drops, 20 for each other step, 10 for the end step */
@@ -149,6 +150,32 @@ static void random_job(struct bytes *job, int large)
     }
 }
 
+/*
+ * The curves in two to four parts, and tests that want one part each, in turn or at random. The drive takes the largest part, but not all curves: of a part's
+ * curves, which have the same next use, some go and the others stay.
+ */
+static void tied_job(struct bytes *job)
+{
+    unsigned tests = PICK(2, 3, 4, 5, 8, 9, 17, 30, 64, 65, 256);
+    unsigned curves = PICK(64, 64, 64, 64, 63, 57, 40, 33, 20, 9, 4, 2);
+    unsigned number = between(2, 4), in_turn = below(2);
+    unsigned sizes[4] = {0}, largest = 0;
+    uint64_t parts[4] = {0};
+    for (unsigned k = 0; k < curves; k++) {
+        unsigned i = below(number);
+        parts[i] |= (uint64_t)1 << k;
+        sizes[i]++;
+        largest = sizes[i] > largest ? sizes[i] : largest;
+    }
+    job->length = 0;
+    put_head(job, largest < curves ? between(largest, curves - 1) : largest, curves, tests, below(4));
+    for (unsigned t = 0; t < tests; t++) {
+        uint64_t set = parts[in_turn ? t % number : below(number)];
+        /* seldom less than the whole part */
+        put_record(job, below(16) ? set : set & word());
+    }
+}
+
 /* Any map and fields on and around their bounds, and a few records. */
 static void crafted_job(struct bytes *job)
 {
@@ -270,6 +297,11 @@ static void count_planned(const struct bytes *job, const uint8_t *plan, size_t l
     planned[map & 8 ? job->at[1 + fields] : 0]++;
     ended[size == 0 ? NOTHING : size == places ? FULL : SOME]++;
     longest = length > longest ? length : longest;
+}
+
+static unsigned long all_planned(void)
+{
+    return planned[0] + planned[1] + planned[2] + planned[3];
 }
 
 static int differs(const struct bytes *job, size_t room)
@@ -417,12 +449,22 @@ int main(void)
             return 1;
         }
     }
+    unsigned long others = all_planned();
+    for (unsigned i = 0; i < TIED_JOBS; i++) {
+        tied_job(&job);
+        if (any_differs(&job)) {
+            return 1;
+        }
+    }
+    unsigned long tied = all_planned() - others;
     int missing = 0;
     printf("fast_c: %lu calls as the library answers them; planned by method", compared);
     for (unsigned method = 0; method < 4; method++) {
         printf(" %u: %lu", method, planned[method]);
         missing |= planned[method] == 0;
     }
+    printf("; of these with many equal next uses: %lu", tied);
+    missing |= tied == 0;
     printf("; refused");
     for (unsigned number = 1; number < 10; number++) {
         if (number != 8) {

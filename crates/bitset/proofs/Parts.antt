@@ -1,13 +1,15 @@
 -- Parts of sets, bit by bit: `a ≼ b` says of each number what `a ⊆ b` says of the sets, and goes into `omega` as it is.
 use mathlib.Core.Path.{_≡_, ap}
 use mathlib.Core.Bool.{true}
+use mathlib.Core.List.{[], _∷_}
 use Prim.Native.Nat.{ℕ, zero, suc, _+_, _-_, _^_, _≤_, _<_}
 use native.Mathlib.Decide.{ℕ-discrete, decLe}
 use native.Mathlib.Omega.{arith}
 use lib.Pow.{pow-pos, pow-mono}
 use borrow.Author.Tests.{eqb-true, eq-eqb}
 use Rattle.bitset.specs.Set.{_∩_, _∪_, _∖_, size, bit, inside, below}
-use Rattle.bitset.proofs.Bits.{bitwise, bit-∩, bit-∖, bit-single, bit-other, bit-beyond, bit-empty, same-by-bits, size-empty}
+use Rattle.bitset.proofs.Bits.{bitwise, bit-∩, bit-∖, bit-single, bit-other, bit-beyond, bit-empty, same-by-bits, size-empty, sizes-eq}
+use Rattle.bitset.proofs.Laws.{size-none}
 use Rattle.bitset.proofs.Element.{bit-not}
 
 -- each number of a is one of b; and no number is in both
@@ -80,3 +82,9 @@ module _ (v s : ℕ) where
 
 pub rest-same : (k s : ℕ) → bit k (s ∖ 2 ^ k) ≡ 0
 rest-same k s = omega (arith, bit-∖ k s (2 ^ k), bit-single k)
+
+-- a part that has as many elements is all of it
+pub same-size : (a s : ℕ) → a ≼ s → size a ≡ size s → a ≡ s
+same-size a s p e =
+    let n : s ∖ a ≡ 0 = size-none (s ∖ a) (omega (arith, sizes-eq (s ∷ []) (a ∷ s ∖ a ∷ []) (λ c. omega (arith, p c, bit-∖ c s a)))) in
+    same-by-bits a s (λ c. omega (arith, p c, bit-∖ c s a, ap (bit c) n, bit-empty c))

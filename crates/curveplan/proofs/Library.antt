@@ -3,6 +3,7 @@ use Rattle.job.proofs.JobExact.{job-by-exact}
 use Rattle.job.proofs.OrderExact.{order-exact}
 use Rattle.job_bytes.proofs.JobRoundTrip.{job-back, job-read}
 use Rattle.ordering.proofs.Complete.{order-complete}
+use Rattle.drive.proofs.Best.{either-tie}
 use Rattle.planning.proofs.Demand3.{demand3}
 use Rattle.plan_bytes.proofs.PlanRoundTrip.{plan-back, plan-read}
 use Rattle.curveplan.specs.Library.{Library}
@@ -15,6 +16,7 @@ library =
       orders = order-exact;
       complete = order-complete;
       demand-3 = demand3;
+      ties = either-tie;
       job-back = job-back;
       job-read = job-read;
       plan-back = plan-back;

@@ -2,8 +2,8 @@
 use mathlib.Core.Path.{_≡_}
 use mathlib.Core.Logic.{_↔_}
 use mathlib.Core.List.{List}
-use Prim.Native.Nat.{ℕ, _/_, _%_, _≤_}
-use lib.ListN.{length}
+use Prim.Native.Nat.{ℕ, _/_, _%_, _^_, _≤_, _<_}
+use lib.ListN.{length, getD}
 use Rattle.job.specs.Refusal.{done, refused}
 use Rattle.job.specs.Words.{Job, capacity, IsJob, IsOrder}
 use Rattle.job.specs.Handed.{jobKnownBy}
@@ -11,7 +11,8 @@ use Rattle.job.specs.Order.{orderKnown}
 use Rattle.job_bytes.specs.SetBytes.{Bytes}
 use Rattle.job_bytes.specs.JobBytes.{Request, jobIn, request, readBytes, writeJob}
 use Rattle.ordering.specs.Methods.{orderBy}
-use Rattle.drive.specs.Steps.{curveCount}
+use Rattle.drive.specs.Steps.{curveCount, loadCount}
+use Rattle.drive.specs.Plan.{furthest, furthestLowest, planFrom}
 use Rattle.planning.specs.Plan.{Plan, SetLists}
 use Rattle.planning.specs.Planning.{planAnswer, planLists, checking}
 use Rattle.planning.specs.Demand3.{Demand3}
@@ -41,6 +42,10 @@ pub record Library : Type 0 where
   pub complete : (method places : ℕ) (wants : List ℕ) → IsOrder (length wants) (orderBy method places wants)
   -- DEMAND 3, of what planning answers and leaves in the lists lent to it: for every job, every order and all lists
   pub demand-3 : (j : Job) (order : List ℕ) (lent : SetLists) → Demand3 j order (planAnswer j order lent) (planLists j order lent)
+  -- 02, wish 2: "Load counts are proved the same under either tie rule": with ties to the lowest curve, as in 01, our plan would have as many loads, for every
+  -- list of sets of n curves, whatever of them is held at first, and every capacity
+  pub ties : (n capacity held : ℕ) (ws : List ℕ) → held < 2 ^ n → ((i : ℕ) → i < length ws → getD ws i 0 < 2 ^ n)
+      → loadCount (planFrom (furthestLowest n) capacity held ws) ≡ loadCount (planFrom (furthest n) capacity held ws)
   -- writing and reading undo each other: a job ..
   pub job-back : (method : ℕ) (j : Job) (lent : ℕ) (bytes : List ℕ) → writeJob method j lent ≡ done bytes → readBytes bytes ≡ done (request method j)
   pub job-read : (bs : List ℕ) (q : Request) → Bytes bs → readBytes bs ≡ done q → writeJob (q .head .method) (jobIn q) (length bs) ≡ done bs

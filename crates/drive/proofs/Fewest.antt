@@ -7,22 +7,24 @@
 -- at k + 1 over to the later steps' k (`loaded`). Now our victims leave. For each k, either none of them is in U k, and nothing changes; or one is, and then,
 -- as it was chosen, all that stays is in U k: so of U k we hold w's part and as much more as the capacity allows, which is as much as the other can hold
 -- (`dropped`). All that is used of the choice is that: for each k, if a victim is in U k then so are all that stay (`Picked`, `Chosen`). No plans are
--- exchanged, and none is asked to load late or to keep what it needs; any holding, also one above the capacity, may come first.
-use mathlib.Core.Path.{_≡_, refl}
+-- exchanged, and none is asked to load late or to keep what it needs; any holding, also one above the capacity, may come first. A step's wants may exceed the
+-- capacity too: both then hold just these (`roomFor`).
+use mathlib.Core.Path.{_≡_, refl, ap}
 use mathlib.Core.List.{List, [], _∷_}
 use mathlib.Core.Logic.{_⊎_, inl, inr, ⊎-elim}
-use Prim.Native.Nat.{ℕ, zero, suc, _+_, _-_, _^_, _≤_, _<_}
+use Prim.Native.Nat.{ℕ, zero, suc, _+_, _-_, _^_, _≤_, _<_, min, max, zero-le}
 use native.Mathlib.Omega.{arith}
+use lib.ListN.{length, getD}
 use Rattle.bitset.specs.Set.{_∩_, _∪_, _∖_, size, bit}
 use Rattle.bitset.proofs.Bits.{bitwise, bit-empty, sizes-le, sizes-eq, size-empty}
-use Rattle.bitset.proofs.Element.{size-single}
+use Rattle.bitset.proofs.Element.{size-single, size-remove}
 use Rattle.bitset.proofs.Parts.{_≼_, Apart, without-≼, single-≼, single-apart}
-use Rattle.lists.specs.Choice.{Found, found}
+use Rattle.lists.specs.Choice.{Found, nobody, found}
 use Rattle.drive.specs.Steps.{Move, moved, wantsOf, setsOf, moves, curveCount, loadCount}
 use Rattle.drive.specs.Plan.{andThen, victims, dropsFor, next, planFrom}
 use Rattle.drive.proofs.CheckExact.{Kept, AllKept, moved-≼}
-use Rattle.drive.proofs.Holdings.{Holds, AllFit, between, loadsFor, held-by}
-use Rattle.drive.proofs.Moves.{movesOf, wants-of, sets-of, length-plan}
+use Rattle.drive.proofs.Holdings.{Holds, AllFit, between, loadsFor, wider, held-by}
+use Rattle.drive.proofs.Moves.{movesOf}
 
 -- the wants of the next k steps together
 unfoldable pub soon : ℕ → List ℕ → ℕ
@@ -36,14 +38,22 @@ pub record Chosen (e cs : ℕ) (ws : List ℕ) (v : ℕ) : Type 0 where
   pub count : size v ≡ e
   pub last : (k : ℕ) → Apart v (soon k ws) ⊎ ((0 < e) × (cs ∖ v ≼ soon k ws))
 
--- what is asked of a choice: a candidate, and all are wanted as soon as it is
+-- what is asked of a choice: a candidate, and all are wanted as soon as it is; none only where there is no candidate
 pub record Picked (cs : ℕ) (ws : List ℕ) (v : ℕ) : Type 0 where
   pub member : bit v cs ≡ 1
   pub last : (k : ℕ) → bit v (soon k ws) ≡ 1 → cs ≼ soon k ws
 
+abbrev pub PickedOf : ℕ → List ℕ → Found ℕ → Type 0
+PickedOf cs ws nobody = cs ≡ 0
+PickedOf cs ws (found v) = Picked cs ws v
+
 -- a good choice, among the curves all
 abbrev pub Good : ℕ → (ℕ → List ℕ → Found ℕ) → Type 0
-Good all pick = (cs : ℕ) (ws : List ℕ) → 0 < size cs → cs ≼ all → (v : ℕ) × (pick cs ws ≡ found v) × Picked cs ws v
+Good all pick = (cs : ℕ) (ws : List ℕ) → cs ≼ all → PickedOf cs ws (pick cs ws)
+
+-- how much is held in a step that wants w: at most the capacity, or just the wants, where they exceed it
+abbrev pub roomFor : ℕ → ℕ → ℕ
+roomFor capacity w = max capacity (size w)
 
 -- ---- our step: v dropped of the candidates g ∖ w, and loaded what is wanted and not held
 
@@ -129,42 +139,56 @@ module _ (e cs r v : ℕ) (ws : List ℕ) (picked : Picked cs ws v) (rest : Chos
       go k zero h (inr j) = inr (omega arith, λ c. simp bitwise (omega (arith, simp bitwise at (j .1 c))))
       go k (suc t) h z = inr (omega arith, λ c. simp bitwise (omega (arith, picked .last k (omega arith) c)))
 
+-- none
+none-chosen : (cs : ℕ) (ws : List ℕ) → Chosen 0 cs ws 0
+none-chosen cs ws = record { among = λ c. omega (arith, bit-empty c); count = size-empty; last = λ k. inl (λ c. omega (arith, bit-empty c)) }
+
 -- n is the least number of loads, of all plans that hold h before the first step
 pub record Least (capacity all h : ℕ) (ws : List ℕ) (n : ℕ) : Type 0 where
-  pub reached : (ks : List ℕ) × Holds capacity all ws ks × (loadsFor h ks ≤ n)
-  pub least : (ks : List ℕ) → Holds capacity all ws ks → n ≤ loadsFor h ks
+  pub reached : (ks : List ℕ) × Holds (roomFor capacity) all ws ks × (loadsFor h ks ≤ n)
+  pub least : (ks : List ℕ) → Holds (roomFor capacity) all ws ks → n ≤ loadsFor h ks
+
+-- there is one such number
+pub least-same : {capacity all h : ℕ} {ws : List ℕ} {m n : ℕ} → Least capacity all h ws m → Least capacity all h ws n → m ≡ n
+least-same a b =
+    let r = a .reached in
+    let s = b .reached in
+    omega (arith, r .2, s .2, a .least (s .0) (s .1), b .least (r .0) (r .1))
 
 -- ---- a good choice
 module _ (all : ℕ) (pick : ℕ → List ℕ → Found ℕ) (good : Good all pick) where
-  chosen : (e cs : ℕ) (ws : List ℕ) → e ≤ size cs → cs ≼ all → Chosen e cs ws (victims pick e cs ws)
+  -- as many as have to go, or all
+  pub chosen : (e cs : ℕ) (ws : List ℕ) → cs ≼ all → Chosen (min e (size cs)) cs ws (victims pick e cs ws)
   unfolding victims andThen
-  chosen zero cs ws h s = record { among = λ c. omega (arith, bit-empty c); count = size-empty; last = λ k. inl (λ c. omega (arith, bit-empty c)) }
-  chosen (suc e) cs ws h s =
-      let g = good cs ws (omega arith) s in
-      let v = g .0 in
-      rw (g .1)
-      (chosen-one e cs (victims pick e (cs ∖ 2 ^ v) ws) v ws (g .2)
-      (chosen e (cs ∖ 2 ^ v) ws (omega (arith, size-single v, sizes-le (cs ∷ []) (cs ∖ 2 ^ v ∷ 2 ^ v ∷ []) (λ c. simp bitwise (omega arith))))
-      (without-≼ cs (2 ^ v) all s)))
+  chosen zero cs ws s = let z : min 0 (size cs) ≡ 0 = omega arith in rw z (none-chosen cs ws)
+  chosen (suc e) cs ws s = go (pick cs ws) (good cs ws s) (λ v. chosen e (cs ∖ 2 ^ v) ws (without-≼ cs (2 ^ v) all s))
+    where
+      go : (b : Found ℕ) → PickedOf cs ws b → ((v : ℕ) → Chosen (min e (size (cs ∖ 2 ^ v))) (cs ∖ 2 ^ v) ws (victims pick e (cs ∖ 2 ^ v) ws))
+          → Chosen (min (suc e) (size cs)) cs ws (andThen b (λ v. victims pick e (cs ∖ 2 ^ v) ws))
+      go nobody p rest = let z : min (suc e) (size cs) ≡ 0 = omega (arith, ap size p, size-empty) in rw z (none-chosen cs ws)
+      go (found v) p rest =
+          let n : min (suc e) (size cs) ≡ suc (min e (size (cs ∖ 2 ^ v))) = omega (arith, size-remove v cs (p .member)) in
+          rw n (chosen-one (min e (size (cs ∖ 2 ^ v))) cs (victims pick e (cs ∖ 2 ^ v) ws) v ws p (rest v))
 
   module _ (capacity : ℕ) where
-    pub our-drops : (g w : ℕ) (ws : List ℕ) → size w ≤ capacity → g ≼ all → Chosen (size (g ∪ w) - capacity) (g ∖ w) ws (dropsFor pick capacity g w ws)
+    -- exactly the excess is dropped; all that is not wanted, where the wants alone exceed the capacity
+    pub our-drops : (g w : ℕ) (ws : List ℕ) → g ≼ all → Chosen (size (g ∪ w) - roomFor capacity w) (g ∖ w) ws (dropsFor pick capacity g w ws)
     unfolding dropsFor
-    our-drops g w ws h s =
-        chosen (size (g ∪ w) - capacity) (g ∖ w) ws (omega (arith, sizes-le (g ∪ w ∷ []) (w ∷ g ∖ w ∷ []) (λ c. simp bitwise (omega arith))))
-        (without-≼ g w all s)
+    our-drops g w ws s =
+        let n : min (size (g ∪ w) - capacity) (size (g ∖ w)) ≡ size (g ∪ w) - roomFor capacity w =
+        omega (arith, sizes-eq (g ∪ w ∷ []) (w ∷ g ∖ w ∷ []) (λ c. simp bitwise (omega arith))) in
+        rw n at (chosen (size (g ∪ w) - capacity) (g ∖ w) ws (without-≼ g w all s))
 
     -- ours are x so far and g is held, theirs y and b
-    fewest-from : {ws ks : List ℕ} (g b x y : ℕ) → g ≼ all → ((k : ℕ) → x + size (b ∩ soon k ws) ≤ y + size (g ∩ soon k ws)) → Holds capacity all ws ks
-        → x + loadCount (planFrom pick capacity g ws) ≤ y + loadsFor b ks
+    fewest-from : {ws ks : List ℕ} (g b x y : ℕ) → g ≼ all → ((k : ℕ) → x + size (b ∩ soon k ws) ≤ y + size (g ∩ soon k ws))
+        → Holds (roomFor capacity) all ws ks → x + loadCount (planFrom pick capacity g ws) ≤ y + loadsFor b ks
     unfolding planFrom between curveCount soon
     fewest-from g b x y gs ahead Holds.none = omega (arith, ahead 0, sizes-le (g ∩ 0 ∷ []) [] (λ c. simp (bitwise, bit-empty) (omega arith)))
     fewest-from g b x y gs ahead (Holds.step {w = w} {k = k} {ws = ws} i j s r) =
-        let wp : size w ≤ capacity = omega (arith, sizes-le (w ∷ []) (k ∷ []) (λ c. omega (arith, i c))) in
         let wa : w ≼ all = λ c. omega (arith, i c, j c) in
         let v = dropsFor pick capacity g w ws in
         let later = fewest-from (ours g w v) k (x + size (w ∖ g)) (y + size (k ∖ b)) (moved-≼ g (next pick capacity g w ws) all gs (without-≼ w g all wa))
-        (dropped capacity g b x y w k i s ws v (our-drops g w ws wp gs) ahead) r in
+        (dropped (roomFor capacity w) g b x y w k i s ws v (our-drops g w ws gs) ahead) r in
         omega (arith, later)
 
     -- ---- our steps keep the rules
@@ -172,7 +196,7 @@ module _ (all : ℕ) (pick : ℕ → List ℕ → Found ℕ) (good : Good all pi
     our-step : (g w : ℕ) (ws : List ℕ) → size w ≤ capacity → g ≼ all → w ≼ all → Kept capacity all g (record { want = w; sets = next pick capacity g w ws })
     our-step g w ws h s t =
         let v = dropsFor pick capacity g w ws in
-        let ch : Chosen (size (g ∪ w) - capacity) (g ∖ w) ws v = our-drops g w ws h s in
+        let ch = our-drops g w ws s in
         record {
           drops = λ c. omega (arith, simp bitwise at (ch .among c));
           fresh = λ c. simp bitwise (omega arith);
@@ -191,13 +215,26 @@ module _ (all : ℕ) (pick : ℕ → List ℕ → Found ℕ) (good : Good all pi
 
     -- THE FEWEST LOADS: of all moves that keep the rules from h, whatever curves of the job are held at first
     pub fewest : {h : ℕ} {ms : List Move} → h ≼ all → AllKept capacity all h ms → loadCount (planFrom pick capacity h (wantsOf ms)) ≤ loadCount (setsOf ms)
-    fewest {h} s k = let r = held-by s k in omega (arith, r .2, fewest-from h h 0 0 s (λ j. omega arith) (r .1))
+    fewest {h} s k = let r = held-by s k in omega (arith, r .2, fewest-from h h 0 0 s (λ j. omega arith) (wider (λ w. omega arith) (r .1)))
+
+    -- ---- whatever the steps want
+
+    -- what our steps hold
+    our-holds : (g : ℕ) (ws : List ℕ) → g ≼ all → ((i : ℕ) → i < length ws → getD ws i 0 ≼ all)
+        → (ks : List ℕ) × Holds (roomFor capacity) all ws ks × (loadsFor g ks ≤ loadCount (planFrom pick capacity g ws))
+    unfolding planFrom between curveCount
+    our-holds g [] s own = ([], Holds.none, zero-le)
+    our-holds g (w ∷ ws) s own =
+        let v = dropsFor pick capacity g w ws in
+        let ch = our-drops g w ws s in
+        let t : ours g w v ≼ all = moved-≼ g (next pick capacity g w ws) all s (without-≼ w g all (own 0 (omega arith))) in
+        let r = our-holds (ours g w v) ws t (λ i h. own (suc i) (omega arith)) in (
+          ours g w v ∷ r .0,
+          Holds.step (wants-held g w v (ch .among)) t (omega (arith, ch .count, held-size g w v (ch .among))) (r .1),
+          omega (arith, r .2, sizes-le (ours g w v ∖ g ∷ []) (w ∖ g ∷ []) (λ c. simp bitwise (omega arith))),
+        )
 
     -- OUR LOAD COUNT IS THE LEAST of all plans from h
-    pub count-least : (h : ℕ) (ws : List ℕ) → h ≼ all → AllFit capacity all ws → Least capacity all h ws (loadCount (planFrom pick capacity h ws))
-    count-least h ws s f =
-        let plan = planFrom pick capacity h ws in
-        record {
-          reached = rw (wants-of ws _ _, sets-of ws plan (length-plan pick capacity h ws)) at (held-by s (our-steps h ws s f));
-          least = λ ks r. omega (arith, fewest-from h h 0 0 s (λ k. omega arith) r);
-        }
+    pub count-least : (h : ℕ) (ws : List ℕ) → h ≼ all → ((i : ℕ) → i < length ws → getD ws i 0 ≼ all)
+        → Least capacity all h ws (loadCount (planFrom pick capacity h ws))
+    count-least h ws s own = record { reached = our-holds h ws s own; least = λ ks r. omega (arith, fewest-from h h 0 0 s (λ k. omega arith) r) }

@@ -268,7 +268,7 @@ module _ {cs unused found : ℕ} {groups when ws : List ℕ} (g : Grouped cs unu
   -- ---- from the near end: none of the groups before j is left
   module _ (left j : ℕ) (part : left ≼ cs) (passed : (i c : ℕ) → i < j → bit c (group i) ≡ 1 → bit c left ≡ 0) where
     -- those of group j that stay go last
-    pub group-stays : (stay : ℕ) → j < found → stay ≼ left ∩ group j → ((c d : ℕ) → bit c (left ∩ group j) ≡ 1 → bit c stay ≡ 0 → bit d stay ≡ 1 → c < d)
+    pub group-stays : (stay : ℕ) → j < found → stay ≼ left ∩ group j → ((c d : ℕ) → bit c (left ∩ group j) ≡ 1 → bit c stay ≡ 0 → bit d stay ≡ 1 → d < c)
         → (c d : ℕ) → bit c left ≡ 1 → bit c stay ≡ 0 → bit d stay ≡ 1 → GoesBefore ws c d
     group-stays stay h own tie c d m n i = go (bit c unused) refl
       where
@@ -295,7 +295,7 @@ module _ {cs unused found : ℕ} {groups when ws : List ℕ} (g : Grouped cs unu
         rw e at (less-first cs left (left ∩ group j) ws (group-stays (left ∩ group j) h (λ c. omega arith) (λ c d m n i. absurd (omega arith))) f)
 
     -- no group is left
-    pub never-stays : (stay : ℕ) → found ≤ j → stay ≼ left → ((c d : ℕ) → bit c left ≡ 1 → bit c stay ≡ 0 → bit d stay ≡ 1 → c < d)
+    pub never-stays : (stay : ℕ) → found ≤ j → stay ≼ left → ((c d : ℕ) → bit c left ≡ 1 → bit c stay ≡ 0 → bit d stay ≡ 1 → d < c)
         → (c d : ℕ) → bit c left ≡ 1 → bit c stay ≡ 0 → bit d stay ≡ 1 → GoesBefore ws c d
     never-stays stay h own tie c d m n i =
         let t = tie c d m n i in same-before c d ws Never (unneeded c m (bit c unused) refl) (unneeded d (omega (arith, own d)) (bit d unused) refl)

@@ -12,10 +12,14 @@ use Rattle.drive.specs.Steps.{Move, moved, wantsOf, setsOf, moves, curve
 use Rattle.drive.proofs.Moves.{movesOf}
 use Rattle.drive.proofs.CheckExact.{AllKept, moved-≼}
 
--- the steps want ws, and hold ks after their loads
-pub data Holds (capacity all : ℕ) : List ℕ → List ℕ → Type 0 where
-  none : Holds capacity all [] []
-  step : {w k : ℕ} {ws ks : List ℕ} → w ≼ k → k ≼ all → size k ≤ capacity → Holds capacity all ws ks → Holds capacity all (w ∷ ws) (k ∷ ks)
+-- the steps want ws, and hold ks after their loads: of the curves `all`, and at most `room w` in a step that wants w
+pub data Holds (room : ℕ → ℕ) (all : ℕ) : List ℕ → List ℕ → Type 0 where
+  none : Holds room all [] []
+  step : {w k : ℕ} {ws ks : List ℕ} → w ≼ k → k ≼ all → size k ≤ room w → Holds room all ws ks → Holds room all (w ∷ ws) (k ∷ ks)
+
+pub wider : {room more : ℕ → ℕ} {all : ℕ} {ws ks : List ℕ} → ((w : ℕ) → room w ≤ more w) → Holds room all ws ks → Holds more all ws ks
+wider l none = none
+wider l (step {w = w} i j s r) = step i j (omega (arith, l w)) (wider l r)
 
 -- each step's wants are curves of the job, and have room
 abbrev pub AllFit : ℕ → ℕ → List ℕ → Type 0
@@ -35,7 +39,7 @@ moved-then h k = same-by-bits _ k (λ c. simp bitwise (omega arith))
 
 module _ {capacity all : ℕ} where
   -- WHATEVER HOLDS THE WANTS is held by steps that keep the rules
-  pub plan-of : {ws ks : List ℕ} (h : ℕ) → Holds capacity all ws ks → AllKept capacity all h (movesOf ws (between h ks))
+  pub plan-of : {ws ks : List ℕ} (h : ℕ) → Holds (λ w. capacity) all ws ks → AllKept capacity all h (movesOf ws (between h ks))
   unfolding between moves
   plan-of h none = AllKept.none
   plan-of h (step {w = w} {k = k} {ws = ws} {ks = ks} i j s r) =
@@ -51,7 +55,7 @@ module _ {capacity all : ℕ} where
 
   -- AND STEPS THAT KEEP THE RULES have their holdings, which need no more loads
   pub held-by : {h : ℕ} {ms : List Move} → h ≼ all → AllKept capacity all h ms
-      → (ks : List ℕ) × Holds capacity all (wantsOf ms) ks × (loadsFor h ks ≤ loadCount (setsOf ms))
+      → (ks : List ℕ) × Holds (λ w. capacity) all (wantsOf ms) ks × (loadsFor h ks ≤ loadCount (setsOf ms))
   unfolding between curveCount
   held-by s AllKept.none = ([], none, zero-le)
   held-by s (AllKept.step {h = h} {m = m} ok rest) =
@@ -60,10 +64,6 @@ module _ {capacity all : ℕ} where
       let r = held-by t rest in
       (k ∷ r .0, step (ok .wants) t (ok .room) (r .1), omega (arith, r .2, sizes-le (k ∖ h ∷ []) (m .sets .loads ∷ []) (λ c. simp bitwise (omega arith))))
 
-  pub wider : {more : ℕ} {ws ks : List ℕ} → capacity ≤ more → Holds capacity all ws ks → Holds more all ws ks
-  wider l none = none
-  wider l (step i j s r) = step i j (omega arith) (wider l r)
-
-  pub fits : {ws ks : List ℕ} → Holds capacity all ws ks → AllFit capacity all ws
+  pub fits : {ws ks : List ℕ} → Holds (λ w. capacity) all ws ks → AllFit capacity all ws
   fits none = tt
   fits (step {w = w} {k = k} i j s r) = ((λ c. omega (arith, i c, j c)), omega (arith, sizes-le (w ∷ []) (k ∷ []) (λ c. omega (arith, i c))), fits r)

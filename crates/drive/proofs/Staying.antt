@@ -11,14 +11,15 @@ use Rattle.bitset.specs.Set.{_∪_, _∖_, size, bit, below}
 use Rattle.bitset.proofs.Bits.{bit-∪, bit-∖, bit-other, bit-empty}
 use Rattle.bitset.proofs.Element.{size-remove, some}
 use Rattle.bitset.proofs.Laws.{size-none}
-use Rattle.lists.specs.Choice.{found}
+use Rattle.lists.specs.Choice.{Found, nobody, found}
 use Rattle.drive.specs.declared.choice.NextUse.{NextUse}
 use Rattle.drive.specs.declared.choice.NextUse.the-variants.{At, Never}
 use Rattle.drive.specs.Uses.{nextUse, further}
 use Rattle.drive.specs.Plan.{furthest, andThen, victims}
 use Rattle.drive.specs.Contracts.{GoesBefore, UsedAt, GoesFirst}
 use Rattle.bitset.proofs.Parts.{_≼_, without-≼, positive, put-back}
-use Rattle.drive.proofs.Best.{ranked, good}
+use Rattle.drive.proofs.Fewest.{PickedOf}
+use Rattle.drive.proofs.Best.{further-self, good}
 use Rattle.drive.proofs.OurPlan.{Victim, victim-exact}
 
 -- each of r goes before each candidate that is not in r
@@ -28,9 +29,9 @@ First cs r ws = (c d : ℕ) → bit c r ≡ 1 → bit d cs ≡ 1 → bit d r ≡
 -- ---- the order
 
 module _ (c d : ℕ) (ws : List ℕ) where
-  -- of two with the same next use the lower one
-  pub same-before : (u : NextUse) → nextUse c ws ≡ u → nextUse d ws ≡ u → c ≤ d → GoesBefore ws c d
-  same-before u e f l = (ap (further (nextUse d ws)) (e ∙ sym f) ∙ ranked ws .self d, λ g. absurd (omega arith))
+  -- of two with the same next use the higher one
+  pub same-before : (u : NextUse) → nextUse c ws ≡ u → nextUse d ws ≡ u → d ≤ c → GoesBefore ws c d
+  same-before u e f l = (ap (further (nextUse d ws)) (e ∙ sym f) ∙ further-self (nextUse d ws), λ g. absurd (omega arith))
 
   pub further-before : (m n : ℕ) → nextUse c ws ≡ At m → nextUse d ws ≡ At n → n < m → GoesBefore ws c d
   unfolding further
@@ -45,10 +46,10 @@ module _ (c d : ℕ) (ws : List ℕ) where
   unfolding further
   sooner-stays m n e f l b = false≢true (sym (rw (e, f) at (b .0)) ∙ lt-ltb m n l)
 
--- of several with the same next use the lowest goes first
-pub first-of-same : (ws : List ℕ) (u : NextUse) (s v : ℕ) → bit v s ≡ 1 → ((c : ℕ) → bit c s ≡ 1 → v ≤ c) → UsedAt u s ws
+-- of several with the same next use the highest goes first
+pub first-of-same : (ws : List ℕ) (u : NextUse) (s v : ℕ) → bit v s ≡ 1 → ((c : ℕ) → bit c s ≡ 1 → c ≤ v) → UsedAt u s ws
     → GoesFirst ws s (record { curve = v; next = u })
-first-of-same ws u s v i low used = (i, (sym (used v i), λ d m. same-before v d ws u (used v i) (used d m) (low d m)))
+first-of-same ws u s v i high used = (i, (sym (used v i), λ d m. same-before v d ws u (used v i) (used d m) (high d m)))
 
 -- two curves that go before each other are one
 one-curve : (c d : ℕ) (ws : List ℕ) → GoesBefore ws c d → GoesBefore ws d c → c ≡ d
@@ -56,8 +57,8 @@ one-curve c d ws p q = go (decLe c d) (decLe d c)
   where
     go : Dec (c ≤ d) → Dec (d ≤ c) → c ≡ d
     go (yes g) (yes h) = omega arith
-    go (yes g) (no h) = absurd (false≢true (sym (p .0) ∙ q .1 (omega arith)))
-    go (no g) h = absurd (false≢true (sym (q .0) ∙ p .1 (omega arith)))
+    go (yes g) (no h) = absurd (false≢true (sym (q .0) ∙ p .1 (omega arith)))
+    go (no g) h = absurd (false≢true (sym (p .0) ∙ q .1 (omega arith)))
 
 -- ---- the victims
 
@@ -68,7 +69,7 @@ victim-first cs r v ws part f h t = go (bit v r) refl (some r (positive r h))
     go : (d : ℕ) → bit v r ≡ d → (k : ℕ) × (bit k r ≡ 1) → bit v r ≡ 1
     go zero e k =
         let m : bit (k .0) cs ≡ 1 = omega (arith, part (k .0), k .1) in
-        let s : k .0 ≡ v = one-curve (k .0) v ws (f (k .0) v (k .1) (t .candidate) e) (t .furthest-use (k .0) m, λ l. t .lowest-tie (k .0) l m) in
+        let s : k .0 ≡ v = one-curve (k .0) v ws (f (k .0) v (k .1) (t .candidate) e) (t .furthest-use (k .0) m, λ l. t .highest-tie (k .0) l m) in
         absurd (omega (arith, k .1, ap (λ (x : ℕ). bit x r) s))
     go (suc d) e k = omega arith
 
@@ -88,17 +89,16 @@ pub victims-first : (n e cs r : ℕ) (ws : List ℕ) → size r ≡ e → cs ≼
 unfolding victims
 victims-first n zero cs r ws s own part f = sym (size-none r s)
 victims-first n (suc e) cs r ws s own part f =
-    let x = some r (positive r (omega arith)) in
-    let g = good n cs ws (omega (arith, size-remove (x .0) cs (omega (arith, part (x .0), x .1)))) own in
-    go (g .0) (g .1) (λ v i. victims-first n e (cs ∖ 2 ^ v) (r ∖ 2 ^ v) ws (omega (arith, size-remove v r i)) (without-≼ cs (2 ^ v) (below n) own) (less v)
-    (first-rest cs r v ws i f))
+    go (furthest n cs ws) refl (good n cs ws own) (λ v i. victims-first n e (cs ∖ 2 ^ v) (r ∖ 2 ^ v) ws (omega (arith, size-remove v r i))
+    (without-≼ cs (2 ^ v) (below n) own) (less v) (first-rest cs r v ws i f))
   where
     less : (v : ℕ) → r ∖ 2 ^ v ≼ cs ∖ 2 ^ v
     less v k = omega (arith, bit-∖ k cs (2 ^ v), bit-∖ k r (2 ^ v), part k)
 
-    go : (v : ℕ) → furthest n cs ws ≡ found v → ((v : ℕ) → bit v r ≡ 1 → victims (furthest n) e (cs ∖ 2 ^ v) ws ≡ r ∖ 2 ^ v)
+    go : (b : Found ℕ) → furthest n cs ws ≡ b → PickedOf cs ws b → ((v : ℕ) → bit v r ≡ 1 → victims (furthest n) e (cs ∖ 2 ^ v) ws ≡ r ∖ 2 ^ v)
         → victims (furthest n) (suc e) cs ws ≡ r
-    go v p rest = let i = victim-first cs r v ws part f (omega arith) (victim-exact n cs ws own v .0 p) in one-first n e cs r v ws p i (rest v i)
+    go nobody p z rest = let x = some r (positive r (omega arith)) in absurd (omega (arith, part (x .0), x .1, ap (bit (x .0)) z, bit-empty (x .0)))
+    go (found v) p z rest = let i = victim-first cs r v ws part f (omega arith) (victim-exact n cs ws own v .0 p) in one-first n e cs r v ws p i (rest v i)
 
 -- ---- parts that go first
 

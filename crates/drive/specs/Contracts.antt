@@ -25,10 +25,11 @@ pub record Grouped (cs unused count : ℕ) (groups when ws : List ℕ) : Type 0 
   pub rising : (i j : ℕ) → i < j → j < count → getD when i 0 < getD when j 0
   pub some : (j : ℕ) → j < count → 0 < getD groups j 0
 
--- "each time the curve whose next use in a later step is furthest", "Ties go to the lowest curve number": c goes before d. The next use of d is not further;
--- and where d has the lower number, that of c is. (Of two different curves just one goes before the other; each goes before itself.)
+-- "each time the curve whose next use in a later step is furthest"; wish 2: "Of curves with equally distant next use the highest number is dropped": c goes
+-- before d. The next use of d is not further; and where d has the higher number, that of c is. (Of two different curves just one goes before the other; each
+-- goes before itself.)
 abbrev pub GoesBefore : List ℕ → ℕ → ℕ → Type 0
-GoesBefore ws c d = (further (nextUse d ws) (nextUse c ws) ≡ false) × (d < c → further (nextUse c ws) (nextUse d ws) ≡ true)
+GoesBefore ws c d = (further (nextUse d ws) (nextUse c ws) ≡ false) × (c < d → further (nextUse c ws) (nextUse d ws) ≡ true)
 
 -- the next use of each of the curves cs is u
 abbrev pub UsedAt : NextUse → ℕ → List ℕ → Type 0

@@ -1,16 +1,29 @@
 -- "Our plan": the choice of the drops, one step, and all steps.
+use mathlib.Core.Bool.{Bool, not}
 use mathlib.Core.List.{List, [], _∷_}
 use Prim.Native.Nat.{ℕ, zero, suc, _-_, _^_}
 use lib.Dec.{eqb}
 use Rattle.bitset.specs.Set.{_∪_, _∖_, size, bit}
 use Rattle.lists.specs.Choice.{Found, nobody, found, bestOf}
+use Rattle.drive.specs.declared.choice.NextUse.{NextUse}
 use Rattle.drive.specs.declared.Sets.{Sets}
 use Rattle.drive.specs.Steps.{moved}
 use Rattle.drive.specs.Uses.{nextUse, further}
 
--- of the candidates cs among n curves, "the curve whose next use in a later step is furthest", "Ties go to the lowest curve number"
+-- of the candidates cs among n curves, one after the other from the lowest: each takes the place of the one before it where `takes` says so, by its own next use
+-- and that of the other
+unfoldable pub chosenBy : (NextUse → NextUse → Bool) → ℕ → ℕ → List ℕ → Found ℕ
+chosenBy takes n cs ws = bestOf (λ c. eqb (bit c cs) 1) (λ b c. takes (nextUse b ws) (nextUse c ws)) (λ c. c) n nobody
+
+-- "the curve whose next use in a later step is furthest"; 02, wish 2: "Of curves with equally distant next use the highest number is dropped": a curve takes the
+-- place of a lower one unless the lower one's next use is further
 unfoldable pub furthest : ℕ → ℕ → List ℕ → Found ℕ
-furthest n cs ws = bestOf (λ c. eqb (bit c cs) 1) (λ b c. further (nextUse b ws) (nextUse c ws)) (λ c. c) n nobody
+furthest = chosenBy (λ u v. not (further v u))
+
+-- 01's rule, which wish 2 replaced: "Ties go to the lowest curve number": only where its own next use is further. The statement that load counts are the same
+-- "under either tie rule" speaks of it, and nothing else.
+unfoldable pub furthestLowest : ℕ → ℕ → List ℕ → Found ℕ
+furthestLowest = chosenBy further
 
 -- the victim, and those that are chosen after it; none where there is no candidate (never met where there are as many as have to go: `OurPlan`)
 unfoldable pub andThen : Found ℕ → (ℕ → ℕ) → ℕ

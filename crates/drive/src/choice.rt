@@ -41,28 +41,34 @@ fn further(a: Candidate, b: Candidate) -> bool
 
 // ---- curves with the same next use
 
-// The one that goes first: "Ties go to the lowest curve number".
+// The one that goes first, "the highest number": the last that a walk from the lowest comes to.
 fn first_to_go(same: u64) -> usize
     ensures { λ r. ⌜ (0 < same → bit r same ≡ 1) ⌝ }
-    ensures { λ r. ⌜ ((c : ℕ) → bit c same ≡ 1 → r ≤ c) ⌝ }
+    ensures { λ r. ⌜ ((c : ℕ) → bit c same ≡ 1 → c ≤ r) ⌝ }
 {
-    bitset::lowest(same)
+    let mut left = same;
+    let mut higher = bitset::without_lowest(left);
+    while higher != 0 {
+        left = higher;
+        higher = bitset::without_lowest(left);
+    }
+    bitset::lowest(left)
 }
 
-// Those that are left when so many have gone.
+// Those that are left when so many have gone: the first that a walk from the lowest comes to.
 fn left_after(same: u64, gone: usize) -> u64
     requires { ⌜ gone ≤ size same ⌝ }
     ensures { λ r. ⌜ size r + gone ≡ size same ⌝ }
     ensures { λ r. ⌜ ((c : ℕ) → bit c r ≤ bit c same) ⌝ }
-    ensures { λ r. ⌜ ((c d : ℕ) → bit c same ≡ 1 → bit c r ≡ 0 → bit d r ≡ 1 → c < d) ⌝ }
+    ensures { λ r. ⌜ ((c d : ℕ) → bit c same ≡ 1 → bit c r ≡ 0 → bit d r ≡ 1 → d < c) ⌝ }
 {
-    let mut left = same;
-    let mut n = gone;
+    let mut go = same;
+    let mut n = bitset::size(same) - gone;
     while 0 < n {
-        left = bitset::without(left, bitset::single(first_to_go(left)));
+        go = bitset::without_lowest(go);
         n -= 1;
     }
-    left
+    bitset::without(same, go)
 }
 
 // ---- every candidate's next use
@@ -200,8 +206,8 @@ fn keep_from_near(excess: usize, candidates: u64, count: usize, groups: &[u64]) 
 }
 
 // "If held and wanted curves together exceed the places, drop exactly the excess, from held curves that the test doesn't want"; where there are not more of
-// these, as where the test alone exceeds the places, all of them. The drops are chosen one by one, or those that stay are counted off, where these are fewer.
-// `used` is what the later steps want together; in `groups` and `when` the candidates are noted.
+// these, as where the test alone exceeds the places, all of them. The drops are chosen one by one, or those that stay are counted off, where these or the groups
+// are fewer. `used` is what the later steps want together; in `groups` and `when` the candidates are noted.
 pub(crate) fn drops_with(
     capacity: usize,
     held: u64,
@@ -225,7 +231,7 @@ pub(crate) fn drops_with(
         return candidates;
     }
     let count = find_uses(candidates, used, later, groups, when);
-    if size - excess < excess {
+    if size - excess < excess || count < excess {
         return keep_from_near(excess, candidates, count, groups);
     }
     drop_from_far(

@@ -19,7 +19,7 @@ use Rattle.ordering.specs.Ordering.{ordering, orderAnswer, orderList}
 use Rattle.drive.specs.Steps.{heldAfter, moves, curveCount}
 use Rattle.drive.specs.Check.{orBreaks, keeps, checkFrom}
 use Rattle.drive.specs.Uses.{later, useBy, nextUse, further}
-use Rattle.drive.specs.Plan.{furthest, andThen, victims, dropsFor, planFrom}
+use Rattle.drive.specs.Plan.{chosenBy, furthest, andThen, victims, dropsFor, planFrom}
 use Rattle.planning.specs.Plan.{steps, inOrder}
 use Rattle.planning.specs.Planning.{ourPlan, planning, planAnswer, planLists, setsKnown, checkedOutcome, endKnown, checking}
 use Rattle.plan_bytes.specs.PlanBytes.{setField, stepBytes, stepsBytes, endBytes, writePlan, writePlanAnswer, writePlanBuffer, readSet, readStep, readSteps}
@@ -37,7 +37,7 @@ unfolding ones readOutcome countOutcome _>>=_ _>>_ mapped demand room overwritte
     readJobAnswer readJobWants numberBytes zipWith flatten headBytes recordBytes jobBytes writeJob writeJobAnswer writeJobBuffer weight weights degree
     upTo appended grown bestUnlisted orElse neighbour nextOf cuthillMcKee reverseCuthillMcKee reach spanningTree flat bestPair without joined onPair
     curvesOf joinAll try pickTry _orMore_ longer runFrom flipped packages orderBy ordering orderAnswer orderList orderFrom heldAfter moves curveCount
-    orBreaks keeps checkFrom later useBy nextUse further furthest andThen victims dropsFor planFrom steps inOrder ourPlan planning
+    orBreaks keeps checkFrom later useBy nextUse further chosenBy furthest andThen victims dropsFor planFrom steps inOrder ourPlan planning
     planAnswer planLists setsKnown checkedOutcome endKnown checking setField stepBytes stepsBytes endBytes writePlan writePlanAnswer writePlanBuffer
     readSet readStep readSteps readEnd readPlanBytes planSteps readPlan readPlanAnswer readPlanOrder readPlanLists endParts partAt fetched orEmpty
     stepPart text highDigits decimal curveText curvesText setText stepText stepsText endText headText planText printed sheet writeSheet

@@ -35,29 +35,38 @@ pub record Others : Type 0 where
   pub check-repeated-test : checking (job 2 4 (0 ∷ 0 ∷ 0 ∷ [])) (0 ∷ 1 ∷ 1 ∷ []) (planOf (0 ∷ 0 ∷ 0 ∷ []) (0 ∷ 0 ∷ 0 ∷ []) 1) ≡ refused 8 2
   pub check-missing-test : checking (job 2 4 (0 ∷ 0 ∷ 0 ∷ [])) (0 ∷ 1 ∷ []) (planOf (0 ∷ 0 ∷ 0 ∷ []) (0 ∷ 0 ∷ 0 ∷ []) 0) ≡ refused 8 2
   -- the sheet of job A
-  pub a-sets : planning (job 2 4 a-wants) (0 ∷ 1 ∷ 2 ∷ 3 ∷ []) 4 ≡ done (sets 0 3 ∷ sets 1 4 ∷ sets 4 1 ∷ sets 1 8 ∷ [])
-  pub a-loads : planAnswer (job 2 4 a-wants) (0 ∷ 1 ∷ 2 ∷ 3 ∷ []) (setLists (0 ∷ 0 ∷ 0 ∷ 0 ∷ []) (0 ∷ 0 ∷ 0 ∷ 0 ∷ 0 ∷ [])) ≡ done (loads 5 10)
+  pub a-sets : planning (job 2 4 a-wants) (0 ∷ 1 ∷ 2 ∷ 3 ∷ []) 4 ≡ done (sets 0 3 ∷ sets 1 4 ∷ sets 4 1 ∷ sets 2 8 ∷ [])
+  pub a-loads : planAnswer (job 2 4 a-wants) (0 ∷ 1 ∷ 2 ∷ 3 ∷ []) (setLists (0 ∷ 0 ∷ 0 ∷ 0 ∷ []) (0 ∷ 0 ∷ 0 ∷ 0 ∷ 0 ∷ [])) ≡ done (loads 5 9)
   pub a-lent-loads : planLists (job 2 4 a-wants) (0 ∷ 1 ∷ 2 ∷ 3 ∷ []) (setLists (0 ∷ 0 ∷ 0 ∷ 0 ∷ []) (9 ∷ 9 ∷ 9 ∷ 9 ∷ 9 ∷ [])) .loads ≡ (3 ∷ 4 ∷ 1 ∷ 8 ∷ 9 ∷ [])
   pub a-read : readJob a-bytes 4 ≡ done (request 0 (job 2 4 a-wants))
   pub a-written : writeJob 0 (job 2 4 a-wants) 13 ≡ done a-bytes
   pub a-written-short : writeJob 0 (job 2 4 a-wants) 12 ≡ refused 9 13
   pub a-call : callAnswer a-bytes (replicate 25 0) ≡ 25
   pub a-call-short : callAnswer a-bytes (replicate 24 0) ≡ 589849
-  pub a-plan-written : writePlan (job 2 4 a-wants) (0 ∷ 1 ∷ 2 ∷ 3 ∷ []) (planOf (0 ∷ 1 ∷ 4 ∷ 1 ∷ []) (3 ∷ 4 ∷ 1 ∷ 8 ∷ []) 10) 25 ≡ done a-plan
+  pub a-plan-written : writePlan (job 2 4 a-wants) (0 ∷ 1 ∷ 2 ∷ 3 ∷ []) (planOf (0 ∷ 1 ∷ 4 ∷ 2 ∷ []) (3 ∷ 4 ∷ 1 ∷ 8 ∷ []) 9) 25 ≡ done a-plan
   pub a-step-0 : stepAt 4 4 a-plan 0 ≡ (0x06 ∷ 0x01 ∷ 0x03 ∷ 0x00 ∷ [])
   pub a-step-1 : stepAt 4 4 a-plan 1 ≡ (0x07 ∷ 0x01 ∷ 0x01 ∷ 0x01 ∷ 0x04 ∷ 0x01 ∷ [])
-  pub a-step-3 : stepAt 4 4 a-plan 3 ≡ (0x07 ∷ 0x01 ∷ 0x01 ∷ 0x01 ∷ 0x08 ∷ 0x03 ∷ [])
+  pub a-step-3 : stepAt 4 4 a-plan 3 ≡ (0x07 ∷ 0x01 ∷ 0x02 ∷ 0x01 ∷ 0x08 ∷ 0x03 ∷ [])
   -- 02, wish 1: the end step is the step at position 4
-  pub a-step-4 : stepAt 4 4 a-plan 4 ≡ (0x01 ∷ 0x01 ∷ 0x0a ∷ [])
+  pub a-step-4 : stepAt 4 4 a-plan 4 ≡ (0x01 ∷ 0x01 ∷ 0x09 ∷ [])
   pub a-step-5 : stepAt 4 4 a-plan 5 ≡ []
   pub no-end-step : stepAt 4 1 (0x04 ∷ 0x00 ∷ []) 1 ≡ []
   pub a-step-surplus : stepAt 4 4 (a-plan ++ (0x00 ∷ [])) 0 ≡ []
   pub a-step-no-curves : stepAt 0 4 a-plan 0 ≡ []
   pub a-step-257-tests : stepAt 4 257 a-plan 0 ≡ []
   pub a-sheet : sheet a-bytes
-      ≡ text "4 tests, 2 places, method 0\n0: test 0 drop none load 0 1\n1: test 1 drop 0 load 2\n2: test 2 drop 2 load 0\n3: test 3 drop 0 load 3\n"
-      ++ text "4: end drop 1 3\nloads 5\n"
+      ≡ text "4 tests, 2 places, method 0\n0: test 0 drop none load 0 1\n1: test 1 drop 0 load 2\n2: test 2 drop 2 load 0\n3: test 3 drop 1 load 3\n"
+      ++ text "4: end drop 0 3\nloads 5\n"
   pub sheet-refused : sheet (0x05 ∷ 0x02 ∷ 0x01 ∷ 0x00 ∷ 0x01 ∷ 0x07 ∷ []) ≡ text "refused 7 at 0\n"
+  -- 02, wish 2: "Of curves with equally distant next use the highest number is dropped": 01's plan of job A, which drops 0 in step 3, passes the check all the
+  -- same; a curve of a higher number whose next use is nearer stays; several go one by one, of those never used and of those used in the same later step;
+  -- more of these go than stay
+  pub a-lowest : checking (job 2 4 a-wants) (0 ∷ 1 ∷ 2 ∷ 3 ∷ []) (planOf (0 ∷ 1 ∷ 4 ∷ 1 ∷ []) (3 ∷ 4 ∷ 1 ∷ 8 ∷ []) 10) ≡ done 5
+  pub nearer-stays : planning (job 3 5 (7 ∷ 8 ∷ 4 ∷ [])) (0 ∷ 1 ∷ 2 ∷ []) 3 ≡ done (sets 0 7 ∷ sets 2 8 ∷ sets 0 0 ∷ [])
+  pub never-highest : planning (job 4 6 (15 ∷ 48 ∷ 1 ∷ [])) (0 ∷ 1 ∷ 2 ∷ []) 3 ≡ done (sets 0 15 ∷ sets 12 48 ∷ sets 0 0 ∷ [])
+  pub same-step-highest : planning (job 4 6 (15 ∷ 48 ∷ 15 ∷ [])) (0 ∷ 1 ∷ 2 ∷ []) 3 ≡ done (sets 0 15 ∷ sets 12 48 ∷ sets 48 12 ∷ [])
+  pub one-stays : planning (job 4 7 (15 ∷ 112 ∷ 15 ∷ [])) (0 ∷ 1 ∷ 2 ∷ []) 3 ≡ done (sets 0 15 ∷ sets 14 112 ∷ sets 112 14 ∷ [])
+  pub furthest-then-highest : planning (job 4 6 (15 ∷ 48 ∷ 2 ∷ 5 ∷ [])) (0 ∷ 1 ∷ 2 ∷ 3 ∷ []) 4 ≡ done (sets 0 15 ∷ sets 12 48 ∷ sets 0 0 ∷ sets 32 4 ∷ [])
   -- job bytes that tell readings apart
   pub map-bits : readJob (0xf1 ∷ []) 256 ≡ refused 2 0
   pub cut-tests : readJob (0x04 ∷ 0x01 ∷ []) 256 ≡ refused 1 2

@@ -1,4 +1,4 @@
--- The starred examples of document 01, in one theorem on the written rules; with the end step of 02, wish 1.
+-- The starred examples of document 01, in one theorem on the written rules; with the end step and the ties of 02, wishes 1 and 2.
 use mathlib.Core.Path.{_≡_}
 use mathlib.Core.List.{List, [], _∷_}
 use Prim.Native.Nat.{ℕ}
@@ -22,10 +22,10 @@ a-bytes = 0x07 ∷ 0x02 ∷ 0x04 ∷ 0x04 ∷ 0x00 ∷ 0x01 ∷ 0x03 ∷ 0x01 �
 abbrev pub a-wants : List ℕ
 a-wants = 3 ∷ 6 ∷ 3 ∷ 8 ∷ []
 
--- "A's plan bytes", and wish 1: its end step "is written `01 01 0a`"
+-- "A's plan bytes", with an end step (wish 1); wish 2: "Job A's step 3 drops 1, its end step 0 and 3"
 abbrev pub a-plan : List ℕ
 a-plan = 0x06 ∷ 0x01 ∷ 0x03 ∷ 0x00 ∷ 0x07 ∷ 0x01 ∷ 0x01 ∷ 0x01 ∷ 0x04 ∷ 0x01 ∷ 0x07 ∷ 0x01 ∷ 0x04 ∷ 0x01 ∷ 0x01 ∷ 0x02 ∷ 0x07
-    ∷ 0x01 ∷ 0x01 ∷ 0x01 ∷ 0x08 ∷ 0x03 ∷ 0x01 ∷ 0x01 ∷ 0x0a ∷ []
+    ∷ 0x01 ∷ 0x02 ∷ 0x01 ∷ 0x08 ∷ 0x03 ∷ 0x01 ∷ 0x01 ∷ 0x09 ∷ []
 
 -- lists of four entries lent
 abbrev pub four : SetLists
@@ -43,8 +43,8 @@ pub record Starred : Type 0 where
   pub method-1 : ordering 1 (job 2 4 a-wants) 4 ≡ done (2 ∷ 0 ∷ 1 ∷ 3 ∷ [])
   pub method-2 : ordering 2 (job 2 4 a-wants) 4 ≡ done (0 ∷ 2 ∷ 1 ∷ 3 ∷ [])
   pub method-3 : ordering 3 (job 2 4 a-wants) 4 ≡ done (0 ∷ 2 ∷ 1 ∷ 3 ∷ [])
-  pub loads-1 : planAnswer (job 2 4 a-wants) (2 ∷ 0 ∷ 1 ∷ 3 ∷ []) four ≡ done (loads 4 12)
-  pub loads-2-3 : planAnswer (job 2 4 a-wants) (0 ∷ 2 ∷ 1 ∷ 3 ∷ []) four ≡ done (loads 4 12)
+  pub loads-1 : planAnswer (job 2 4 a-wants) (2 ∷ 0 ∷ 1 ∷ 3 ∷ []) four ≡ done (loads 4 10)
+  pub loads-2-3 : planAnswer (job 2 4 a-wants) (0 ∷ 2 ∷ 1 ∷ 3 ∷ []) four ≡ done (loads 4 10)
   -- "Wants {0} {1} {2} {0}, 2 places: step 2 drops 1; 3 loads."
   pub drops-at-2 : planLists (job 2 64 (1 ∷ 2 ∷ 4 ∷ 1 ∷ [])) (0 ∷ 1 ∷ 2 ∷ 3 ∷ []) four .drops ≡ 0 ∷ 0 ∷ 2 ∷ 0 ∷ []
   pub loads-3 : planAnswer (job 2 64 (1 ∷ 2 ∷ 4 ∷ 1 ∷ [])) (0 ∷ 1 ∷ 2 ∷ 3 ∷ []) four ≡ done (loads 3 5)

@@ -15,7 +15,7 @@ use Rattle.job.specs.Calls.{checkingKnown, planningKnown}
 use Rattle.drive.specs.Steps.{heldAfter, dropsOf, loadsOf, moves, curveCount}
 use Rattle.drive.specs.Check.{orBreaks, keeps, checkFrom}
 use Rattle.drive.specs.Uses.{later, useBy, nextUse, further}
-use Rattle.drive.specs.Plan.{furthest, andThen, victims, dropsFor, planFrom}
+use Rattle.drive.specs.Plan.{chosenBy, furthest, andThen, victims, dropsFor, planFrom}
 use Rattle.planning.specs.Plan.{planOf, heldAtEnd, setLists, inOrder}
 use Rattle.planning.specs.Planning.{ourPlan, planning, planAnswer, setsKnown, checkedOutcome, endKnown, checking}
 
@@ -63,7 +63,7 @@ pub record OtherPlans : Type 0 where
 pub other-plans : OtherPlans
 unfolding ones inside _>>=_ _>>_ mapped demand room keep choose bestOf between listed each someTests placesKnown curvesKnown testsKnown methodKnown wantsKnown
     wantsFit numbersKnown jobKnownBy orderFrom checkingKnown planningKnown inOrder heldAfter moves curveCount orBreaks keeps checkFrom later useBy nextUse
-    further furthest andThen victims dropsFor planFrom ourPlan planning planAnswer setsKnown checkedOutcome endKnown checking
+    further chosenBy furthest andThen victims dropsFor planFrom ourPlan planning planAnswer setsKnown checkedOutcome endKnown checking
 other-plans =
     record {
       our-drops = refl;

@@ -6,6 +6,7 @@ use crate::generate::{self, permutation, Ending, Size, ENDINGS, PLAN_MADE, PLAN_
 use crate::parts;
 use crate::random::Random;
 use crate::reference::*;
+use crate::ties;
 use crate::tuned;
 use std::collections::BTreeSet;
 
@@ -56,6 +57,182 @@ fn plan_passes_and_loads_least() {
         );
         assert_eq!(fewest_loads(places, &wants, &order), made.count);
     }
+}
+
+/// Both rules' plans pass, told in two ways, and load equally often. Answers whether they differ.
+fn load_alike(places: usize, curves: usize, wants: &[u64], order: &[u16]) -> bool {
+    let (lowest, highest) = ties::both_plans(places, curves, wants, order).unwrap();
+    for made in [&lowest, &highest] {
+        let (drops, loads, end) = (&made.drops, &made.loads, made.end);
+        let checked = check_plan(places, curves, wants, order, drops, loads, end);
+        assert_eq!(checked, Ok(made.count));
+        assert!(passes(places, curves, wants, order, drops, loads, end));
+        assert_ends_empty(drops, loads, end);
+        assert_eq!(curves_in(loads), made.count);
+    }
+    assert_eq!(lowest.count, highest.count);
+    assert_eq!(fewest_loads(places, wants, order), highest.count);
+    assert_parting(wants, order, &lowest, &highest);
+    lowest != highest
+}
+
+/// Where the two plans part, one drops the lowest and the other the highest of the tied curves, and
+/// nothing else differs. Where they do not part, they are the same.
+fn assert_parting(wants: &[u64], order: &[u16], lowest: &Plan, highest: &Plan) {
+    let Some(parting) = ties::parting(wants, order, lowest, highest) else {
+        assert_eq!(lowest, highest);
+        return;
+    };
+    let step = parting.step;
+    assert_eq!(lowest.drops[..step], highest.drops[..step]);
+    assert_eq!(lowest.loads[..=step], highest.loads[..=step]);
+    let tied: Vec<u8> = parting.tied.iter().copied().collect();
+    let (go, stay) = (parting.tied_drops, tied.len() - parting.tied_drops);
+    assert!(go > 0 && stay > 0);
+    let low = set_of(lowest.drops[step]);
+    let high = set_of(highest.drops[step]);
+    assert!(tied[..go].iter().all(|curve| low.contains(curve)));
+    assert!(tied[go..].iter().all(|curve| !low.contains(curve)));
+    assert!(tied[..stay].iter().all(|curve| !high.contains(curve)));
+    assert!(tied[stay..].iter().all(|curve| high.contains(curve)));
+    assert_eq!(&low - &parting.tied, &high - &parting.tied);
+}
+
+#[test]
+fn both_tie_rules_load_least_in_small_jobs() {
+    let mut random = Random::new(17);
+    let mut differ = 0;
+    for round in 0..4_000 {
+        let (places, curves, wants) = match round % 2 {
+            0 => small_job(&mut random),
+            _ => {
+                let (tests, curves) = (random.between(2, 7), random.between(4, 6));
+                let job = generate::tied_job(&mut random, tests, curves);
+                (job.places, job.curves, job.wants)
+            }
+        };
+        let order = permutation(&mut random, wants.len());
+        differ += load_alike(places, curves, &wants, &order) as usize;
+        let least = least_loads(places, curves, &wants, &order);
+        assert_eq!(least, Some(fewest_loads(places, &wants, &order)));
+    }
+    println!("small jobs with another plan under the other tie rule: {differ} of 4000");
+    assert!(differ > 1_000, "{differ} differ");
+}
+
+/// All places, up to 64 curves and 256 tests.
+#[test]
+fn both_tie_rules_load_alike_in_large_jobs() {
+    let mut random = Random::new(18);
+    let (mut jobs, mut differ) = (0, 0);
+    let mut kinds = BTreeSet::new();
+    for places in 1..=64 {
+        for round in 0..12 {
+            let tests = match round {
+                0 => 256,
+                1..=3 => random.between(100, 256),
+                _ => random.between(2, 60),
+            };
+            let (curves, mut wants) = match round % 3 {
+                0 => {
+                    let curves = random.between(4, 64);
+                    let job = generate::tied_job(&mut random, tests, curves);
+                    (job.curves, job.wants)
+                }
+                _ => {
+                    let curves = random.between(places.min(63) + 1, 64);
+                    let wants = generate::wants(&mut random, tests, places, curves);
+                    (curves, wants)
+                }
+            };
+            // None wider than the places.
+            for want in &mut wants {
+                while parts::size(*want) > places as u64 {
+                    *want = parts::without_lowest(*want);
+                }
+            }
+            let order = permutation(&mut random, tests);
+            jobs += 1;
+            differ += load_alike(places, curves, &wants, &order) as usize;
+            let (lowest, highest) = ties::both_plans(places, curves, &wants, &order).unwrap();
+            if let Some(parting) = ties::parting(&wants, &order, &lowest, &highest) {
+                kinds.extend(parting.kinds());
+            }
+        }
+    }
+    println!("large jobs with another plan under the other tie rule: {differ} of {jobs}");
+    assert!(differ > jobs / 3, "{differ} of {jobs} differ");
+    // All but the one of equal plans.
+    assert_eq!(kinds.len(), ties::KINDS.len() - 1);
+}
+
+/// The plan whose steps sort their candidates, by falling next use and for equals by this rank, and
+/// drop as many of the first as is needed.
+fn sorted_plan(
+    places: usize,
+    wants: &[u64],
+    order: &[u16],
+    mut rank: impl FnMut(u32) -> u64,
+) -> Plan {
+    let steps: Vec<u64> = order.iter().map(|&test| wants[test as usize]).collect();
+    let (mut drops, mut loads, mut held) = (vec![], vec![], 0u64);
+    for (step, &wanted) in steps.iter().enumerate() {
+        let excess = ((held | wanted).count_ones() as usize).saturating_sub(places);
+        let mut candidates: Vec<(usize, u64, u32)> = (0..64)
+            .filter(|curve| (held & !wanted) >> curve & 1 == 1)
+            .map(|curve| {
+                let used = |&later: &usize| steps[later] >> curve & 1 == 1;
+                let next = (step + 1..steps.len()).find(used);
+                (usize::MAX - next.unwrap_or(usize::MAX), rank(curve), curve)
+            })
+            .collect();
+        candidates.sort();
+        let dropped: u64 = candidates[..excess].iter().map(|first| 1 << first.2).sum();
+        held &= !dropped;
+        drops.push(dropped);
+        loads.push(wanted & !held);
+        held |= wanted;
+    }
+    let count = curves_in(&loads);
+    Plan {
+        drops,
+        loads,
+        end: held,
+        count,
+    }
+}
+
+/// Dropping one by one is dropping the first of the sorted; and however ties are decided, each time
+/// anew, the load count is the same.
+#[test]
+fn any_choice_among_the_furthest_loads_alike() {
+    let mut random = Random::new(19);
+    let (mut planned, mut others) = (0, 0);
+    for round in 0..4_000 {
+        let size = match round {
+            0..=19 => Size::Full,
+            20..=59 => Size::Medium,
+            _ => random.pick(&[Size::Tiny, Size::Small]),
+        };
+        let job = generate::job(&mut random, size);
+        let (places, curves, wants) = (job.places, job.curves, &job.wants);
+        let order = permutation(&mut random, wants.len());
+        let Some((lowest, highest)) = ties::both_plans(places, curves, wants, &order) else {
+            continue; // a test is too wide
+        };
+        planned += 1;
+        let rising = sorted_plan(places, wants, &order, |curve| curve as u64);
+        let falling = sorted_plan(places, wants, &order, |curve| 63 - curve as u64);
+        assert_eq!((&rising, &falling), (&lowest, &highest));
+        let any = sorted_plan(places, wants, &order, |_| random.word());
+        assert_eq!(any.count, highest.count);
+        let checked = check_plan(
+            places, curves, wants, &order, &any.drops, &any.loads, any.end,
+        );
+        assert_eq!(checked, Ok(any.count));
+        others += (any != lowest && any != highest) as usize;
+    }
+    assert!(planned > 3_000 && others > 300, "{planned}, {others}");
 }
 
 #[test]

@@ -55,18 +55,61 @@ fn job_a_sheet() {
          0: test 0 drop none load 0 1\n\
          1: test 1 drop 0 load 2\n\
          2: test 2 drop 2 load 0\n\
-         3: test 3 drop 0 load 3\n\
-         4: end drop 1 3\n\
+         3: test 3 drop 1 load 3\n\
+         4: end drop 0 3\n\
          loads 5\n"
     );
 }
 
 /// Job A's steps, without the end step.
-const A_STEPS: &str = "06 01 03 00 07 01 01 01 04 01 07 01 04 01 01 02 07 01 01 01 08 03";
-const A_END: &str = "01 01 0a";
+const A_STEPS: &str = "06 01 03 00 07 01 01 01 04 01 07 01 04 01 01 02 07 01 02 01 08 03";
+const A_END: &str = "01 01 09";
+
+/// The same in document 01, where ties go to the lowest curve, with wish 1's end step.
+const A_OF_01: &str = "06 01 03 00 07 01 01 01 04 01 07 01 04 01 01 02 07 01 01 01 08 03 01 01 0a";
 
 fn a_plan() -> Vec<u8> {
     [bytes(A_STEPS), bytes(A_END)].concat()
+}
+
+/// Job A with methods 1 to 3: curves 1 and 2 are held when test 3 comes, and never used again.
+#[test]
+fn job_a_by_every_method() {
+    for (method, first, second) in [(1, 2, 0), (2, 0, 2), (3, 0, 2)] {
+        let job = write_job(2, 4, method, &a_wants(), 99).unwrap();
+        assert_eq!(
+            sheet(&job),
+            format!(
+                "4 tests, 2 places, method {method}\n\
+                 0: test {first} drop none load 0 1\n\
+                 1: test {second} drop none load none\n\
+                 2: test 1 drop 0 load 2\n\
+                 3: test 3 drop 2 load 3\n\
+                 4: end drop 1 3\n\
+                 loads 4\n"
+            )
+        );
+        let plan = bytes(&format!(
+            "06 01 03 0{first} 04 0{second} 07 01 01 01 04 01 07 01 04 01 08 03 01 01 0a"
+        ));
+        assert_eq!(call(&job, 99), (21, plan.clone()));
+        let mut out = [0xaa; 22];
+        assert_eq!(tuned::call(&job, &mut out), 21);
+        assert_eq!((&out[..21], out[21]), (&plan[..], 0xaa));
+        let audited = audit(&job, &plan);
+        assert_eq!(audit_text(&audited), "loads 4\nfewest 4\nshorter by 0\n");
+    }
+}
+
+/// The plan of document 01 still passes, and has as many loads.
+#[test]
+fn job_a_by_the_lowest_tie_rule() {
+    let lowest = plan_by(TieRule::Lowest, 2, 4, &a_wants(), &as_listed(4), 4, 4).unwrap();
+    let written = plan_bytes(&as_listed(4), &lowest.drops, &lowest.loads, lowest.end);
+    assert_eq!(written, bytes(A_OF_01));
+    assert_eq!(lowest.count, 5);
+    let audited = audit(&bytes(A), &bytes(A_OF_01));
+    assert_eq!(audit_text(&audited), "loads 5\nfewest 5\nshorter by 0\n");
 }
 
 #[test]
@@ -88,13 +131,23 @@ fn job_a_plan_bytes() {
 
     let steps = read_plan(4, 4, &expected, 4, 4, 4).unwrap();
     let (order, drops, loads) = (steps.order(), steps.drops(), steps.loads());
-    assert_eq!(drops, sets(&[&[], &[0], &[2], &[0]]));
+    assert_eq!(drops, sets(&[&[], &[0], &[2], &[1]]));
     assert_eq!(loads, sets(&[&[0, 1], &[2], &[0], &[3]]));
     assert_eq!(order, as_listed(4));
-    assert_eq!(steps.end_set(), sets(&[&[1, 3]])[0]);
+    assert_eq!(steps.end_set(), sets(&[&[0, 3]])[0]);
     let check = |end: u64| check_plan(2, 4, &a_wants(), &order, &drops, &loads, end);
-    assert_eq!(check(0x0a), Ok(5));
-    for end in [0, 0x02, 0x08, 0x0b, 0x0e, 0x1a, 1 << 63 | 0x0a, u64::MAX] {
+    assert_eq!(check(0x09), Ok(5));
+    for end in [
+        0,
+        0x01,
+        0x08,
+        0x0a,
+        0x0b,
+        0x0d,
+        0x19,
+        1 << 63 | 0x09,
+        u64::MAX,
+    ] {
         assert_eq!(check(end), Err(no(12, 4)));
     }
     for (position, part) in [
@@ -127,35 +180,35 @@ fn refusals_of_the_end_of_job_a() {
     // Behind the 22 bytes of its steps, and the offset from there.
     for (end, figure) in [
         ("00", 0),
-        ("00 01 0a", 0),
-        ("02 01 0a", 0),
-        ("03 01 0a 01 01", 0),
+        ("00 01 09", 0),
+        ("02 01 09", 0),
+        ("03 01 09 01 01", 0),
         ("04 00", 0),
-        ("05 01 0a 00", 0),
-        ("06 01 0a 00", 0),
-        ("07 01 0a 01 01 00", 0),
-        ("08 01 0a", 0),
-        ("09 01 0a", 0),
-        ("11 01 0a", 0),
-        ("80 01 0a", 0),
-        ("81 01 0a", 0),
-        ("ff 01 0a", 0),
+        ("05 01 09 00", 0),
+        ("06 01 09 00", 0),
+        ("07 01 09 01 01 00", 0),
+        ("08 01 09", 0),
+        ("09 01 09", 0),
+        ("11 01 09", 0),
+        ("80 01 09", 0),
+        ("81 01 09", 0),
+        ("ff 01 09", 0),
         ("01", 1),
         ("01 00", 1),
-        ("01 00 0a", 1),
+        ("01 00 09", 1),
         ("01 01", 2),
         ("01 01 00", 2),
         ("01 01 10", 2),
         ("01 01 ff", 2),
         ("01 02", 2),
         ("01 02 01", 2),
-        ("01 03 0a", 3),
-        ("01 03 0a 00", 3),
-        ("01 03 0a 01", 3),
-        ("01 01 0a 00", 3),
-        ("01 01 0a 01", 3),
-        ("01 01 0a 01 01 0a", 3),
-        ("01 01 0a 04 00", 3),
+        ("01 03 09", 3),
+        ("01 03 09 00", 3),
+        ("01 03 09 01", 3),
+        ("01 01 09 00", 3),
+        ("01 01 09 01", 3),
+        ("01 01 09 01 01 09", 3),
+        ("01 01 09 04 00", 3),
     ] {
         let plan = [bytes(A_STEPS), bytes(end)].concat();
         let refused = no(11, 22 + figure);
@@ -211,6 +264,172 @@ fn never_used_again_goes_first() {
     assert_eq!(made.drops, sets(&[&[], &[], &[1], &[]]));
     assert_eq!(made.end, sets(&[&[0, 2]])[0]);
     assert_eq!(made.count, 3);
+}
+
+/// Drops, end set and load count of the list as it stands, under a tie rule. The plan passes, and its
+/// bytes do.
+fn dropped(rule: TieRule, places: usize, wants: &[&[u8]]) -> (Vec<u64>, u64, u64) {
+    let (wants, order) = (sets(wants), as_listed(wants.len()));
+    let room = wants.len();
+    let made = plan_by(rule, places, 64, &wants, &order, room, room).unwrap();
+    let (drops, loads, end) = (&made.drops, &made.loads, made.end);
+    let checked = check_plan(places, 64, &wants, &order, drops, loads, end);
+    assert_eq!(checked, Ok(made.count));
+    let job = write_job(places, 64, 0, &wants, 999).unwrap();
+    let plan = plan_bytes(&order, drops, loads, end);
+    assert_eq!(audit(&job, &plan).unwrap().fewest, made.count);
+    assert_eq!(call_bytes(&job, 999) == Ok(plan), rule == TieRule::Highest);
+    (made.drops, made.end, made.count)
+}
+
+/// A list whose plan depends on the tie rule: its drops and end set under the highest, under the
+/// lowest, and the load count of both.
+fn tie(
+    places: usize,
+    wants: &[&[u8]],
+    highest: (&[&[u8]], &[u8]),
+    lowest: (&[&[u8]], &[u8]),
+    count: u64,
+) {
+    for (rule, (drops, end)) in [(TieRule::Highest, highest), (TieRule::Lowest, lowest)] {
+        let expected = (sets(drops), sets(&[end])[0], count);
+        assert_eq!(dropped(rule, places, wants), expected, "{rule:?}");
+    }
+}
+
+#[test]
+fn ties_of_curves_never_used_again() {
+    // One goes.
+    tie(
+        2,
+        &[&[0, 63], &[1]],
+        (&[&[], &[63]], &[0, 1]),
+        (&[&[], &[0]], &[1, 63]),
+        3,
+    );
+    // In two groups of eight.
+    tie(
+        2,
+        &[&[7, 8], &[0]],
+        (&[&[], &[8]], &[0, 7]),
+        (&[&[], &[7]], &[0, 8]),
+        3,
+    );
+    // Two of four go.
+    tie(
+        4,
+        &[&[1, 3, 5, 7], &[0, 2]],
+        (&[&[], &[5, 7]], &[0, 1, 2, 3]),
+        (&[&[], &[1, 3]], &[0, 2, 5, 7]),
+        6,
+    );
+    // More go than stay, and a curve that the test wants is not among them.
+    tie(
+        5,
+        &[&[1, 3, 5, 7, 9], &[0, 2, 4, 9]],
+        (&[&[], &[3, 5, 7]], &[0, 1, 2, 4, 9]),
+        (&[&[], &[1, 3, 5]], &[0, 2, 4, 7, 9]),
+        8,
+    );
+    // One in each of two steps: what the first tie left is in the second.
+    tie(
+        3,
+        &[&[1, 2, 3], &[4], &[0]],
+        (&[&[], &[3], &[4]], &[0, 1, 2]),
+        (&[&[], &[1], &[2]], &[0, 3, 4]),
+        5,
+    );
+}
+
+#[test]
+fn ties_of_curves_next_used_in_one_later_step() {
+    // One goes and comes back.
+    tie(
+        2,
+        &[&[4, 6], &[0], &[4, 6]],
+        (&[&[], &[6], &[0]], &[4, 6]),
+        (&[&[], &[4], &[0]], &[4, 6]),
+        4,
+    );
+    // Two of four.
+    tie(
+        4,
+        &[&[1, 3, 5, 7], &[0, 2], &[1, 3, 5, 7]],
+        (&[&[], &[5, 7], &[0, 2]], &[1, 3, 5, 7]),
+        (&[&[], &[1, 3], &[0, 2]], &[1, 3, 5, 7]),
+        8,
+    );
+    // More go than stay.
+    tie(
+        6,
+        &[&[0, 1, 2, 3, 4, 5], &[6, 7, 8, 9], &[0, 1, 2, 3, 4, 5]],
+        (&[&[], &[2, 3, 4, 5], &[6, 7, 8, 9]], &[0, 1, 2, 3, 4, 5]),
+        (&[&[], &[0, 1, 2, 3], &[6, 7, 8, 9]], &[0, 1, 2, 3, 4, 5]),
+        14,
+    );
+}
+
+#[test]
+fn a_higher_curve_that_is_used_sooner_stays() {
+    // Step 2 drops 0, which is used in step 4, and not 3, which is used in step 3, whatever the rule.
+    // In step 4 both 1 and 3 are never used again.
+    tie(
+        2,
+        &[&[0], &[3], &[1], &[3], &[0]],
+        (&[&[], &[], &[0], &[], &[3]], &[0, 1]),
+        (&[&[], &[], &[0], &[], &[1]], &[0, 3]),
+        4,
+    );
+    // Of 3 and 5, which are used in step 3; 9 is used in step 2 already.
+    tie(
+        3,
+        &[&[3, 5, 9], &[0], &[9], &[3, 5]],
+        (&[&[], &[5], &[], &[9]], &[0, 3, 5]),
+        (&[&[], &[3], &[], &[0]], &[3, 5, 9]),
+        5,
+    );
+}
+
+#[test]
+fn the_furthest_goes_first_then_the_highest() {
+    // Step 1 drops 1, which is never used again, then one of 2 and 3, which are used in step 3;
+    // 0 and 4 are used in step 2. In step 3 the curves 0, 4, 5 and 6 are never used again.
+    tie(
+        5,
+        &[&[0, 1, 2, 3, 4], &[5, 6], &[0, 4], &[2, 3]],
+        (&[&[], &[1, 3], &[], &[6]], &[0, 2, 3, 4, 5]),
+        (&[&[], &[1, 2], &[], &[0]], &[2, 3, 4, 5, 6]),
+        8,
+    );
+    // Step 1 drops four: 0 and 5, never used again, then two of 1, 4 and 6, which are used in step 3;
+    // 2 and 3 are used in step 2. Step 3 drops two of those never used again.
+    tie(
+        7,
+        &[&[0, 1, 2, 3, 4, 5, 6], &[8, 9, 10, 11], &[2, 3], &[1, 4, 6]],
+        (
+            &[&[], &[0, 4, 5, 6], &[], &[10, 11]],
+            &[1, 2, 3, 4, 6, 8, 9],
+        ),
+        (
+            &[&[], &[0, 1, 4, 5], &[], &[2, 3]],
+            &[1, 4, 6, 8, 9, 10, 11],
+        ),
+        13,
+    );
+}
+
+/// Tests and packages still tie to the lowest and the earlier.
+#[test]
+fn ties_of_tests_and_packages_stay() {
+    // No test has a neighbour, and all degrees are 0: the list is in rising order, then reversed.
+    let apart = sets(&[&[0], &[1], &[2]]);
+    assert_eq!(order_tests(2, 3, 1, &apart, 3), Ok(vec![2, 1, 0]));
+    // All weights are 0, or all 1.
+    let alike = sets(&[&[0], &[0], &[0]]);
+    for wants in [&apart, &alike] {
+        assert_eq!(order_tests(2, 3, 2, wants, 3), Ok(vec![0, 1, 2]));
+        assert_eq!(order_tests(2, 3, 3, wants, 3), Ok(vec![0, 1, 2]));
+    }
 }
 
 #[test]

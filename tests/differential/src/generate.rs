@@ -2,7 +2,7 @@
 
 use crate::parts;
 use crate::random::Random;
-use crate::reference;
+use crate::reference::{self, TieRule};
 use std::fmt::Write;
 
 /// One call with everything handed to it. Lengths are those of the lists and buffers lent.
@@ -574,6 +574,14 @@ fn tests_of(random: &mut Random, size: Size) -> usize {
 
 pub fn job(random: &mut Random, size: Size) -> Job {
     let tests = tests_of(random, size);
+    if size != Size::Edge && random.chance(1, 8) {
+        let curves = if random.chance(1, 2) {
+            random.between(4, 16)
+        } else {
+            random.between(17, 64)
+        };
+        return tied_job(random, tests, curves);
+    }
     let (places, curves) = match size {
         Size::Tiny => match random.below(4) {
             0 => (random.between(1, 4), random.between(1, 6)),
@@ -598,16 +606,62 @@ pub fn job(random: &mut Random, size: Size) -> Job {
             random.pick(&[1, 2, 8, 9, 63, 64, 64, 64]),
         ),
     };
-    let mut method = random.below(4);
-    if method == 3 && tests > 150 && !random.chance(1, 3) {
-        // All pairs again for every join: a few of these are enough.
-        method = random.below(3);
-    }
+    let method = method_of(random, tests);
     let wants = wants(random, tests, places, curves);
     Job {
         places,
         curves,
         method,
+        wants,
+    }
+}
+
+fn method_of(random: &mut Random, tests: usize) -> usize {
+    let method = random.below(4);
+    if method == 3 && tests > 150 && !random.chance(1, 3) {
+        // All pairs again for every join: a few of these are enough.
+        return random.below(3);
+    }
+    method
+}
+
+/// A job with many ties among curves: they fall into a few blocks, a test wants one block, sometimes
+/// two or a part of one, and the places take some blocks, but not all. So the curves of a block mostly
+/// have the same next use, and only some of them have to go. The blocks take turns, or come as they
+/// like. A block has neighbouring curves or curves from anywhere. There are at least 2 curves.
+pub fn tied_job(random: &mut Random, tests: usize, curves: usize) -> Job {
+    let mut numbers: Vec<usize> = (0..curves).collect();
+    if random.chance(2, 3) {
+        random.shuffle(&mut numbers);
+    }
+    let number = random.between(2, 5.min(curves));
+    let mut blocks = vec![0u64; number];
+    for (at, curve) in numbers.into_iter().enumerate() {
+        blocks[at * number / curves] |= 1 << curve;
+    }
+    let widest = blocks.iter().map(|block| block.count_ones()).max();
+    let widest = widest.expect("there are blocks") as usize;
+    let places = random.between(widest, (curves - 1).max(widest));
+    let in_turns = random.chance(1, 2);
+    let mut wants = Vec::new();
+    for test in 0..tests {
+        let block = if in_turns {
+            blocks[test % number]
+        } else {
+            random.pick(&blocks)
+        };
+        let two = block | random.pick(&blocks);
+        wants.push(match random.below(12) {
+            0 => block & (random.word() | random.word()),
+            1 => one_of(random, block),
+            2 if two.count_ones() as usize <= places => two,
+            _ => block,
+        });
+    }
+    Job {
+        places,
+        curves,
+        method: method_of(random, tests),
         wants,
     }
 }
@@ -665,7 +719,7 @@ pub fn longest_job(random: &mut Random, each: usize) -> Job {
     }
 }
 
-fn wants(random: &mut Random, tests: usize, places: usize, curves: usize) -> Vec<u64> {
+pub fn wants(random: &mut Random, tests: usize, places: usize, curves: usize) -> Vec<u64> {
     let most = places.min(curves);
     let all = all_curves(curves);
     let mut list = Vec::new();
@@ -1175,10 +1229,10 @@ impl SomePlan {
     }
 }
 
-/// Our plan in this order, if the tests fit.
-fn our_plan(job: &Job, order: &[u16]) -> Option<SomePlan> {
-    let room = job.wants.len();
-    let plan = reference::plan(job.places, job.curves, &job.wants, order, room, room).ok()?;
+/// The plan in this order under a tie rule, if the tests fit.
+fn plan_by(rule: TieRule, job: &Job, order: &[u16]) -> Option<SomePlan> {
+    let (places, curves, room) = (job.places, job.curves, job.wants.len());
+    let plan = reference::plan_by(rule, places, curves, &job.wants, order, room, room).ok()?;
     Some(SomePlan {
         order: order.to_vec(),
         drops: plan.drops,
@@ -1187,11 +1241,12 @@ fn our_plan(job: &Job, order: &[u16]) -> Option<SomePlan> {
     })
 }
 
-/// An order of the job and a plan for it: ours or another.
+/// An order of the job and a plan for it: ours, the one of the other tie rule or any other.
 pub fn some_plan(random: &mut Random, job: &Job) -> SomePlan {
     let order = permutation(random, job.wants.len());
     if random.chance(1, 2) {
-        if let Some(plan) = our_plan(job, &order) {
+        let rule = random.pick(&[TieRule::Lowest, TieRule::Highest]);
+        if let Some(plan) = plan_by(rule, job, &order) {
             return plan;
         }
     }
@@ -1209,7 +1264,7 @@ fn longest_made(random: &mut Random) -> (Job, SomePlan) {
     let each = random.between(1, 4);
     let job = longest_job(random, each);
     let listed: Vec<u16> = (0..256).collect();
-    let plan = our_plan(&job, &listed).expect("its tests fit");
+    let plan = plan_by(TieRule::Highest, &job, &listed).expect("its tests fit");
     assert_eq!(plan.bytes().len(), PLAN_MADE);
     (job, plan)
 }

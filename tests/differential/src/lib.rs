@@ -1,12 +1,14 @@
 //! An independent implementation of the curve planner's papers (`reference`) and of the small public
-//! functions below it (`parts`), two fast ones for the benchmark (`tuned`, and in C `fast`), random
-//! inputs (`generate`) and the library under test (`product`, only with the feature of that name).
+//! functions below it (`parts`), where its tie rule matters (`ties`), two fast implementations for the
+//! benchmark (`tuned`, and in C `fast`), random inputs (`generate`) and the library under test
+//! (`product`, only with the feature of that name).
 
 pub mod fast;
 pub mod generate;
 pub mod parts;
 pub mod random;
 pub mod reference;
+pub mod ties;
 pub mod tuned;
 
 #[cfg(feature = "product")]

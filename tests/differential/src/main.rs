@@ -8,14 +8,15 @@
 //! other functions are only counted. Ends with 1 at the first difference, with 2 if some outcome
 //! that a function can have was never reached, or something else that is counted: one of method 3's
 //! flips, one of the audit's two kinds of refusal, a kind of end set or of plan's end, a wrong end
-//! set beside another fault, or a length on its bound.
+//! set beside another fault, a length on its bound, or a kind of tie that the tie rule decides.
 
 use differential::generate::{
     self, Case, Ending, SetFunction, ENDINGS, FUNCTIONS, PLAN_MADE, SHEET,
 };
 use differential::parts::{self, GroupRead};
 use differential::random::{mix, Random};
-use differential::reference::{self, Refusal, Refused};
+use differential::reference::{self, PlannedJob, Refusal, Refused};
+use differential::ties;
 use differential::tuned;
 use std::collections::BTreeMap;
 use std::env;
@@ -515,6 +516,10 @@ fn run(case: &Case, random: &mut Random, subjects: &[Box<dyn Subject>]) -> Verdi
             for &end in &new_end {
                 notes.push((PLANNED_ENDS, kind_of_set(end), 1));
             }
+            if let Ok(plan) = &answer {
+                let kinds = ties::kinds(*places, *curves, wants, order, plan);
+                notes.extend(kinds.iter().map(|kind| (PLANNED_TIES, *kind, 1)));
+            }
             for subject in subjects {
                 let mut drops = Lent::new("drops", random, *drops_len, &new_drops);
                 let mut loads = Lent::new("loads", random, *loads_len, &new_loads);
@@ -696,7 +701,8 @@ fn run(case: &Case, random: &mut Random, subjects: &[Box<dyn Subject>]) -> Verdi
             outcome(&answer)
         }
         Case::Call { job, plan_len } => {
-            let answer = reference::call_bytes(job, *plan_len);
+            let planned = reference::planned_job(job);
+            let answer = reference::planned_bytes(&planned, *plan_len);
             let number = match &answer {
                 Ok(bytes) => bytes.len() as u64,
                 Err(no) => no.number * 65_536 + no.figure,
@@ -708,10 +714,14 @@ fn run(case: &Case, random: &mut Random, subjects: &[Box<dyn Subject>]) -> Verdi
                 results.push(found.map(|found| compare(number, found, &[plan.difference()])));
             }
             notes.extend(on_bound(CALL_LENGTHS, &answer));
+            if answer.is_ok() {
+                notes.extend(kinds_of_ties(CALL_TIES, &planned));
+            }
             outcome(&answer)
         }
         Case::Sheet { job, out_len } => {
-            let text = reference::sheet(job);
+            let planned = reference::planned_job(job);
+            let text = reference::planned_sheet(&planned);
             let answer = reference::written(&text, *out_len);
             let number = number_of(&answer, |bytes| bytes.len() as u64);
             let bytes = answer.unwrap_or_default();
@@ -724,6 +734,7 @@ fn run(case: &Case, random: &mut Random, subjects: &[Box<dyn Subject>]) -> Verdi
             if name == "ok" {
                 let ended = text.contains(": end drop ");
                 notes.push((SHEETS, if ended { "end-line" } else { "no-end-line" }, 1));
+                notes.extend(kinds_of_ties(SHEET_TIES, &planned));
             }
             if text.len() == SHEET {
                 let short = *out_len < SHEET;
@@ -908,6 +919,18 @@ fn run(case: &Case, random: &mut Random, subjects: &[Box<dyn Subject>]) -> Verdi
     }
 }
 
+/// The kinds of a planned job's first tie that the tie rule decides.
+fn kinds_of_ties(
+    title: &'static str,
+    planned: &Result<PlannedJob, Refusal>,
+) -> Vec<(&'static str, &'static str, u64)> {
+    let Ok((job, order, plan)) = planned else {
+        return Vec::new();
+    };
+    let kinds = ties::kinds(job.places, job.curves, &job.wants, order, plan);
+    kinds.iter().map(|kind| (title, *kind, 1)).collect()
+}
+
 /// A plan of the longest there are, written or too long for its buffer.
 fn on_bound(
     title: &'static str,
@@ -982,6 +1005,8 @@ const ENDS: [&str; 8] = [
 // The titles of what is counted beside the outcomes.
 const FLIPS_WON: &str = "method 3, comparisons won";
 const PLANNED_ENDS: &str = "plans made, end set";
+/// One plan or two under the two tie rules; if two, the first tie that they decide differently.
+const PLANNED_TIES: &str = "plans made, under the lowest and the highest tie rule";
 const CHECKED_ENDS: &str = "plans checked, end set";
 const CHECKED_TWICE: &str = "plans checked, another end set and refused before";
 const WRITTEN_ENDS: &str = "plans written, end set";
@@ -993,7 +1018,9 @@ const READ_TWICE: &str = "plans read, a faulty end and refused before, or too sh
 const FETCHED_ENDINGS: &str = "steps fetched, end of the bytes";
 const FETCHED_BEHIND: &str = "steps fetched, up to two behind the end step's position";
 const CALL_LENGTHS: &str = "C calls, longest";
+const CALL_TIES: &str = "C calls, under the lowest and the highest tie rule";
 const SHEETS: &str = "sheets";
+const SHEET_TIES: &str = "sheets, under the lowest and the highest tie rule";
 const AUDITED_ENDINGS: &str = "plans audited, end of the bytes";
 /// What an audit refused whose text was written.
 const AUDITS_REFUSED: &str = "audits, refused";
@@ -1004,9 +1031,10 @@ const AUDITS: &str = "audits";
 #[rustfmt::skip]
 fn tables() -> Vec<(&'static str, &'static str, Vec<&'static str>)> {
     let endings = ENDINGS.map(|(_, name)| name);
-    let tables: [(&str, &str, &[&str]); 17] = [
+    let tables: [(&str, &str, &[&str]); 20] = [
         ("order_tests", FLIPS_WON, &FLIPS),
         ("plan_order", PLANNED_ENDS, &SETS),
+        ("plan_order", PLANNED_TIES, &ties::KINDS),
         ("check_plan", CHECKED_ENDS, &ENDS),
         ("check_plan", CHECKED_TWICE, &["5", "8", "10", "12:lengths", "12:step"]),
         ("write_plan", WRITTEN_ENDS, &ENDS),
@@ -1018,7 +1046,9 @@ fn tables() -> Vec<(&'static str, &'static str, Vec<&'static str>)> {
         ("step_bytes", FETCHED_ENDINGS, &endings),
         ("step_bytes", FETCHED_BEHIND, &["end-step", "no-end-step", "refused"]),
         ("plan", CALL_LENGTHS, &LONGEST),
+        ("plan", CALL_TIES, &ties::KINDS),
         ("sheet", SHEETS, &["end-line", "no-end-line", "longest", "longest-short"]),
+        ("sheet", SHEET_TIES, &ties::KINDS),
         ("audit", AUDITED_ENDINGS, &endings),
         ("audit", AUDITS_REFUSED, &["job", "plan"]),
         ("audit", AUDITS, &["every-plan-tried"]),

@@ -550,7 +550,31 @@ pub struct Plan {
     pub count: u64,
 }
 
+/// Which of several curves with equally distant next use is dropped first.
+#[derive(Clone, Copy, Debug, PartialEq, Eq)]
+pub enum TieRule {
+    /// As in document 01, before wish 2.
+    Lowest,
+    /// Our plan's, by wish 2.
+    Highest,
+}
+
+/// Our plan.
 pub fn plan(
+    places: usize,
+    curves: usize,
+    wants: &[u64],
+    order: &[u16],
+    drops_len: usize,
+    loads_len: usize,
+) -> Answer<Plan> {
+    let rule = TieRule::Highest;
+    plan_by(rule, places, curves, wants, order, drops_len, loads_len)
+}
+
+/// The plan under either tie rule.
+pub fn plan_by(
+    rule: TieRule,
     places: usize,
     curves: usize,
     wants: &[u64],
@@ -576,7 +600,7 @@ pub fn plan(
     for (step, wanted) in steps.iter().enumerate() {
         let mut drops = Curves::new();
         while union(&held, wanted).len() > places {
-            let curve = furthest(&held, wanted, &steps[step + 1..]);
+            let curve = furthest(rule, &held, wanted, &steps[step + 1..]);
             held.remove(&curve);
             drops.insert(curve);
         }
@@ -595,23 +619,28 @@ pub fn plan(
     })
 }
 
-/// Of the held curves that the test does not want, the one whose next use is furthest.
-fn furthest(held: &Curves, wanted: &Curves, later: &[Curves]) -> u8 {
-    let next_use = |curve: u8| later.iter().position(|wants| wants.contains(&curve));
-    let mut best: Option<(u8, Option<usize>)> = None;
-    for &curve in held.difference(wanted) {
-        let next = next_use(curve);
-        let further = match (best, next) {
-            (None, _) => true,
-            (Some((_, None)), _) => false,
-            (Some((_, Some(_))), None) => true,
-            (Some((_, Some(so_far))), Some(at)) => at > so_far,
-        };
-        if further {
-            best = Some((curve, next));
-        }
-    }
-    best.expect("a test is never wider than the places here").0
+/// Of the held curves that the test does not want, the one whose next use is furthest; of several
+/// such the one that the tie rule names.
+fn furthest(rule: TieRule, held: &Curves, wanted: &Curves, later: &[Curves]) -> u8 {
+    // How many later steps lie before the next use. Never is further than any.
+    let distance = |curve: u8| {
+        let next = later.iter().position(|wants| wants.contains(&curve));
+        next.unwrap_or(usize::MAX)
+    };
+    let candidates: Vec<(u8, usize)> = held
+        .difference(wanted)
+        .map(|&curve| (curve, distance(curve)))
+        .collect();
+    let most = candidates.iter().map(|candidate| candidate.1).max();
+    let equals = candidates
+        .iter()
+        .filter(|candidate| Some(candidate.1) == most)
+        .map(|candidate| candidate.0);
+    let curve = match rule {
+        TieRule::Lowest => equals.min(),
+        TieRule::Highest => equals.max(),
+    };
+    curve.expect("a test is never wider than the places here")
 }
 
 /// What is held behind these steps, whatever they are: step after step, the drops are taken out and
@@ -929,7 +958,10 @@ pub fn step_bytes(curves: usize, tests: usize, plan: &[u8], position: usize) -> 
 /// Room for every list of a job.
 const LIST: usize = 256;
 
-fn planned_job(job: &[u8]) -> Answer<(Job, Vec<u16>, Plan)> {
+/// A job as read, its order and our plan.
+pub type PlannedJob = (Job, Vec<u16>, Plan);
+
+pub fn planned_job(job: &[u8]) -> Answer<PlannedJob> {
     let job = read_job(job, LIST)?;
     let order = order_tests(job.places, job.curves, job.method, &job.wants, LIST)?;
     let plan = plan(job.places, job.curves, &job.wants, &order, LIST, LIST)?;
@@ -938,12 +970,16 @@ fn planned_job(job: &[u8]) -> Answer<(Job, Vec<u16>, Plan)> {
 
 /// The plan's bytes, or the refusal.
 pub fn call_bytes(job: &[u8], plan_len: usize) -> Answer<Vec<u8>> {
-    let (job, order, plan) = planned_job(job)?;
+    planned_bytes(&planned_job(job), plan_len)
+}
+
+pub fn planned_bytes(planned: &Answer<PlannedJob>, plan_len: usize) -> Answer<Vec<u8>> {
+    let (job, order, plan) = planned.as_ref().map_err(|no| *no)?;
     write_plan(
         job.places,
         job.curves,
         &job.wants,
-        &order,
+        order,
         &plan.drops,
         &plan.loads,
         plan.end,
@@ -981,8 +1017,12 @@ pub fn written(text: &str, out_len: usize) -> Answer<Vec<u8>> {
 }
 
 pub fn sheet(job: &[u8]) -> String {
-    match planned_job(job) {
-        Err(no) => refused_text(&no),
+    planned_sheet(&planned_job(job))
+}
+
+pub fn planned_sheet(planned: &Answer<PlannedJob>) -> String {
+    match planned {
+        Err(no) => refused_text(no),
         Ok((job, order, plan)) => {
             let mut text = format!(
                 "{} tests, {} places, method {}\n",

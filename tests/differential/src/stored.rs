@@ -2,6 +2,7 @@
 
 use crate::generate::{PLAN_MADE, PLAN_READ, SHEET};
 use crate::reference::*;
+use crate::ties::both_plans;
 use std::collections::BTreeSet;
 use std::fs;
 use std::path::PathBuf;
@@ -50,6 +51,20 @@ fn audits() {
         let printed = String::from_utf8(stored("audit", &name, "out")).unwrap();
         assert_eq!(audit_text(&answer), printed, "{name}");
     }
+}
+
+/// The plan that is named ours, and the one of document 01's tie rule, for the same job.
+#[test]
+fn our_plan() {
+    let job = stored("audit", "our_plan", "job");
+    let plan = stored("audit", "our_plan", "plan");
+    assert_eq!(call_bytes(&job, PLAN_MADE), Ok(plan.clone()));
+    assert_eq!(stored("audit", "lowest_on_ties", "job"), job);
+    let (job, order, _) = planned_job(&job).unwrap();
+    let (lowest, _) = both_plans(job.places, job.curves, &job.wants, &order).unwrap();
+    let bytes = plan_bytes(&order, &lowest.drops, &lowest.loads, lowest.end);
+    assert_eq!(stored("audit", "lowest_on_ties", "plan"), bytes);
+    assert_ne!(bytes, plan);
 }
 
 /// All fields, 256 tests, and all eight groups in each record.

@@ -4,7 +4,7 @@ use Prim.Native.Nat.{ℕ, _-_}
 use native.Mathlib.Omega.{arith}
 use borrow.Author.Needs.{needs}
 use denote.Ref.{now}
-use Rattle.bitset.specs.Set.{size}
+use Rattle.bitset.specs.Set.{_∖_, size}
 use Rattle.bitset.proofs.Parts.{in-range}
 use Rattle.drive.specs.Plan.{furthest, victims, dropsFor}
 use Rattle.drive.proofs.Turns.{no-drops}
@@ -52,16 +52,18 @@ returns-3 c =
 
 drop-from-far-requires : tie.Need-drop-from-far-requires
 drop-from-far-requires c κs =
-    let f = c .before .before .before .before .before .before .before .before in
+    let f = c .before .before .before .before .before .before .before .before .before in
     let p = f .before .before .before .before .before .before .before .before .before .before .before .before .pre .1 in
     (f .find-uses .ensures .few, (omega (arith, p .0, f .find-uses .kept .1 .1 .1 .0), omega (arith, p .1, f .find-uses .kept .1 .1 .1 .1 .0)))
 
 returns-4 : tie.Need-returns-4
 returns-4 c =
-    let f = c .before .before .before .before .before .before .before .before .before in
+    let f = c .before .before .before .before .before .before .before .before .before .before in
     let e = f .before .before .before in
     let w = e .before .before in
-    let g = rw (sym (c .before .before .before .without2 .ensures)) at (f .find-uses .ensures) in
+    let unused : c .before .before .before .without2 .result ≡ w .without .result ∖ w .before .before .before .before .before .before .before .args .used =
+    c .before .before .before .without2 .ensures in
+    let g = rw (sym unused) at (f .find-uses .ensures) in
     by-rule w _ (c .drop-from-far .ensures (w .without .result) _ g (omega (arith, w .without .ok)) (omega (arith, e .if2 .left, e .before .size2 .ensures)))
 
 pub drops-with-spec : {M : Type 1} → statement M
