@@ -23,7 +23,7 @@ use Rattle.drive.specs.declared.Sets.{Sets}
 use Rattle.drive.specs.declared.Checked.the-variants.{Ends}
 use Rattle.drive.specs.Steps.{Move, heldAfter, wantsOf, setsOf, loadCount}
 use Rattle.drive.specs.Check.{checkFrom}
-use Rattle.drive.specs.Uses.{later, useBy, nextUse, further}
+use Rattle.drive.specs.Uses.{later, useBy, nextUse, further, notNearer}
 use Rattle.drive.specs.Plan.{chosenBy, furthest, furthestLowest, planFrom}
 use Rattle.drive.proofs.CheckExact.{AllKept, check-exact}
 use Rattle.drive.proofs.Moves.{movesOf, sets-of, length-plan}
@@ -127,7 +127,7 @@ lowest =
     }
 
 -- ties to the highest
-pub highest : TieRule (λ u v. not (further v u))
+pub highest : TieRule notNearer
 highest =
     record {
       trans = λ a b c p q. ap not (further-through a c b (not-true _ q) (not-true _ p));
@@ -191,7 +191,7 @@ module _ (n : ℕ) where
 
   pub good : Good (below n) (furthest n)
   unfolding furthest
-  good = good-by (λ u v. not (further v u)) highest
+  good = good-by notNearer highest
 
   good-lowest : Good (below n) (furthestLowest n)
   unfolding furthestLowest

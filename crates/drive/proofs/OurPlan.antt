@@ -2,7 +2,7 @@
 -- test alone exceeds the capacity.
 use mathlib.Core.Path.{_≡_, refl, sym, ap, _∙_}
 use mathlib.Core.Logic.{_↔_}
-use mathlib.Core.Bool.{Bool, true, false, not, false≢true}
+use mathlib.Core.Bool.{Bool, true, false, false≢true}
 use mathlib.Core.List.{List}
 use Prim.Native.Nat.{ℕ, _-_, _≤_, _<_}
 use native.Mathlib.Omega.{arith}
@@ -13,7 +13,7 @@ use borrow.Author.Tests.{eqb-true, eq-eqb, not-false}
 use Rattle.bitset.specs.Set.{_∪_, _∖_, _∈_, size, bit, below}
 use Rattle.lists.specs.Choice.{Found, nobody, found}
 use Rattle.lists.proofs.Chosen.{Taken, TakenOf}
-use Rattle.drive.specs.Uses.{nextUse, further}
+use Rattle.drive.specs.Uses.{nextUse, further, notNearer}
 use Rattle.drive.specs.Plan.{furthest, victims, dropsFor}
 use Rattle.bitset.proofs.Laws.{size-∪}
 use Rattle.bitset.proofs.Parts.{_≼_, same-size}
@@ -30,19 +30,18 @@ module _ (n cs : ℕ) (ws : List ℕ) (own : cs ≼ below n) where
   abbrev candidate? : ℕ → Bool
   candidate? c = eqb (bit c cs) 1
 
-  -- a curve takes the place of a lower one
-  abbrev takes? : ℕ → ℕ → Bool
-  takes? b c = not (further (nextUse c ws) (nextUse b ws))
+  abbrev not-nearer? : ℕ → ℕ → Bool
+  not-nearer? b c = notNearer (nextUse b ws) (nextUse c ws)
 
-  taken : TakenOf candidate? takes? n (furthest n cs ws)
+  taken : TakenOf candidate? not-nearer? n (furthest n cs ws)
   unfolding furthest
-  taken = taken-by n (λ u v. not (further v u)) highest cs ws
+  taken = taken-by n notNearer highest cs ws
 
-  found-victim : (v : ℕ) → Taken candidate? takes? n v → Victim cs ws v
+  found-victim : (v : ℕ) → Taken candidate? not-nearer? n v → Victim cs ws v
   found-victim v t =
       record {
         candidate = eqb-true (bit v cs) 1 (t .fair);
-        furthest-use = none-further n (λ u v. not (further v u)) highest cs v ws own t;
+        furthest-use = none-further n notNearer highest cs v ws own t;
         highest-tie = λ c l m. not-false _ (t .behind c (below-n n cs own c m) l (eq-eqb (bit c cs) 1 m));
       }
 
@@ -59,7 +58,7 @@ module _ (n cs : ℕ) (ws : List ℕ) (own : cs ≼ below n) where
   pub victim-exact : (v : ℕ) → furthest n cs ws ≡ found v ↔ Victim cs ws v
   victim-exact v = ((λ e. found-victim v (rw e at taken)), back (furthest n cs ws) refl taken)
     where
-      back : (b : Found ℕ) → furthest n cs ws ≡ b → TakenOf candidate? takes? n b → Victim cs ws v → furthest n cs ws ≡ found v
+      back : (b : Found ℕ) → furthest n cs ws ≡ b → TakenOf candidate? not-nearer? n b → Victim cs ws v → furthest n cs ws ≡ found v
       back nobody e b t = absurd (false≢true (sym (b v (below-n n cs own v (t .candidate))) ∙ eq-eqb (bit v cs) 1 (t .candidate)))
       back (found u) e b t = e ∙ ap found (one-victim u v (found-victim u b) t)
 

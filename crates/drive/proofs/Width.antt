@@ -1,6 +1,6 @@
 -- Our plan is the same whether the victim is looked for among the job's curves or among all numbers below a larger bound.
 use mathlib.Core.Path.{_≡_, refl, ap}
-use mathlib.Core.Bool.{Bool, not}
+use mathlib.Core.Bool.{Bool}
 use mathlib.Core.List.{List, [], _∷_}
 use Prim.Native.Nat.{ℕ, zero, suc, _+_, _-_, _^_, _≤_, _<_}
 use native.Mathlib.Omega.{arith}
@@ -15,7 +15,7 @@ use Rattle.lists.specs.Choice.{Found, nobody, found, bestOf}
 use Rattle.lists.proofs.Chosen.{best-skip}
 use Rattle.drive.specs.declared.Sets.{Sets}
 use Rattle.drive.specs.Steps.{moved}
-use Rattle.drive.specs.Uses.{nextUse, further}
+use Rattle.drive.specs.Uses.{nextUse, notNearer}
 use Rattle.drive.specs.Plan.{chosenBy, furthest, andThen, victims, dropsFor, next, planFrom}
 
 -- no candidate from n on
@@ -29,7 +29,7 @@ module _ (n m : ℕ) (wider : n ≤ m) where
   furthest-width : (cs : ℕ) (ws : List ℕ) → cs < 2 ^ n → furthest m cs ws ≡ furthest n cs ws
   unfolding furthest chosenBy
   furthest-width cs ws h =
-      skip (λ x y. not (further (nextUse y ws) (nextUse x ws))) cs n m wider (λ c l u. bit-beyond c cs (omega (arith, pow-mono l)))
+      skip (λ x y. notNearer (nextUse x ws) (nextUse y ws)) cs n m wider (λ c l u. bit-beyond c cs (omega (arith, pow-mono l)))
 
   victims-width : (e cs : ℕ) (ws : List ℕ) → cs < 2 ^ n → victims (furthest m) e cs ws ≡ victims (furthest n) e cs ws
   unfolding victims

@@ -1,5 +1,5 @@
 -- "Our plan": the choice of the drops, one step, and all steps.
-use mathlib.Core.Bool.{Bool, not}
+use mathlib.Core.Bool.{Bool}
 use mathlib.Core.List.{List, [], _∷_}
 use Prim.Native.Nat.{ℕ, zero, suc, _-_, _^_}
 use lib.Dec.{eqb}
@@ -8,7 +8,7 @@ use Rattle.lists.specs.Choice.{Found, nobody, found, bestOf}
 use Rattle.drive.specs.declared.choice.NextUse.{NextUse}
 use Rattle.drive.specs.declared.Sets.{Sets}
 use Rattle.drive.specs.Steps.{moved}
-use Rattle.drive.specs.Uses.{nextUse, further}
+use Rattle.drive.specs.Uses.{nextUse, further, notNearer}
 
 -- of the candidates cs among n curves, one after the other from the lowest: each takes the place of the one before it where `takes` says so, by its own next use
 -- and that of the other
@@ -16,9 +16,9 @@ unfoldable pub chosenBy : (NextUse → NextUse → Bool) → ℕ → ℕ → Lis
 chosenBy takes n cs ws = bestOf (λ c. eqb (bit c cs) 1) (λ b c. takes (nextUse b ws) (nextUse c ws)) (λ c. c) n nobody
 
 -- "the curve whose next use in a later step is furthest"; 02, wish 2: "Of curves with equally distant next use the highest number is dropped": a curve takes the
--- place of a lower one unless the lower one's next use is further
+-- place of a lower one where its next use is not nearer
 unfoldable pub furthest : ℕ → ℕ → List ℕ → Found ℕ
-furthest = chosenBy (λ u v. not (further v u))
+furthest = chosenBy notNearer
 
 -- 01's rule, which wish 2 replaced: "Ties go to the lowest curve number": only where its own next use is further. The statement that load counts are the same
 -- "under either tie rule" speaks of it, and nothing else.

@@ -1,6 +1,6 @@
 -- "its next use, which is a later step or never", of the wants ws of the later steps. `At 0` is the step after the present one. `NextUse` is declared in the
 -- code.
-use mathlib.Core.Bool.{Bool, true, false}
+use mathlib.Core.Bool.{Bool, true, false, not}
 use mathlib.Core.List.{List, [], _∷_}
 use Prim.Native.Nat.{ℕ, zero, suc}
 use lib.Dec.{ltb}
@@ -29,3 +29,7 @@ further Never Never = false
 further Never (At n) = true
 further (At m) Never = false
 further (At m) (At n) = ltb n m
+
+-- as far, or further
+abbrev pub notNearer : NextUse → NextUse → Bool
+notNearer u v = not (further v u)
