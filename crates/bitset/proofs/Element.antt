@@ -7,7 +7,7 @@ use native.Mathlib.Decide.{ℕ-discrete, decLe}
 use native.Mathlib.Omega.{arith}
 use lib.Bits.{and-comm, and-self, and-step}
 use lib.Count.{ones, ones-step, trailingZeros, under}
-use lib.Pow.{pow-add, pow-lt, pow-mono, shl-exact}
+use lib.Pow.{pow-add, pow-lt, pow-mono, pow-pos, shl-exact}
 use Rattle.bitset.specs.Set.{_∩_, _∪_, _∖_, _∈_, _⊆_, size, bit}
 use Rattle.bitset.proofs.Bits.{bit-zero, bit-suc, bit-single, bit-other, bit-empty, bit-beyond, bitwise, half-pow, same-by-bits, size-empty}
 use Rattle.bitset.proofs.Laws.{⊆-bits, ⊆-by-bits, ⊆-le, size-split, size-disjoint}
@@ -35,6 +35,9 @@ pub ∈-lt : (k W s : ℕ) → k ∈ s → s < 2 ^ W → k < W
     below : Dec (W ≤ k) → k < W
     below (yes g) = omega (arith, ∈-le k s h, pow-mono g)
     below (no g) = omega arith
+
+pub ∈-pos : (k s : ℕ) → k ∈ s → 0 < s
+∈-pos k s h = omega (arith, ∈-le k s h, pow-pos k)
 
 -- an element taken out
 pub remove : (k s : ℕ) → k ∈ s → s ∖ 2 ^ k ≡ s - 2 ^ k
@@ -66,6 +69,13 @@ lowest-least (suc W) s j h = at (lowest-least W (s / 2)) (s % 2) j refl h
     at ih zero zero e l = bit-zero s ∙ e
     at ih zero (suc j) e l = bit-suc j s ∙ ih j (omega arith)
     at ih (suc d) j e l = omega arith
+
+pub lowest-le : (W s k : ℕ) → k ∈ s → trailingZeros W s ≤ k
+lowest-le W s k i = go (decLe (trailingZeros W s) k)
+  where
+    go : Dec (trailingZeros W s ≤ k) → trailingZeros W s ≤ k
+    go (yes h) = h
+    go (no h) = absurd (omega (arith, lowest-least W s k (omega arith)))
 
 -- it is an element
 pub lowest-in : (W s : ℕ) → 0 < s → s < 2 ^ W → trailingZeros W s ∈ s

@@ -220,8 +220,8 @@ module _ (n : ℕ) where
       furthest-least = count-least (below n) (furthest n) good capacity h ws start own
 
       -- and so is that under 01's tie rule
-      lowest-least : Least capacity (below n) h ws (loadCount (planFrom (furthestLowest n) capacity h ws))
-      lowest-least = count-least (below n) (furthestLowest n) good-lowest capacity h ws start own
+      furthest-lowest-least : Least capacity (below n) h ws (loadCount (planFrom (furthestLowest n) capacity h ws))
+      furthest-lowest-least = count-least (below n) (furthestLowest n) good-lowest capacity h ws start own
 
 -- WISH 2, "Load counts are proved the same under either tie rule": for every list of sets of n curves, whatever of them is held at first, and every capacity,
 -- also one that a step's wants exceed
@@ -230,4 +230,4 @@ pub either-tie : (n capacity h : ℕ) (ws : List ℕ) → h < 2 ^ n → ((i : �
 either-tie n capacity h ws start own =
     let s = in-range n h start in
     let o : (i : ℕ) → i < length ws → getD ws i 0 ≼ below n = λ i l. in-range n (getD ws i 0) (own i l) in
-    least-same (lowest-least n capacity h s ws o) (furthest-least n capacity h s ws o)
+    least-same (furthest-lowest-least n capacity h s ws o) (furthest-least n capacity h s ws o)

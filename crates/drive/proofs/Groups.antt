@@ -10,7 +10,7 @@ use lib.Seq.{getD-set-same, getD-set-other}
 use Rattle.bitset.specs.Set.{_∩_, _∪_, _∖_, size, bit}
 use Rattle.bitset.proofs.Bits.{bit-∩, bit-∪, bit-∖, bit-empty, bit-other, same-by-bits, size-empty, sizes-eq}
 use Rattle.bitset.proofs.Laws.{∖-∖}
-use Rattle.bitset.proofs.Element.{some, size-insert}
+use Rattle.bitset.proofs.Element.{some, size-insert, ∈-pos}
 use Rattle.bitset.proofs.Parts.{_≼_, empty-≼, without-≼, single-≼, positive, in-range}
 use Rattle.drive.specs.declared.choice.NextUse.{NextUse}
 use Rattle.drive.specs.declared.choice.NextUse.the-variants.{At, Never}
@@ -47,10 +47,6 @@ without-none s = same-by-bits (s ∖ 0) s (λ c. omega (arith, bit-∖ c s 0, bi
 
 other : (l : List ℕ) (j m x : ℕ) → j < m → getD (set l m x) j 0 ≡ getD l j 0
 other l j m x h = getD-set-other l m j x 0 (λ e. omega arith)
-
-element : (c s : ℕ) → bit c s ≡ 1 → 0 < s
-element c zero h = absurd (omega (arith, bit-empty c))
-element c (suc s) h = omega arith
 
 -- nothing is found yet: the candidates that are used again are left
 pub grouped-start : (cs used : ℕ) (groups when ws : List ℕ) → used ≡ together ws → Grouped (cs ∖ (cs ∩ used)) (cs ∖ used) 0 groups when ws
@@ -121,7 +117,7 @@ module _ {cs unused m : ℕ} {groups when ws : List ℕ} (g : Grouped cs unused 
         found c i u zero e =
             let o = g .all c (omega (arith, bit-∪ c cs hit)) u in
             (o .0, omega (arith, o .1, reach), rw (other groups (o .0) m hit (o .1)) (o .2))
-        found c i u (suc b) e = (m, omega (arith, more (element c hit (omega arith))), rw new-set (omega arith))
+        found c i u (suc b) e = (m, omega (arith, more (∈-pos c hit (omega arith))), rw new-set (omega arith))
 
         order : (i j : ℕ) → i < j → (j < m) ⊎ ((j ≡ m) × (0 < hit)) → getD (set when m k) i 0 < getD (set when m k) j 0
         order i j l (inl h) = rw (other when i m k (omega arith), other when j m k h) (g .rising i j l h)
@@ -153,7 +149,7 @@ module _ {cs unused found : ℕ} {groups when ws : List ℕ} (g : Grouped cs unu
       where
         go : (c : ℕ) → bit c (cs ∖ chosen) ≡ 1 → (b : ℕ) → bit c unused ≡ b → 0 < unused ∖ chosen
         go c i zero e = absurd (omega (arith, in-group c i e .1))
-        go c i (suc b) e = element c (unused ∖ chosen) (omega (arith, bit-∖ c unused chosen, bit-∖ c cs chosen))
+        go c i (suc b) e = ∈-pos c (unused ∖ chosen) (omega (arith, bit-∖ c unused chosen, bit-∖ c cs chosen))
 
     -- the first of those never used
     never-goes : (r : Candidate) → GoesFirst ws (unused ∖ chosen) r → GoesFirst ws (cs ∖ chosen) r

@@ -17,6 +17,7 @@ pub data Holds (room : ℕ → ℕ) (all : ℕ) : List ℕ → List ℕ → Type
   none : Holds room all [] []
   step : {w k : ℕ} {ws ks : List ℕ} → w ≼ k → k ≼ all → size k ≤ room w → Holds room all ws ks → Holds room all (w ∷ ws) (k ∷ ks)
 
+-- with more room
 pub wider : {room more : ℕ → ℕ} {all : ℕ} {ws ks : List ℕ} → ((w : ℕ) → room w ≤ more w) → Holds room all ws ks → Holds more all ws ks
 wider l none = none
 wider l (step {w = w} i j s r) = step i j (omega (arith, l w)) (wider l r)

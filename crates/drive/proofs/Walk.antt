@@ -1,12 +1,12 @@
 -- A walk over a set from its lowest element on, which is taken out each time: all that is passed is lower than all that is left.
 use mathlib.Core.Path.{_≡_, refl, ap}
-use Prim.Native.Nat.{ℕ, zero, suc, _^_, _≤_, _<_}
+use Prim.Native.Nat.{ℕ, zero, suc, _+_, _^_, _≤_, _<_}
 use native.Mathlib.Omega.{arith}
-use native.Mathlib.Decide.{ℕ-discrete, decLe}
+use native.Mathlib.Decide.{ℕ-discrete}
 use lib.Count.{trailingZeros}
-use Rattle.bitset.specs.Set.{_∖_, bit}
+use Rattle.bitset.specs.Set.{_∖_, size, bit}
 use Rattle.bitset.proofs.Bits.{bit-∖, bit-other, bit-empty}
-use Rattle.bitset.proofs.Element.{lowest-least, lowest-in}
+use Rattle.bitset.proofs.Element.{lowest-le, lowest-in, size-remove}
 use Rattle.bitset.proofs.Parts.{_≼_, rest-same}
 
 -- of the set `same`, `left` is left
@@ -20,13 +20,7 @@ walk-start s = record { part = λ c. omega arith; lower = λ c d i n. absurd (om
 abbrev lowest : ℕ → ℕ
 lowest = trailingZeros 64
 
-lowest-le : (s c : ℕ) → bit c s ≡ 1 → lowest s ≤ c
-lowest-le s c i = go (decLe (lowest s) c)
-  where
-    go : Dec (lowest s ≤ c) → lowest s ≤ c
-    go (yes h) = h
-    go (no h) = absurd (omega (arith, lowest-least 64 s c (omega arith)))
-
+-- the lowest is passed
 pub walk-on : (same left : ℕ) → Walked same left → Walked same (left ∖ 2 ^ lowest left)
 walk-on same left w =
     let v = lowest left in
@@ -35,9 +29,12 @@ walk-on same left w =
     go : (c d : ℕ) → bit c same ≡ 1 → bit c (left ∖ 2 ^ lowest left) ≡ 0 → bit d (left ∖ 2 ^ lowest left) ≡ 1 → Dec (c ≡ lowest left)
         → Dec (d ≡ lowest left) → c < d
     go c d i n m e (yes f) = absurd (omega (arith, rest-same (lowest left) left, ap (λ (x : ℕ). bit x (left ∖ 2 ^ lowest left)) f))
-    go c d i n m (yes e) (no f) = omega (arith, lowest-le left d (omega (arith, bit-∖ d left (2 ^ lowest left))))
+    go c d i n m (yes e) (no f) = omega (arith, lowest-le 64 left d (omega (arith, bit-∖ d left (2 ^ lowest left))))
     go c d i n m (no e) (no f) =
         w .lower c d i (omega (arith, bit-∖ c left (2 ^ lowest left), bit-other c (lowest left) e)) (omega (arith, bit-∖ d left (2 ^ lowest left)))
+
+pub walk-size : (left : ℕ) → 0 < left → left < 2 ^ 64 → size (left ∖ 2 ^ lowest left) + 1 ≡ size left
+walk-size left p h = size-remove (lowest left) left (lowest-in 64 left p h)
 
 -- one is left: it is the highest
 pub walk-end : (same left : ℕ) → Walked same left → left ∖ 2 ^ lowest left ≡ 0 → 0 < left → left < 2 ^ 64

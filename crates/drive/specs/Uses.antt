@@ -30,6 +30,6 @@ further Never (At n) = true
 further (At m) Never = false
 further (At m) (At n) = ltb n m
 
--- as far, or further
+-- wish 2's "equally distant", or further
 abbrev pub notNearer : NextUse → NextUse → Bool
 notNearer u v = not (further v u)

@@ -1,15 +1,14 @@
--- `left_after` meets its contract. The invariant: all that the walk passed is lower than all that is left, and as many are left as go and are still to be passed.
+-- `left_after` meets its contract. The invariant: all that the walk passed is lower than all that is left, and as many are left as go and as it has still to
+-- pass.
 use Prim.Native.Nat.{ℕ, _+_, _^_, _≤_, _<_}
-use mathlib.Core.Path.{_≡_, ap}
+use mathlib.Core.Path.{_≡_}
 use mathlib.Core.List.{[], _∷_}
 use native.Mathlib.Omega.{arith}
 use borrow.Author.Needs.{needs}
-use lib.Count.{trailingZeros}
 use Rattle.bitset.specs.Set.{_∖_, size, bit}
 use Rattle.bitset.proofs.Bits.{bit-∖, sizes-eq}
-use Rattle.bitset.proofs.Element.{lowest-in, size-remove}
 use Rattle.bitset.proofs.Parts.{positive}
-use Rattle.drive.proofs.Walk.{Walked, walk-start, walk-on}
+use Rattle.drive.proofs.Walk.{Walked, walk-start, walk-on, walk-size}
 use Rattle.drive.proofs.choice.left_after.Statement.{statement}
 use Rattle.drive.proofs.choice.left_after.Tie as tie
 
@@ -22,15 +21,18 @@ abbrev μ-loop : tie.MeasureT-loop
 loop-holds : tie.Need-loop-holds Inv-loop μ-loop
 loop-holds c = record { walked = walk-start _; count = omega (arith, c .size .ensures, c .before .pre); range = search needs }
 
+n-fits : tie.Need-sub-n Inv-loop μ-loop
+n-fits c = omega (arith, c .size .ensures, c .before .pre)
+
 loop-again : tie.Need-loop-again Inv-loop μ-loop
 loop-again c =
     let q = c .before .before .loop in
     let n = c .before .loop-test .taken in
-    let v = lowest-in 64 (q .go) (positive (q .go) (omega (arith, q .inv .count))) (q .inv .range) in
+    let fewer = walk-size (q .go) (positive (q .go) (omega (arith, q .inv .count))) (q .inv .range) in
     rw (c .without-lowest .ensures)
     record {
       walked = walk-on _ (q .go) (q .inv .walked);
-      count = omega (arith, q .inv .count, size-remove (trailingZeros 64 (q .go)) (q .go) v);
+      count = omega (arith, q .inv .count, fewer);
       range = omega (arith, q .inv .range);
     }
 
@@ -50,4 +52,4 @@ returns c =
 
 pub left-after-spec : {M : Type 1} → statement M
 left-after-spec =
-    tie.close (tie.spec Inv-loop μ-loop (λ c κs. tt) (λ c. omega (arith, c .size .ensures, c .before .pre)) loop-holds (λ c κs. tt) (λ c. search needs) (λ c. search needs) loop-again (λ c κs. tt) returns)
+    tie.close (tie.spec Inv-loop μ-loop (λ c κs. tt) n-fits loop-holds (λ c κs. tt) (λ c. search needs) (λ c. search needs) loop-again (λ c κs. tt) returns)
