@@ -1,6 +1,6 @@
 /*
- * The rig's curve planner. The formats, the orders, the plan and the refusals are those of document 01, with the end step and the tie rule of document 02
- * (wishes 1 and 2).
+ * The rig's curve planner. The formats, the orders, the plan and the refusals are those of document 01, with the end step, the tie rule and the list without
+ * tests of document 02 (wishes 1 to 3).
  *
  * One call goes from a job's bytes to its plan's bytes: curveplan_plan, in the archive libcurveplan.a. The other functions take the steps between one by one,
  * and are in libexports.a; the smaller parts of these are declared in curveplan_parts.h.
@@ -9,13 +9,14 @@
  * - A set of curves is a 64-bit number, with bit k for curve k. Tests and curves are numbered from 0. A list of wants has an entry for each test; drops and
  *   loads have an entry for each step, and an order names each step's test. A plan's end set is one set beside them: the curves that are dropped behind the
  *   last test, 0 for none.
+ * - A job has 0 to 256 tests. Without tests its order and its lists are empty, its load count and its end set are 0, and its plan has no bytes.
  * - All lists and buffers belong to the caller. Nothing is kept of them after the call, and what is `const` is only read.
  * - Under a refusal nothing lent changes. On success the entries behind the result keep their contents.
  * - The first condition that is met is the one that is answered; the refusals of a function are listed in the order in which they are asked.
  * - Nothing is allocated, no state is kept, and nothing outside the library is called but memcpy and memset: the functions may run in several threads at once
  *   on lists of their own.
- * - Outside the contract: null pointers (for no entries hand over any valid address with length 0), lists that overlap, lengths beyond what stands at the
- *   addresses.
+ * - Outside the contract: null pointers (for no entries, as in the lists of a job without tests, hand over any valid address with length 0), lists that
+ *   overlap, lengths beyond what stands at the addresses.
  */
 #ifndef CURVEPLAN_H
 #define CURVEPLAN_H
@@ -34,14 +35,16 @@ extern "C" {
 #define CURVEPLAN_SHEET_BYTES 105000 /* a sheet */
 #define CURVEPLAN_AUDIT_BYTES 128    /* an audit */
 
-/* The refusals. Behind each stand the calls that can answer it; `plan` alone is curveplan_plan. */
+/*
+ * The refusals. Behind each stand the calls that can answer it; `plan` alone is curveplan_plan.
+ * The number 5 was withdrawn, as a job may have no tests, and is not used again.
+ */
 enum curveplan_refusal {
     CURVEPLAN_TRUNCATED = 1,        /* the job ends where a byte is still owed; figure: its length (plan, read_job) */
     CURVEPLAN_BAD_HEADER = 2,       /* bit 4 to 7 of the map stands, or a field is out of range or at its absent value; figure: its offset (plan, read_job) */
     CURVEPLAN_EMPTY_GROUP = 3,      /* a group byte is zero; figure: its offset (plan, read_job) */
     CURVEPLAN_UNKNOWN_CURVE = 4,    /* a group byte names a curve that the job lacks; figure: its offset (plan, read_job) */
-    CURVEPLAN_NO_TESTS = 5,         /* there are no tests; figure: 0 (plan, read_job, write_job, order_tests, plan_order, check_plan, write_plan, read_plan) */
-    CURVEPLAN_TRAILING_BYTES = 6,   /* bytes behind the last record; figure: the offset of the first (plan, read_job) */
+    CURVEPLAN_TRAILING_BYTES = 6,   /* bytes behind the last record, or behind the head without tests; figure: the offset of the first (plan, read_job) */
     CURVEPLAN_TEST_TOO_LARGE = 7,   /* a test wants more curves than there are places; figure: the lowest such test (plan, order_tests, plan_order) */
     CURVEPLAN_BAD_ORDER = 8,        /* figure: the first position with a number out of range or seen before, or the first missing or surplus position, the
                                        smaller (plan_order, check_plan, write_plan) */
@@ -63,7 +66,7 @@ enum curveplan_refusal {
  * equals. The plan ends with an empty drive: where something is held behind the last test, an end step drops it.
  *
  * Answers
- *   below 65,536      the count of plan bytes written, at most 5,121
+ *   below 65,536      the count of plan bytes written, at most 5,121; 0 exactly for a job without tests
  *   65,536 and above  a refusal: its number × 65,536 plus its figure. Take it apart by the three functions below
  *
  * Refusals: those of curveplan_read_job but 9; 7; 9 with the count of the bytes. It takes less than 25 kB of stack.
@@ -87,7 +90,7 @@ static inline uint64_t curveplan_figure_48(uint64_t answer) { return answer & 0x
 
 /* The head of a job. */
 struct curveplan_job {
-    uint64_t answer; /* the number of tests, or the refusal; under a refusal the four numbers are 0 */
+    uint64_t answer; /* the number of tests, 0 to 256, or the refusal; under a refusal the four numbers are 0 */
     size_t places;
     size_t curves;
     size_t tests;
@@ -96,48 +99,48 @@ struct curveplan_job {
 
 /*
  * Reads a job's bytes. The wants of its tests go to `wants`.
- * Refusals: in byte order of the head 1 and 2; 5; in byte order of the records 1, 3 and 4; 6; 9 with the number of tests.
+ * Refusals: in byte order of the head 1 and 2; in byte order of the records 1, 3 and 4; 6; 9 with the number of tests.
  */
 struct curveplan_job curveplan_read_job(const uint8_t *job, size_t job_len, uint64_t *wants, size_t wants_len);
 
 /*
  * Writes a job's bytes to `out`, and answers their count.
- * Refusals: 5; 10; 9 with the count of the bytes.
+ * Refusals: 10; 9 with the count of the bytes.
  */
 uint64_t curveplan_write_job(size_t places, size_t curves, size_t method, const uint64_t *wants, size_t tests, uint8_t *out, size_t out_len);
 
 /*
  * Orders the tests: method 0 as listed, 1 reverse Cuthill-McKee, 2 spanning tree, 3 packages. The tests' numbers go to `order`; answers how many they are.
- * Refusals: 5; 10; 7; 9 with the number of tests.
+ * Refusals: 10; 7; 9 with the number of tests.
  */
 uint64_t curveplan_order_tests(size_t places, size_t curves, size_t method, const uint64_t *wants, size_t tests, uint16_t *order, size_t order_len);
 
 /*
  * Plans an order of the tests. The drops and loads of each step go to `drops` and `loads`, and the end set to `*end`; answers the load count. No plan for this
  * order that ends with an empty drive has fewer loads.
- * Refusals: 5; 10; 8; 7; 9 with the number of tests.
+ * Refusals: 10; 8; 7; 9 with the number of tests.
  */
 uint64_t curveplan_plan_order(size_t places, size_t curves, const uint64_t *wants, size_t tests, const uint16_t *order, size_t order_len, uint64_t *drops,
                               size_t drops_len, uint64_t *loads, size_t loads_len, uint64_t *end);
 
 /*
  * Checks a plan from anywhere, with its end set, and answers its load count.
- * Refusals: 5; 10; 8; 12.
+ * Refusals: 10; 8; 12.
  */
 uint64_t curveplan_check_plan(size_t places, size_t curves, const uint64_t *wants, size_t tests, const uint16_t *order, size_t order_len,
                               const uint64_t *drops, size_t drops_len, const uint64_t *loads, size_t loads_len, uint64_t end);
 
 /*
  * Writes a plan that passes the check to `out` as plan bytes, and answers their count. An end set of 0 has no bytes.
- * Refusals: 5; 10; 8; 12; 9 with the count of the bytes.
+ * Refusals: 10; 8; 12; 9 with the count of the bytes.
  */
 uint64_t curveplan_write_plan(size_t places, size_t curves, const uint64_t *wants, size_t tests, const uint16_t *order, size_t order_len,
                               const uint64_t *drops, size_t drops_len, const uint64_t *loads, size_t loads_len, uint64_t end, uint8_t *out, size_t out_len);
 
 /*
  * Reads the plan bytes of a job with so many curves and tests. Each step's test, drops and loads go to the three lists, and the end set to `*end`, 0 where
- * there is no end step; answers the number of tests. That the plan passes the check is not asked.
- * Refusals: 5; 10; 11; 9 with the number of tests.
+ * there is no end step; answers the number of tests. That the plan passes the check is not asked: with 0 tests an end step alone reads too.
+ * Refusals: 10; 11; 9 with the number of tests.
  */
 uint64_t curveplan_read_plan(size_t curves, size_t tests, const uint8_t *plan, size_t plan_len, uint16_t *order, size_t order_len, uint64_t *drops,
                              size_t drops_len, uint64_t *loads, size_t loads_len, uint64_t *end);
@@ -150,7 +153,7 @@ struct curveplan_part {
 
 /*
  * Where the bytes of the step at a position lie in `plan`; the position of the end step is the number of tests. Where the plan has no such step, does not read,
- * or is handed with counts out of range, it is the empty part at the end: start `plan_len`, count 0. It refuses nothing.
+ * or is handed with counts out of range (curves 1 to 64, tests 0 to 256), it is the empty part at the end: start `plan_len`, count 0. It refuses nothing.
  */
 struct curveplan_part curveplan_step_bytes(size_t curves, size_t tests, const uint8_t *plan, size_t plan_len, size_t position);
 

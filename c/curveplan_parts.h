@@ -13,13 +13,13 @@ extern "C" {
 
 /* ---- examinations: 0 where everything is passed, else the refusal, to be taken apart by curveplan_number_48 and curveplan_figure_48 */
 
-/* 5 and 10, of places, curves and wants: what planning, checking and writing a plan ask first. */
+/* 10, of places, curves and wants: what planning, checking and writing a plan ask first. */
 uint64_t curveplan_examine(size_t places, size_t curves, const uint64_t *wants, size_t tests);
 
-/* 5 and 10, of places, curves, method and wants: what ordering and writing a job ask first. */
+/* 10, of places, curves, method and wants: what ordering and writing a job ask first. */
 uint64_t curveplan_examine_by(size_t places, size_t curves, size_t method, const uint64_t *wants, size_t tests);
 
-/* 5 and 10, of curves and a number of tests: what reading a plan asks first. */
+/* 10, of curves and a number of tests: what reading a plan asks first. */
 uint64_t curveplan_examine_counts(size_t curves, size_t tests);
 
 /* 7: a test that wants more curves than there are places. */

@@ -34,12 +34,13 @@ int main(void)
 {
     static const uint8_t a[] = {0x07, 0x02, 0x04, 0x04, 0x00, 0x01, 0x03, 0x01, 0x06, 0x01, 0x03, 0x01, 0x08};
     static const uint8_t no_wants[] = {0x04, 0x01, 0x00, 0x00};
+    static const uint8_t empty_list[] = {0x00};
     static const uint8_t three_curves[] = {0x05, 0x02, 0x01, 0x00, 0x01, 0x07};
     static const uint8_t bad_field[] = {0x01, 0x08};
     static const uint8_t empty_group[] = {0x04, 0x01, 0x00, 0x01, 0x00};
     static const uint8_t unknown_curve[] = {0x06, 0x04, 0x01, 0x00, 0x01, 0x10};
-    static const uint8_t no_tests[] = {0x00};
     static const uint8_t surplus[] = {0x04, 0x01, 0x00, 0x00, 0x00};
+    static const uint8_t empty_list_surplus[] = {0x00, 0xff};
     static const char *method[] = {"method 1", "method 2", "method 3"};
 
     plan("job A", a, sizeof a, CURVEPLAN_PLAN_BYTES);
@@ -53,13 +54,15 @@ int main(void)
         plan(method[m - 1], b, sizeof b, CURVEPLAN_PLAN_BYTES);
     }
     plan("no wants", no_wants, sizeof no_wants, CURVEPLAN_PLAN_BYTES);
+    plan("empty list", empty_list, sizeof empty_list, CURVEPLAN_PLAN_BYTES);
+    plan("empty list, no room", empty_list, sizeof empty_list, 0);
     plan("no bytes", a, 0, CURVEPLAN_PLAN_BYTES);
     plan("cut", a, sizeof a - 1, CURVEPLAN_PLAN_BYTES);
     plan("places at their absent value", bad_field, sizeof bad_field, CURVEPLAN_PLAN_BYTES);
     plan("empty group", empty_group, sizeof empty_group, CURVEPLAN_PLAN_BYTES);
     plan("unknown curve", unknown_curve, sizeof unknown_curve, CURVEPLAN_PLAN_BYTES);
-    plan("no tests", no_tests, sizeof no_tests, CURVEPLAN_PLAN_BYTES);
     plan("a byte behind the last record", surplus, sizeof surplus, CURVEPLAN_PLAN_BYTES);
+    plan("a byte behind an empty list", empty_list_surplus, sizeof empty_list_surplus, CURVEPLAN_PLAN_BYTES);
     plan("three curves, two places", three_curves, sizeof three_curves, CURVEPLAN_PLAN_BYTES);
     return 0;
 }

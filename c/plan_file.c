@@ -1,4 +1,7 @@
-/* Reads a job's bytes from standard input and writes its plan's bytes to standard output. A refusal goes to standard error, and the exit status is 1. */
+/*
+ * Reads a job's bytes from standard input and writes its plan's bytes to standard output: none for a job without tests. A refusal goes to standard error, and
+ * the exit status is 1.
+ */
 #include <stdio.h>
 
 #include "curveplan.h"

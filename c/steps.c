@@ -1,4 +1,7 @@
-/* A host that goes step by step: reads job A of document 01, orders, plans, checks, writes and reads bytes, fetches steps, and prints audits and a sheet. */
+/*
+ * A host that goes step by step: reads job A of document 01, orders, plans, checks, writes and reads bytes, fetches steps, and prints audits and a sheet. Then
+ * it goes through a job with an empty list.
+ */
 #include <stdio.h>
 #include <string.h>
 
@@ -79,6 +82,17 @@ static void print_text(const char *what, uint64_t answer, const uint8_t *text)
     }
 }
 
+/* The bytes of the step at a position. */
+static void print_step(size_t curves, size_t tests, const uint8_t *plan, size_t plan_len, unsigned position)
+{
+    struct curveplan_part part = curveplan_step_bytes(curves, tests, plan, plan_len, position);
+    printf("step %u at %u:%s", position, (unsigned)part.start, part.count == 0 ? " no bytes" : "");
+    for (size_t i = 0; i < part.count; i++) {
+        printf(" %02x", plan[part.start + i]);
+    }
+    printf("\n");
+}
+
 /* What is refused, and changes nothing in the lists and the end set that are lent. */
 static void print_refusals_of_lists(const uint64_t *wants, const uint16_t *order, const uint8_t *plan, size_t plan_len)
 {
@@ -120,6 +134,50 @@ static void print_refusals_of_plans(const uint64_t *wants, const uint16_t *order
     print_answer("checked with an unknown curve in the end set", answer, "loads");
     answer = curveplan_check_plan(PLACES, CURVES, wants, TESTS, order, TESTS, drops, TESTS, fewer_loads, TESTS, end);
     print_answer("no loads in step 1", answer, "loads");
+}
+
+/* A job with an empty list: of what is lent for its lists nothing changes, and only the end set is filled. */
+static void print_empty_list(void)
+{
+    static const uint8_t empty_list[] = {0x00}, end_alone[] = {0x01, 0x01, 0x03};
+    static const char *methods[] = {"method 0", "method 1", "method 2", "method 3"};
+    static uint8_t text[CURVEPLAN_SHEET_BYTES];
+    uint64_t wants[TESTS], answer;
+    uint8_t job[sizeof empty_list], plan[CURVEPLAN_PLAN_BYTES];
+    struct lists lent;
+    mark(wants, sizeof wants);
+    mark(plan, sizeof plan);
+    mark(&lent, sizeof lent);
+
+    struct curveplan_job head = curveplan_read_job(empty_list, sizeof empty_list, wants, TESTS);
+    size_t places = head.places, curves = head.curves;
+    printf("empty list: %u tests, %u places, %u curves, method %u\n", (unsigned)head.tests, (unsigned)places, (unsigned)curves, (unsigned)head.method);
+    answer = curveplan_write_job(places, curves, head.method, wants, 0, job, sizeof job);
+    print_answer("written back", answer, memcmp(job, empty_list, sizeof job) == 0 ? "byte, the same" : "byte, another");
+    for (unsigned method = 0; method <= 3; method++) {
+        print_answer(methods[method], curveplan_order_tests(places, curves, method, wants, 0, lent.order, TESTS), "tests");
+    }
+    answer = curveplan_plan_order(places, curves, wants, 0, lent.order, 0, lent.drops, TESTS, lent.loads, TESTS, &lent.end);
+    print_answer("planned", answer, lent.end == 0 ? "loads, no end step" : "loads, an end step");
+    print_answer("checked", curveplan_check_plan(places, curves, wants, 0, lent.order, 0, lent.drops, 0, lent.loads, 0, lent.end), "loads");
+    answer = curveplan_write_plan(places, curves, wants, 0, lent.order, 0, lent.drops, 0, lent.loads, 0, lent.end, plan, sizeof plan);
+    print_answer("written", answer, "bytes");
+    mark(&lent.end, sizeof lent.end);
+    answer = curveplan_read_plan(curves, 0, plan, 0, lent.order, TESTS, lent.drops, TESTS, lent.loads, TESTS, &lent.end);
+    print_answer("read back", answer, lent.end == 0 ? "steps, no end step" : "steps, an end step");
+    print_step(curves, 0, plan, 0, 0);
+    print_text("audit", curveplan_audit(empty_list, sizeof empty_list, plan, 0, text, sizeof text), text);
+    print_text("sheet", curveplan_sheet(empty_list, sizeof empty_list, text, sizeof text), text);
+
+    answer = curveplan_read_plan(curves, 0, end_alone, sizeof end_alone, lent.order, 0, lent.drops, 0, lent.loads, 0, &lent.end);
+    print_answer("an end step alone", answer, lent.end == 0 ? "steps, no end step" : "steps, an end step");
+    print_step(curves, 0, end_alone, sizeof end_alone, 0);
+    print_answer("checked", curveplan_check_plan(places, curves, wants, 0, lent.order, 0, lent.drops, 0, lent.loads, 0, lent.end), "loads");
+    print_answer("an entry in the loads", curveplan_check_plan(places, curves, wants, 0, lent.order, 0, lent.drops, 0, lent.loads, 1, 0), "loads");
+    print_answer("an entry in the order", curveplan_check_plan(places, curves, wants, 0, lent.order, 1, lent.drops, 0, lent.loads, 0, 0), "loads");
+    print_change(wants, sizeof wants);
+    print_change(plan, sizeof plan);
+    print_change(&lent, offsetof(struct lists, end));
 }
 
 int main(void)
@@ -171,12 +229,7 @@ int main(void)
     printf("end set read back: %s\n", back.end == end ? "the same" : "another");
     /* position TESTS is the end step, and nothing is behind it */
     for (unsigned position = 0; position <= TESTS + 1; position++) {
-        struct curveplan_part part = curveplan_step_bytes(CURVES, TESTS, plan, plan_len, position);
-        printf("step %u at %u:%s", position, (unsigned)part.start, part.count == 0 ? " no bytes" : "");
-        for (size_t i = 0; i < part.count; i++) {
-            printf(" %02x", plan[part.start + i]);
-        }
-        printf("\n");
+        print_step(CURVES, TESTS, plan, plan_len, position);
     }
     print_text("audit", curveplan_audit(job_a, sizeof job_a, plan, plan_len, text, sizeof text), text);
 
@@ -190,5 +243,6 @@ int main(void)
 
     print_refusals_of_lists(wants, order, plan, plan_len);
     print_refusals_of_plans(wants, order, drops, loads, end, plan_len);
+    print_empty_list();
     return 0;
 }

@@ -1,7 +1,8 @@
 /*
- * Compares the C program with the library's call on random, damaged, boundary and two-fault jobs, and on jobs with many curves of equal next use: the answer,
- * and every byte of the plan's buffer. Fails on the first difference, and if some refusal, some method's success, a plan of a job with many equal next uses, an
- * end with nothing held, with some places taken or with a full drive, or the longest plan never came up. The same jobs in every run.
+ * Compares the C program with the library's call on random, damaged, boundary and two-fault jobs, on empty lists, and on jobs with many curves of equal next
+ * use: the answer, and every byte of the plan's buffer. Fails on the first difference, on a refusal that the call does not have, and if some refusal, some
+ * method's success, an empty list planned without room or refused for bytes behind it, a plan of a job with many equal next uses, an end with nothing held,
+ * with some places taken or with a full drive, or the longest plan never came up. The same jobs in every run.
  */
 #include <stdio.h>
 #include <string.h>
@@ -105,7 +106,7 @@ static void put_head(struct bytes *job, unsigned places, unsigned curves, unsign
 /* A job as it should be, but for a test that may want too much. */
 static void random_job(struct bytes *job, int large)
 {
-    unsigned tests = large ? PICK(200, 254, 255, 256, 256, 256, 256, 65, 64, 129) : PICK(1, 2, 3, 4, 5, 8, 15, 16, 17, 30, 63, 64);
+    unsigned tests = large ? PICK(200, 254, 255, 256, 256, 256, 256, 65, 64, 129) : PICK(0, 1, 2, 3, 4, 5, 8, 15, 16, 17, 30, 63, 64);
     unsigned curves = large ? PICK(64, 64, 64, 63, 40, 9, 1) : between(1, 64);
     unsigned places = large ? PICK(1, 2, 7, 8, 8, 16, 32, 33, 48, 63, 64) : PICK(1, 2, 3, 4, 5, 8, 8, 12, 20, 40, 64);
     unsigned most = places < curves ? places : curves;
@@ -286,8 +287,38 @@ static unsigned end_size(const uint8_t *plan, size_t length)
 
 enum ending { NOTHING, SOME, FULL };
 
-static unsigned long refused[16], planned[4], ended[3], compared;
+/* The call's refusals; 5 is withdrawn. */
+static const unsigned REFUSALS[] = {1, 2, 3, 4, 6, 7, 9};
+#define MOST_REFUSAL 9
+
+/* Of all calls, of those with an empty list, and of the others. */
+static unsigned long compared;
+static unsigned long empty, empty_without_room, empty_with_surplus;
+static unsigned long refused[MOST_REFUSAL + 1], planned[4], ended[3];
 static size_t longest;
+
+/* Whether the call answers so: a count of bytes, or one of its refusals. */
+static int is_answer(uint64_t answer)
+{
+    int known = !curveplan_refused_16(answer);
+    for (size_t i = 0; i < sizeof REFUSALS / sizeof *REFUSALS; i++) {
+        known |= curveplan_number_16(answer) == REFUSALS[i];
+    }
+    return known;
+}
+
+/* Whether the job's head reads and lacks the tests field: then the plan is empty, or there are bytes behind the head. */
+static int is_empty(const struct bytes *job, uint64_t answer)
+{
+    return (job->at[0] & 4) == 0 && (answer == 0 || curveplan_number_16(answer) == CURVEPLAN_TRAILING_BYTES);
+}
+
+static void count_empty(uint64_t answer, size_t room)
+{
+    empty++;
+    empty_without_room += answer == 0 && room == 0;
+    empty_with_surplus += answer != 0;
+}
 
 /* Counts a job that is planned, by its method and by what is held at the end. */
 static void count_planned(const struct bytes *job, const uint8_t *plan, size_t length)
@@ -312,11 +343,13 @@ static int differs(const struct bytes *job, size_t room)
     uint64_t library = curveplan_plan(job->at, job->length, theirs, room);
     uint64_t fast = fast_plan(job->at, job->length, ours, room);
     compared++;
-    if (library == fast && memcmp(ours, theirs, sizeof ours) == 0) {
-        if (!curveplan_refused_16(fast)) {
+    if (library == fast && is_answer(fast) && memcmp(ours, theirs, sizeof ours) == 0) {
+        if (is_empty(job, fast)) {
+            count_empty(fast, room);
+        } else if (!curveplan_refused_16(fast)) {
             count_planned(job, ours, (size_t)fast);
         } else {
-            refused[curveplan_number_16(fast) & 15]++;
+            refused[curveplan_number_16(fast)]++;
         }
         return 0;
     }
@@ -331,7 +364,7 @@ static int differs(const struct bytes *job, size_t room)
             break;
         }
     }
-    printf("\n");
+    printf(is_answer(fast) ? "\n" : "; the call has no such refusal\n");
     return 1;
 }
 
@@ -343,7 +376,7 @@ static int any_differs(const struct bytes *job)
     if (differs(job, CURVEPLAN_PLAN_BYTES)) {
         return 1;
     }
-    if (curveplan_refused_16(answer)) {
+    if (curveplan_refused_16(answer) || answer == 0) {
         return differs(job, PICK(0, 1, 20));
     }
     size_t room = (size_t)answer;
@@ -427,10 +460,43 @@ static int some_known_differs(struct bytes *job)
     return 0;
 }
 
+/* ---- empty lists */
+
+static int answers_otherwise(const struct bytes *job, uint64_t answer)
+{
+    uint8_t plan[CURVEPLAN_PLAN_BYTES];
+    uint64_t fast = fast_plan(job->at, job->length, plan, sizeof plan);
+    if (fast != answer) {
+        printf("an empty list: the C program answers %llu, not %llu\n", (unsigned long long)fast, (unsigned long long)answer);
+        return 1;
+    }
+    return differs(job, 0) || differs(job, CURVEPLAN_PLAN_BYTES);
+}
+
+/* Every head without a tests field, by itself and with bytes behind it. */
+static int some_empty_differs(struct bytes *job)
+{
+    for (unsigned i = 0; i < 64 * 64 * 4; i++) {
+        job->length = 0;
+        put_head(job, 1 + i % 64, 1 + i / 64 % 64, 0, i / (64 * 64));
+        uint64_t surplus = (uint64_t)CURVEPLAN_TRAILING_BYTES * 65536 + job->length;
+        if (answers_otherwise(job, 0)) {
+            return 1;
+        }
+        for (unsigned bytes = PICK(1, 1, 2, 9, 40); bytes > 0; bytes--) {
+            put(job, PICK(0, 1, 255, below(256)));
+        }
+        if (answers_otherwise(job, surplus)) {
+            return 1;
+        }
+    }
+    return 0;
+}
+
 int main(void)
 {
     static struct bytes job;
-    if (some_known_differs(&job)) {
+    if (some_known_differs(&job) || some_empty_differs(&job)) {
         return 1;
     }
     for (unsigned i = 0; i < SMALL_JOBS + LARGE_JOBS; i++) {
@@ -458,7 +524,10 @@ int main(void)
     }
     unsigned long tied = all_planned() - others;
     int missing = 0;
-    printf("fast_c: %lu calls as the library answers them; planned by method", compared);
+    printf("fast_c: %lu calls as the library answers them", compared);
+    printf("; with an empty list: %lu, of these planned without room: %lu, refused for bytes behind it: %lu", empty, empty_without_room, empty_with_surplus);
+    missing |= empty_without_room == 0 || empty_with_surplus == 0;
+    printf("; the others planned by method");
     for (unsigned method = 0; method < 4; method++) {
         printf(" %u: %lu", method, planned[method]);
         missing |= planned[method] == 0;
@@ -466,11 +535,9 @@ int main(void)
     printf("; of these with many equal next uses: %lu", tied);
     missing |= tied == 0;
     printf("; refused");
-    for (unsigned number = 1; number < 10; number++) {
-        if (number != 8) {
-            printf(" %u: %lu", number, refused[number]);
-            missing |= refused[number] == 0;
-        }
+    for (size_t i = 0; i < sizeof REFUSALS / sizeof *REFUSALS; i++) {
+        printf(" %u: %lu", REFUSALS[i], refused[REFUSALS[i]]);
+        missing |= refused[REFUSALS[i]] == 0;
     }
     printf("; held at the end nothing: %lu, some: %lu, a full drive: %lu; longest plan %zu", ended[NOTHING], ended[SOME], ended[FULL], longest);
     missing |= ended[NOTHING] == 0 || ended[SOME] == 0 || ended[FULL] == 0 || longest != LONGEST_PLAN;

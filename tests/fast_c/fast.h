@@ -15,7 +15,7 @@ uint64_t fast_plan(const uint8_t *job, size_t job_len, uint8_t *plan, size_t pla
 
 struct fast_job {
     unsigned places;
-    unsigned tests;
+    unsigned tests; /* 0 to FAST_TESTS */
     unsigned method;
     uint64_t wants[FAST_TESTS]; /* zero behind the last test, up to a multiple of 64 */
     uint8_t sizes[FAST_TESTS];  /* how many curves each test wants */
@@ -24,10 +24,10 @@ struct fast_job {
 /* Reads a job and sees that each test fits: 0, or the refusal. */
 uint64_t fast_read(const uint8_t *bytes, size_t length, struct fast_job *job);
 
-/* The order of the tests by the job's method. */
+/* The order of the tests by the job's method; nothing is written for an empty list. */
 void fast_order(const struct fast_job *job, uint8_t *order);
 
-/* Plans the steps and the end step and writes them to `out`, which takes FAST_BYTES; answers the count of bytes. */
+/* Plans the steps and the end step and writes them to `out`, which takes FAST_BYTES; answers the count of bytes, 0 for an empty list. */
 size_t fast_steps(const struct fast_job *job, const uint8_t *order, uint8_t *out);
 
 #endif

@@ -1,12 +1,12 @@
 -- What the call answers: which refusals come out, that counts and refusals never meet, and that the bytes written are a plan with the fewest loads.
 use mathlib.Core.Path.{_≡_, refl, sym, ap, _∙_}
-use mathlib.Core.Logic.{_⊎_, inl, inr}
-use mathlib.Core.List.{List}
+use mathlib.Core.Logic.{_⊎_, inl, inr, _↔_}
+use mathlib.Core.List.{List, []}
 use Prim.Native.Nat.{ℕ, _+_, _*_, _/_, _%_, _≤_, _<_}
 use native.Mathlib.Omega.{arith}
 use native.Mathlib.Nat.{zero-add}
 use lib.Dec.{leb}
-use lib.ListN.{length}
+use lib.ListN.{length, drop-of-length-le}
 use Rattle.bitset.specs.Set.{size}
 use Rattle.job.specs.declared.Refusal.{Refusal}
 use Rattle.job.specs.declared.Counted.{Counted}
@@ -14,22 +14,22 @@ use Rattle.job.specs.Refusal.{Outcome, done, refused, number, figure, countOutc
 use Rattle.job.specs.Handed.{each, wantsFit}
 use Rattle.job.specs.Words.{capacity}
 use Rattle.job_bytes.specs.JobBytes.{Request, jobIn, readBytes}
-use Rattle.job.proofs.Laws.{refused≢done, done-same, both-done, mapped-done, mapped-refused, count-done, count-refused}
+use Rattle.job.proofs.Laws.{refused≢done, done-same, both-done, done-both, done-room, mapped-done, mapped-refused, count-done, count-refused}
 use Rattle.job.proofs.Refuses.{Refuses, refuses, refuses-demand, refuses-both}
 use Rattle.job.proofs.Faults.{Examines, faultless, faulty, Fails, each-examines}
 use Rattle.job_bytes.proofs.SetRoundTrip.{Bytes}
 use Rattle.job_bytes.proofs.ReadExact.{ReadJob, read-exact}
 use Rattle.job_bytes.proofs.JobBounds.{figure-short}
-use Rattle.drive.specs.Steps.{loadCount}
-use Rattle.planning.specs.Plan.{handed}
+use Rattle.drive.specs.Steps.{heldAfter, loadCount}
+use Rattle.planning.specs.Plan.{handed, steps}
 use Rattle.planning.specs.Planning.{checking}
 use Rattle.planning.proofs.Demand3.{our-least}
-use Rattle.plan_bytes.specs.PlanBytes.{writePlan}
+use Rattle.plan_bytes.specs.PlanBytes.{stepsBytes, endBytes, writePlan}
 use Rattle.plan_bytes.proofs.PlanRoundTrip.{plan-back}
-use Rattle.plan_bytes.proofs.PlanLength.{passed-length}
+use Rattle.plan_bytes.proofs.PlanLength.{passed-length, no-bytes}
 use Rattle.curveplan.specs.Call.{jobToPlan, numberOf, callAnswer}
 use Rattle.curveplan.specs.Library.{WrittenPlan}
-use Rattle.planned.proofs.Composed.{orderOf, setsOf, checked}
+use Rattle.planned.proofs.Composed.{orderOf, setsOf, no-order, no-sets, none-too-large, checked}
 use Rattle.curveplan.proofs.Composed.{bytesOf, call-written, call-too-large, call-unread}
 use Rattle.job_bytes.proofs.ReadRefuses.{ByReading, read-refuses}
 
@@ -43,9 +43,13 @@ sizes places wants = go (each-examines (λ w. leb (size w) places) 7 0 wants)
     go (faultless e none) = inl e
     go (faulty t e first) = inr (t, first .0 .0, e ∙ ap (refused 7) (zero-add t))
 
--- 8, 10, 11 and 12 never come out, and a figure takes no more than 16 bits
+-- 5, 8, 10, 11 and 12 never come out ..
+abbrev pub CallNumber : ℕ → Type 0
+CallNumber k = ((1 ≤ k) × (k ≤ 7) × (k ≡ 5 → ⊥)) ⊎ (k ≡ 9)
+
+-- .. and a figure takes no more than 16 bits
 abbrev pub CallRefusal : ℕ → ℕ → Type 0
-CallRefusal k i = (((1 ≤ k) × (k ≤ 7)) ⊎ (k ≡ 9)) × (i ≤ 5121)
+CallRefusal k i = CallNumber k × (i ≤ 5121)
 
 module _ (bs : List ℕ) (all : Bytes bs) (lent : ℕ) where
   pub call-refuses : Refuses CallRefusal (jobToPlan bs lent)
@@ -60,12 +64,12 @@ module _ (bs : List ℕ) (all : Bytes bs) (lent : ℕ) where
           (unfold room in refuses-demand CallRefusal _ 9 (length (bytesOf j)) (inr refl, passed-length _ _ _ _ (checked j (read-exact bs j all e) f))) tt)
       by-size j e (inr x) =
           let r : ReadJob j = read-exact bs j all e in
-          rw (call-too-large bs j all e 7 (x .0) (x .2) lent) (inl (omega arith, omega arith), omega (arith, x .1, r .is-job .tests-bounds .1))
+          rw (call-too-large bs j all e 7 (x .0) (x .2) lent) (inl (omega arith, omega arith, λ e. omega arith), omega (arith, x .1, r .is-job .tests-bound))
 
       go : (o : Outcome Request) → readBytes bs ≡ o → Refuses CallRefusal (jobToPlan bs lent)
       go (refused k i) e =
           let n = refuses ByReading (readBytes bs) k i (read-refuses bs) e in
-          rw (call-unread bs k i e lent) (inl (n .0, omega (arith, n .1)), omega (arith, figure-short bs k i e .0))
+          rw (call-unread bs k i e lent) (inl (n .0, omega (arith, n .1), n .2), omega (arith, figure-short bs k i e .0))
       go (done j) e = by-size j e (sizes (capacity (j .head .rig)) (j .wants))
 
   -- a plan takes no more than 5,121 bytes
@@ -94,7 +98,7 @@ module _ (bs : List ℕ) (all : Bytes bs) (lent : ℕ) where
     (λ k i e. let r = refuses CallRefusal (jobToPlan bs lent) k i call-refuses e in rw e (told k i (r .0) (r .1))),
   )
     where
-      told : (k i : ℕ) → ((1 ≤ k) × (k ≤ 7)) ⊎ (k ≡ 9) → i ≤ 5121 → (65536 ≤ k * 65536 + i) × ((k * 65536 + i) / 65536 ≡ k) × ((k * 65536 + i) % 65536 ≡ i)
+      told : (k i : ℕ) → CallNumber k → i ≤ 5121 → (65536 ≤ k * 65536 + i) × ((k * 65536 + i) / 65536 ≡ k) × ((k * 65536 + i) % 65536 ≡ i)
       told k i (inl b) l = (omega (arith, b .0), omega arith, omega arith)
       told k i (inr b) l = (omega (arith, b), omega arith, omega arith)
 
@@ -128,6 +132,21 @@ module _ (bs : List ℕ) (all : Bytes bs) (lent : ℕ) where
       go (refused k i) e = absurd (refused≢done (sym (call-unread bs k i e lent) ∙ p))
       go (done q) e = by-size q e (sizes (capacity (q .head .rig)) (q .wants))
 
+-- ---- 02, wish 3: "A job with no tests now reads: .. no plan bytes"
+
+-- THE CALL WRITES NO BYTES exactly for a job without tests
+pub call-none : (bs : List ℕ) → Bytes bs → (lent : ℕ) → jobToPlan bs lent ≡ done [] ↔ ((q : Request) × (readBytes bs ≡ done q) × (q .wants ≡ []))
+unfolding steps stepsBytes endBytes heldAfter
+call-none bs all lent = (
+  λ e.
+      let w = call-planned bs all lent [] e in
+      (w .request, w .read, drop-of-length-le (w .request .wants) {i = 0} (omega (arith, no-bytes _ _ (w .contents) (w .reads-back)))),
+  λ x. call-written bs (x .0) all (x .1) (none-too-large (x .0) (x .2)) lent ∙ written (x .0) (x .2),
+)
+  where
+    written : (q : Request) → q .wants ≡ [] → _>>_ (room lent (length (bytesOf q))) (done (bytesOf q)) ≡ done []
+    written q e = rw (no-sets q e, no-order q e) (done-both _ _ (done-room lent 0 (omega arith)))
+
 -- ---- the answer as one number, of what was counted
 
 module _ (bs old : List ℕ) (x : Counted) (given : countOutcome x ≡ mapped length (jobToPlan bs (length old))) where
@@ -147,6 +166,6 @@ module _ (bs old : List ℕ) (x : Counted) (given : countOutcome x ≡ mapped le
   refusal-bounds all r e = let b =
       refuses CallRefusal (jobToPlan bs (length old)) (number r) (figure r) (call-refuses bs all (length old)) (refusal r e) in (below (b .0), b .1)
     where
-      below : {k : ℕ} → ((1 ≤ k) × (k ≤ 7)) ⊎ (k ≡ 9) → k ≤ 9
+      below : {k : ℕ} → CallNumber k → k ≤ 9
       below (inl b) = omega (arith, b .1)
       below (inr b) = omega (arith, b)

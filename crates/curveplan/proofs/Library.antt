@@ -1,13 +1,14 @@
 -- WHAT THE LIBRARY PROMISES, proved: each promise by the theorem that shows it.
 use Rattle.job.proofs.JobExact.{job-by-exact}
 use Rattle.job.proofs.OrderExact.{order-exact}
+use Rattle.job.proofs.Refuses.{withdrawn}
 use Rattle.job_bytes.proofs.JobRoundTrip.{job-back, job-read}
 use Rattle.ordering.proofs.Complete.{order-complete}
 use Rattle.drive.proofs.Best.{either-tie}
 use Rattle.planning.proofs.Demand3.{demand3}
 use Rattle.plan_bytes.proofs.PlanRoundTrip.{plan-back, plan-read}
 use Rattle.curveplan.specs.Library.{Library}
-use Rattle.curveplan.proofs.Answers.{call-tells, call-planned}
+use Rattle.curveplan.proofs.Answers.{call-tells, call-planned, call-none}
 
 pub library : Library
 library =
@@ -17,10 +18,12 @@ library =
       complete = order-complete;
       demand-3 = demand3;
       ties = either-tie;
+      withdrawn = withdrawn;
       job-back = job-back;
       job-read = job-read;
       plan-back = plan-back;
       plan-read = plan-read;
       call-writes = λ bs all lent plan e. let t = call-tells bs all lent .0 plan e in (t .0, t .1, call-planned bs all lent plan e);
+      call-none = call-none;
       call-refuses = λ bs all lent. call-tells bs all lent .1;
     }

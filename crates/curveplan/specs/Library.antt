@@ -1,10 +1,11 @@
 -- WHAT THE LIBRARY PROMISES, in one place. The contracts of its functions set every answer, and all that is lent, equal to the rules that are spoken of here.
 use mathlib.Core.Path.{_≡_}
 use mathlib.Core.Logic.{_↔_}
-use mathlib.Core.List.{List}
+use mathlib.Core.List.{List, []}
 use Prim.Native.Nat.{ℕ, _/_, _%_, _^_, _≤_, _<_}
 use lib.ListN.{length, getD}
-use Rattle.job.specs.Refusal.{done, refused}
+use Rattle.job.specs.declared.Refusal.{Refusal}
+use Rattle.job.specs.Refusal.{done, refused, number}
 use Rattle.job.specs.Words.{Job, capacity, IsJob, IsOrder}
 use Rattle.job.specs.Handed.{jobKnownBy}
 use Rattle.job.specs.Order.{orderKnown}
@@ -35,7 +36,7 @@ pub record WrittenPlan (bs plan : List ℕ) : Type 0 where
 
 -- what the library promises
 pub record Library : Type 0 where
-  -- "Each refusal has exactly the condition shown": 5 and 10 are not given exactly for a job and a known method, 8 exactly for an order of its tests
+  -- "Each refusal has exactly the condition shown": 10 is not given exactly for a job and a known method, 8 exactly for an order of its tests
   pub jobs : (method : ℕ) (j : Job) → jobKnownBy method j ≡ done tt ↔ (IsJob j × (method ≤ 3))
   pub orders : (n : ℕ) (order : List ℕ) → orderKnown n order ≡ done tt ↔ IsOrder n order
   -- each method's order names each test exactly once
@@ -46,6 +47,8 @@ pub record Library : Type 0 where
   -- list of sets of n curves, whatever of them is held at first, and every capacity
   pub ties : (n capacity held : ℕ) (ws : List ℕ) → held < 2 ^ n → ((i : ℕ) → i < length ws → getD ws i 0 < 2 ^ n)
       → loadCount (planFrom (furthestLowest n) capacity held ws) ≡ loadCount (planFrom (furthest n) capacity held ws)
+  -- 02, wish 3: "Refusal 5 is withdrawn and its number not used again": no refusal that a function can answer has it
+  pub withdrawn : (r : Refusal) → number r ≡ 5 → ⊥
   -- writing and reading undo each other: a job ..
   pub job-back : (method : ℕ) (j : Job) (lent : ℕ) (bytes : List ℕ) → writeJob method j lent ≡ done bytes → readBytes bytes ≡ done (request method j)
   pub job-read : (bs : List ℕ) (q : Request) → Bytes bs → readBytes bs ≡ done q → writeJob (q .head .method) (jobIn q) (length bs) ≡ done bs
@@ -57,6 +60,8 @@ pub record Library : Type 0 where
   -- the call: an answer below 65,536 is the count of the bytes written, at most 5,121, which are a plan with the fewest loads for its order ..
   pub call-writes : (bs : List ℕ) → Bytes bs → (lent : ℕ) (plan : List ℕ) → jobToPlan bs lent ≡ done plan
       → (numberOf (jobToPlan bs lent) ≡ length plan) × (length plan ≤ 5121) × WrittenPlan bs plan
+  -- .. no bytes, exactly for a job without tests (02, wish 3: "A job with no tests now reads: .. no plan bytes") ..
+  pub call-none : (bs : List ℕ) → Bytes bs → (lent : ℕ) → jobToPlan bs lent ≡ done [] ↔ ((q : Request) × (readBytes bs ≡ done q) × (q .wants ≡ []))
   -- .. and any other tells the refusal's number and figure
   pub call-refuses : (bs : List ℕ) → Bytes bs → (lent k i : ℕ) → jobToPlan bs lent ≡ refused k i
       → (65536 ≤ numberOf (jobToPlan bs lent)) × (numberOf (jobToPlan bs lent) / 65536 ≡ k) × (numberOf (jobToPlan bs lent) % 65536 ≡ i)

@@ -4,7 +4,7 @@ use lib.Count.{ones}
 use Rattle.bitset.specs.Set.{inside}
 use Rattle.job.specs.Refusal.{readOutcome, countOutcome, _>>=_, _>>_, mapped, demand, room, overwritten, leaves}
 use Rattle.lists.specs.Choice.{keep, choose, bestOf}
-use Rattle.job.specs.Handed.{between, listed, each, someTests, placesKnown, curvesKnown, testsKnown, methodKnown, wantsKnown, wantsFit, numbersKnown}
+use Rattle.job.specs.Handed.{between, listed, each, placesKnown, curvesKnown, testsKnown, methodKnown, wantsKnown, wantsFit, numbersKnown}
 use Rattle.job.specs.Handed.{jobKnownBy, countsKnown}
 use Rattle.job.specs.Order.{orderFrom}
 use Rattle.job.specs.Calls.{orderingKnown, checkingKnown, planningKnown}
@@ -31,7 +31,7 @@ use Rattle.planned.specs.Planned.{orderRequest, planInOrder, orderAndPlan, plan
 use Rattle.curveplan.specs.Call.{written, jobToPlan, numberOf, callAnswer, callPlan}
 
 unfoldable pub rules : Unit {0}
-unfolding ones readOutcome countOutcome _>>=_ _>>_ mapped demand room overwritten leaves keep choose bestOf between inside listed each someTests placesKnown
+unfolding ones readOutcome countOutcome _>>=_ _>>_ mapped demand room overwritten leaves keep choose bestOf between inside listed each placesKnown
     curvesKnown testsKnown methodKnown wantsKnown wantsFit numbersKnown jobKnownBy countsKnown orderingKnown checkingKnown planningKnown groupOf stands
     groupBytes groupMap setBytes byteAt readGroup readGroups fields readNumber readField readFields readHead readRecord readRecords atEnd readBytes readJob
     readJobAnswer readJobWants numberBytes zipWith flatten headBytes recordBytes jobBytes writeJob writeJobAnswer writeJobBuffer weight weights degree

@@ -20,13 +20,12 @@ sets d l = record { drops = d; loads = l }
 
 -- the examples without a star, and more that tell readings apart
 pub record Others : Type 0 where
-  -- No bytes: 1 at 0. `01`: 1 at 1. `01 00`, `01 08`, `01 41`: 2 at 1. `00`: 5 at 0.
+  -- No bytes: 1 at 0. `01`: 1 at 1. `01 00`, `01 08`, `01 41`: 2 at 1.
   pub no-bytes : readJob [] 256 ≡ refused 1 0
   pub cut-places : readJob (0x01 ∷ []) 256 ≡ refused 1 1
   pub places-0 : readJob (0x01 ∷ 0x00 ∷ []) 256 ≡ refused 2 1
   pub places-absent-value : readJob (0x01 ∷ 0x08 ∷ []) 256 ≡ refused 2 1
   pub places-65 : readJob (0x01 ∷ 0x41 ∷ []) 256 ≡ refused 2 1
-  pub no-tests : readJob (0x00 ∷ []) 256 ≡ refused 5 0
   pub empty-group : readJob (0x04 ∷ 0x01 ∷ 0x00 ∷ 0x01 ∷ 0x00 ∷ []) 256 ≡ refused 3 4
   pub trailing-byte : readJob (0x04 ∷ 0x01 ∷ 0x00 ∷ 0x00 ∷ 0x00 ∷ []) 256 ≡ refused 6 4
   -- Order 0 1 1 or 0 1 for three tests: 8 at 2.
@@ -67,6 +66,40 @@ pub record Others : Type 0 where
   pub same-step-highest : planning (job 4 6 (15 ∷ 48 ∷ 15 ∷ [])) (0 ∷ 1 ∷ 2 ∷ []) 3 ≡ done (sets 0 15 ∷ sets 12 48 ∷ sets 48 12 ∷ [])
   pub one-stays : planning (job 4 7 (15 ∷ 112 ∷ 15 ∷ [])) (0 ∷ 1 ∷ 2 ∷ []) 3 ≡ done (sets 0 15 ∷ sets 14 112 ∷ sets 112 14 ∷ [])
   pub furthest-then-highest : planning (job 4 6 (15 ∷ 48 ∷ 2 ∷ 5 ∷ [])) (0 ∷ 1 ∷ 2 ∷ 3 ∷ []) 4 ≡ done (sets 0 15 ∷ sets 12 48 ∷ sets 0 0 ∷ sets 32 4 ∷ [])
+  -- 02, wish 3: "A job with no tests now reads: empty order, no plan bytes, 0 loads, and a sheet of its first and last line."; bytes behind it are surplus, and a
+  -- tests field of 0 is refused as before (`tests-0`)
+  pub none-read : readJob (0x00 ∷ []) 0 ≡ done (request 0 (job 8 64 []))
+  pub none-head-read : readJob (0x0b ∷ 0x02 ∷ 0x04 ∷ 0x03 ∷ []) 0 ≡ done (request 3 (job 2 4 []))
+  pub none-trailing : readJob (0x00 ∷ 0xff ∷ []) 0 ≡ refused 6 1
+  pub none-head-cut : readJob (0x08 ∷ []) 0 ≡ refused 1 1
+  pub none-written : writeJob 0 (job 8 64 []) 1 ≡ done (0x00 ∷ [])
+  pub none-written-short : writeJob 3 (job 2 4 []) 3 ≡ refused 9 4
+  pub none-order-0 : ordering 0 (job 2 4 []) 0 ≡ done []
+  pub none-order-1 : ordering 1 (job 2 4 []) 0 ≡ done []
+  pub none-order-2 : ordering 2 (job 2 4 []) 0 ≡ done []
+  pub none-order-3 : ordering 3 (job 2 4 []) 0 ≡ done []
+  pub none-loads : planAnswer (job 2 4 []) [] (setLists [] (7 ∷ [])) ≡ done (loads 0 0)
+  pub none-lent : planLists (job 2 4 []) [] (setLists [] (7 ∷ [])) ≡ setLists [] (7 ∷ [])
+  pub none-checked : checking (job 2 4 []) [] (planOf [] [] 0) ≡ done 0
+  pub none-plan-written : writePlan (job 2 4 []) [] (planOf [] [] 0) 0 ≡ done []
+  pub none-plan-read : readPlan 4 0 [] 0 ≡ done (record { steps = []; behind = 0; end = 0 })
+  pub none-call : callAnswer (0x00 ∷ []) [] ≡ 0
+  pub none-sheet : sheet (0x00 ∷ []) ≡ text "0 tests, 8 places, method 0\nloads 0\n"
+  pub none-head-sheet : sheet (0x0b ∷ 0x02 ∷ 0x04 ∷ 0x03 ∷ []) ≡ text "0 tests, 2 places, method 3\nloads 0\n"
+  -- an order or a list with an entry is surplus; an end step alone reads, is fetched at position 0, and fails the check, since nothing is held
+  pub none-order-surplus : planning (job 2 4 []) (0 ∷ []) 0 ≡ refused 8 0
+  pub none-drops-surplus : checking (job 2 4 []) [] (planOf (0 ∷ []) [] 0) ≡ refused 12 0
+  pub none-loads-surplus : checking (job 2 4 []) [] (planOf [] (0 ∷ []) 0) ≡ refused 12 0
+  pub none-end-read : readPlan 4 0 (0x01 ∷ 0x01 ∷ 0x0f ∷ []) 0 ≡ done (record { steps = []; behind = 0; end = 15 })
+  pub none-end-fetched : stepAt 4 0 (0x01 ∷ 0x01 ∷ 0x0f ∷ []) 0 ≡ (0x01 ∷ 0x01 ∷ 0x0f ∷ [])
+  pub none-fetched : stepAt 4 0 [] 0 ≡ []
+  pub none-end-checked : checking (job 2 4 []) [] (planOf [] [] 15) ≡ refused 12 0
+  pub none-step-read : readPlan 4 0 (0x04 ∷ 0x00 ∷ []) 0 ≡ refused 11 0
+  -- an empty list is examined for 10 like any other, and 10 comes before 8
+  pub none-places : ordering 9 (job 0 0 []) 0 ≡ refused 10 0
+  pub none-curves : checking (job 2 65 []) (0 ∷ []) (planOf [] [] 1) ≡ refused 10 1
+  pub none-method : writeJob 4 (job 2 4 []) 0 ≡ refused 10 3
+  pub none-plan-curves : readPlan 0 0 (0x00 ∷ []) 0 ≡ refused 10 1
   -- job bytes that tell readings apart
   pub map-bits : readJob (0xf1 ∷ []) 256 ≡ refused 2 0
   pub cut-tests : readJob (0x04 ∷ 0x01 ∷ []) 256 ≡ refused 1 2
@@ -76,12 +109,10 @@ pub record Others : Type 0 where
   pub curves-absent-value : readJob (0x02 ∷ 0x40 ∷ []) 256 ≡ refused 2 1
   pub method-0 : readJob (0x08 ∷ 0x00 ∷ []) 256 ≡ refused 2 1
   pub method-4 : readJob (0x08 ∷ 0x04 ∷ []) 256 ≡ refused 2 1
-  pub method-alone : readJob (0x08 ∷ 0x01 ∷ []) 256 ≡ refused 5 0
   pub method-out-of-range : readJob (0x0c ∷ 0x01 ∷ 0x00 ∷ 0x04 ∷ []) 256 ≡ refused 2 3
   pub cut-method : readJob (0x0c ∷ 0x01 ∷ 0x00 ∷ []) 256 ≡ refused 1 3
   pub first-field-first : readJob (0x03 ∷ 0x00 ∷ []) 256 ≡ refused 2 1
   pub cut-second-field : readJob (0x03 ∷ 0x09 ∷ []) 256 ≡ refused 1 2
-  pub no-tests-before-trailing : readJob (0x00 ∷ 0xff ∷ []) 256 ≡ refused 5 0
   pub cut-group : readJob (0x04 ∷ 0x01 ∷ 0x00 ∷ 0x01 ∷ []) 256 ≡ refused 1 4
   pub unknown-group : readJob (0x06 ∷ 0x04 ∷ 0x01 ∷ 0x00 ∷ 0x02 ∷ 0x01 ∷ []) 256 ≡ refused 4 5
   pub empty-unknown-group : readJob (0x06 ∷ 0x04 ∷ 0x01 ∷ 0x00 ∷ 0x02 ∷ 0x00 ∷ []) 256 ≡ refused 3 5
@@ -91,7 +122,6 @@ pub record Others : Type 0 where
   pub trailing-before-short : readJob (0x04 ∷ 0x01 ∷ 0x00 ∷ 0x00 ∷ 0xff ∷ []) 0 ≡ refused 6 4
   pub short-list : readJob (0x04 ∷ 0x01 ∷ 0x00 ∷ 0x00 ∷ []) 0 ≡ refused 9 1
   -- handed numbers
-  pub no-tests-first : ordering 0 (job 0 4 []) 0 ≡ refused 5 0
   pub places-before-curves : ordering 0 (job 0 0 (0 ∷ [])) 1 ≡ refused 10 0
   pub curves-before-method : ordering 9 (job 2 0 (0 ∷ [])) 1 ≡ refused 10 1
   pub tests-before-method : ordering 9 (job 2 4 (replicate 257 0)) 1 ≡ refused 10 2
@@ -139,7 +169,6 @@ pub record Others : Type 0 where
   pub end-cut : readPlan 4 1 (0x04 ∷ 0x00 ∷ 0x01 ∷ 0x01 ∷ []) 1 ≡ refused 11 4
   pub end-twice : readPlan 4 1 (0x04 ∷ 0x00 ∷ 0x01 ∷ 0x01 ∷ 0x0f ∷ 0x01 ∷ 0x01 ∷ 0x0f ∷ []) 1 ≡ refused 11 5
   pub end-early : readPlan 4 1 (0x01 ∷ 0x01 ∷ 0x0f ∷ 0x04 ∷ 0x00 ∷ []) 1 ≡ refused 11 0
-  pub plan-no-tests : readPlan 0 0 [] 0 ≡ refused 5 0
   pub plan-curves-before-tests : readPlan 0 257 [] 0 ≡ refused 10 1
   -- methods 2 and 3
   pub method-2-weights : ordering 2 (job 4 64 (15 ∷ 23 ∷ 17 ∷ 6 ∷ [])) 4 ≡ done (0 ∷ 1 ∷ 2 ∷ 3 ∷ [])

@@ -13,7 +13,6 @@ number-small (Refusal.Truncated i) = omega arith
 number-small (Refusal.BadHeader i) = omega arith
 number-small (Refusal.EmptyGroup i) = omega arith
 number-small (Refusal.UnknownCurve i) = omega arith
-number-small Refusal.NoTests = omega arith
 number-small (Refusal.TrailingBytes i) = omega arith
 number-small (Refusal.TestTooLarge i) = omega arith
 number-small (Refusal.BadOrder i) = omega arith

@@ -12,7 +12,7 @@ use Rattle.job.specs.declared.Head.{Head}
 use Rattle.job.specs.declared.Rig.{Rig}
 use Rattle.job.specs.Refusal.{Outcome, done, refused, _>>_, mapped, demand, room}
 use Rattle.job.specs.Words.{Job, capacity}
-use Rattle.job.specs.Handed.{listed, someTests, placesKnown, curvesKnown, testsKnown, methodKnown, wantsKnown, wantsFit, numbersKnown, jobKnownBy}
+use Rattle.job.specs.Handed.{listed, placesKnown, curvesKnown, testsKnown, methodKnown, wantsKnown, wantsFit, numbersKnown, jobKnownBy}
 use Rattle.job.specs.Handed.{countsKnown, allCurves}
 use Rattle.job.specs.Order.{orderFrom}
 use Rattle.job.specs.Calls.{orderingKnown, checkingKnown, planningKnown}
@@ -79,17 +79,15 @@ unfolding room
 asked lent needed b l q = refuses-both Figures _ b (refuses-demand Figures _ 9 needed (omega arith, l)) q
 
 counts-told : (curves tests : ℕ) → Refuses Figures (countsKnown curves tests)
-unfolding countsKnown someTests curvesKnown testsKnown
+unfolding countsKnown curvesKnown testsKnown
 counts-told curves tests =
-    refuses-both Figures _ _ (refuses-demand Figures _ 5 0 (omega arith, omega arith))
-    (refuses-both Figures _ _ (refuses-demand Figures _ 10 1 (omega arith, omega arith)) (refuses-demand Figures _ 10 2 (omega arith, omega arith)))
+    refuses-both Figures _ _ (refuses-demand Figures _ 10 1 (omega arith, omega arith)) (refuses-demand Figures _ 10 2 (omega arith, omega arith))
 
 numbers-told : (rig : Rig) (tests : ℕ) → Refuses Figures (numbersKnown rig tests)
-unfolding numbersKnown someTests placesKnown curvesKnown testsKnown
+unfolding numbersKnown placesKnown curvesKnown testsKnown
 numbers-told rig tests =
-    refuses-both Figures _ _ (refuses-demand Figures _ 5 0 (omega arith, omega arith))
-    (refuses-both Figures _ _ (refuses-demand Figures _ 10 0 (omega arith, omega arith))
-    (refuses-both Figures _ _ (refuses-demand Figures _ 10 1 (omega arith, omega arith)) (refuses-demand Figures _ 10 2 (omega arith, omega arith))))
+    refuses-both Figures _ _ (refuses-demand Figures _ 10 0 (omega arith, omega arith))
+    (refuses-both Figures _ _ (refuses-demand Figures _ 10 1 (omega arith, omega arith)) (refuses-demand Figures _ 10 2 (omega arith, omega arith)))
 
 wants-told : (curves : ℕ) (wants : List ℕ) → length wants ≤ 256 → Refuses Figures (wantsKnown curves wants)
 unfolding wantsKnown
@@ -101,7 +99,7 @@ fit-told places wants l = refuses-each Figures _ 7 0 wants (λ t h. (omega arith
 
 module _ (method : ℕ) (j : Job) where
   few : jobKnownBy method j ≡ done tt → length (j .wants) ≤ 256
-  few e = job-by-exact j method .0 e .0 .tests-bounds .1
+  few e = job-by-exact j method .0 e .0 .tests-bound
 
   job-told : Refuses Figures (jobKnownBy method j)
   unfolding jobKnownBy methodKnown
@@ -172,7 +170,7 @@ module _ (j : Job) where
 
     planning-told : Refuses Figures (planningKnown j order)
     unfolding planningKnown
-    planning-told = then _ _ checking-told (λ e. fit-told (capacity (j .rig)) (j .wants) (known-exact j order e .0 .tests-bounds .1))
+    planning-told = then _ _ checking-told (λ e. fit-told (capacity (j .rig)) (j .wants) (known-exact j order e .0 .tests-bound))
 
 module _ (method : ℕ) (j : Job) (old : List ℕ) where
   pub write-job-told : Told (writeJobAnswer method j old)
@@ -214,13 +212,13 @@ module _ (method : ℕ) (j : Job) (old : List ℕ) where
 
 module _ (j : Job) (order : List ℕ) (p : Plan) where
   few-loads : (n : ℕ) → checking j order p ≡ done n → n < 2 ^ 48
-  few-loads n e = omega (arith, check-few j order p n e, passed j order p n e .is-job .tests-bounds .1)
+  few-loads n e = omega (arith, check-few j order p n e, passed j order p n e .is-job .tests-bound)
 
   check-refuses : Refuses Figures (checking j order p)
   unfolding checking setsKnown endKnown
   check-refuses =
       then _ _ (checking-told j order)
-      (λ e. let l = known-exact j order e .0 .tests-bounds .1 in
+      (λ e. let l = known-exact j order e .0 .tests-bound in
       refuses-both Figures _ _ (refuses-demand Figures _ 12 (min (min (length (p .drops)) (length (p .loads))) (length (j .wants))) (omega arith, omega arith))
       (refuses-both Figures _ _ (steps-told (capacity (j .rig)) (allCurves (j .rig .curves)) (planMoves j order p)
       (omega (arith, length-moves (inOrder (j .wants) order) (p .drops) (p .loads), steps-length j order e)))
@@ -247,7 +245,7 @@ module _ (j : Job) (order : List ℕ) (lent : SetLists) where
       omega (arith, few-loads j order _ (x .0 .count) (demand3 j order lent .passes (x .0) (x .1)), x .2))
       (refuses-mapped Figures _ _ (unfold planAnswer planning room in refuses-mapped Figures _ _
       (then _ _ (planning-told j order)
-      (λ e. let l = known-exact j order (planning-parts j order e .0) .0 .tests-bounds .1 in
+      (λ e. let l = known-exact j order (planning-parts j order e .0) .0 .tests-bound in
       refuses-bind Figures _ _ (refuses-demand Figures _ 9 (length (j .wants)) (omega arith, omega arith)) (λ _ e. tt)))))
 
 module _ (curves tests : ℕ) (bs order : List ℕ) (lent : SetLists) where

@@ -4,13 +4,13 @@ use mathlib.Core.Bool.{true, false}
 use Prim.Native.Nat.{ℕ, _≤_, _<_}
 use lib.Dec.{leb}
 use lib.ListN.{length}
-use borrow.Author.Tests.{lt-ltb, le-leb, lt-leb, leb-true}
+use borrow.Author.Tests.{le-leb, lt-leb, leb-true}
 use Rattle.job.specs.declared.Refusal.{Refusal}
 use Rattle.job.specs.declared.Examined.{Examined}
 use Rattle.job.specs.Refusal.{Outcome, done, refused, number, figure, examinedOutcome, _>>_, demand}
 use Rattle.job.specs.declared.Rig.{Rig}
 use Rattle.job.specs.Words.{Job}
-use Rattle.job.specs.Handed.{between, someTests, placesKnown, curvesKnown, testsKnown, methodKnown, wantsKnown, numbersKnown, jobKnownBy, countsKnown}
+use Rattle.job.specs.Handed.{between, placesKnown, curvesKnown, testsKnown, methodKnown, wantsKnown, numbersKnown, jobKnownBy, countsKnown}
 use Rattle.job.proofs.Laws.{both, both-done, demand-true, demand-done}
 
 -- a sequence whose first part is refused
@@ -28,45 +28,34 @@ unfolding testsKnown
 tests-few tests e = leb-true tests 256 (demand-true _ 10 2 e)
 
 module _ (rig : Rig) (tests : ℕ) where
-  pub no-tests : tests ≡ 0 → numbersKnown rig tests ≡ refused 5 0
-  unfolding numbersKnown someTests demand _>>_
-  no-tests e = rw e refl
+  pub bad-places : between 1 64 (rig .places) ≡ false → numbersKnown rig tests ≡ refused 10 0
+  unfolding numbersKnown placesKnown demand _>>_
+  bad-places e = rw e refl
 
-  module _ (some : 0 < tests) where
-    pub bad-places : between 1 64 (rig .places) ≡ false → numbersKnown rig tests ≡ refused 10 0
-    unfolding numbersKnown someTests placesKnown demand _>>_
-    bad-places e = rw (lt-ltb 0 tests some, e) refl
-
-    -- the rest is the examination of curves and tests
-    pub numbers-counts : between 1 64 (rig .places) ≡ true → numbersKnown rig tests ≡ countsKnown (rig .curves) tests
-    unfolding numbersKnown countsKnown someTests placesKnown demand _>>_
-    numbers-counts p = rw (lt-ltb 0 tests some, p) refl
+  -- the rest is the examination of curves and tests
+  pub numbers-counts : between 1 64 (rig .places) ≡ true → numbersKnown rig tests ≡ countsKnown (rig .curves) tests
+  unfolding numbersKnown countsKnown placesKnown demand _>>_
+  numbers-counts p = rw p refl
 
   pub known-bounds : numbersKnown rig tests ≡ done tt → (rig .curves ≤ 64) × (tests ≤ 256)
   unfolding numbersKnown curvesKnown between
   known-bounds e =
-      let a = both-done (someTests tests) _ tt e in
-      let b = both-done (placesKnown (rig .places)) _ tt (a .1) in
-      let c = both-done (curvesKnown (rig .curves)) _ tt (b .1) in
-      (leb-true _ 64 (both (leb 1 (rig .curves)) (leb (rig .curves) 64) (demand-true _ 10 1 (c .0)) .1), tests-few tests (c .1))
+      let a = both-done (placesKnown (rig .places)) _ tt e in
+      let b = both-done (curvesKnown (rig .curves)) _ tt (a .1) in
+      (leb-true _ 64 (both (leb 1 (rig .curves)) (leb (rig .curves) 64) (demand-true _ 10 1 (b .0)) .1), tests-few tests (b .1))
 
 module _ (curves tests : ℕ) where
-  pub counts-none : tests ≡ 0 → countsKnown curves tests ≡ refused 5 0
-  unfolding countsKnown someTests demand _>>_
-  counts-none e = rw e refl
+  pub counts-curves : between 1 64 curves ≡ false → countsKnown curves tests ≡ refused 10 1
+  unfolding countsKnown curvesKnown demand _>>_
+  counts-curves e = rw e refl
 
-  module _ (some : 0 < tests) where
-    pub counts-curves : between 1 64 curves ≡ false → countsKnown curves tests ≡ refused 10 1
-    unfolding countsKnown someTests curvesKnown demand _>>_
-    counts-curves e = rw (lt-ltb 0 tests some, e) refl
+  pub counts-many : between 1 64 curves ≡ true → 256 < tests → countsKnown curves tests ≡ refused 10 2
+  unfolding countsKnown curvesKnown testsKnown demand _>>_
+  counts-many q h = rw (q, lt-leb tests 256 h) refl
 
-    pub counts-many : between 1 64 curves ≡ true → 256 < tests → countsKnown curves tests ≡ refused 10 2
-    unfolding countsKnown someTests curvesKnown testsKnown demand _>>_
-    counts-many q h = rw (lt-ltb 0 tests some, q, lt-leb tests 256 h) refl
-
-    pub counts-known : between 1 64 curves ≡ true → tests ≤ 256 → countsKnown curves tests ≡ done tt
-    unfolding countsKnown someTests curvesKnown testsKnown demand _>>_
-    counts-known q h = rw (lt-ltb 0 tests some, q, le-leb tests 256 h) refl
+  pub counts-known : between 1 64 curves ≡ true → tests ≤ 256 → countsKnown curves tests ≡ done tt
+  unfolding countsKnown curvesKnown testsKnown demand _>>_
+  counts-known q h = rw (q, le-leb tests 256 h) refl
 
 -- ---- the whole, by its parts
 module _ (method : ℕ) (job : Job) where

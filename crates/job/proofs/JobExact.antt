@@ -9,11 +9,11 @@ use lib.Dec.{leb}
 use lib.Pow.{pow-pos}
 use lib.Bits.{and-mask}
 use lib.ListN.{length, getD}
-use borrow.Author.Tests.{ltb-true, leb-true, lt-ltb, le-leb, eqb-true, eq-eqb}
+use borrow.Author.Tests.{leb-true, le-leb, eqb-true, eq-eqb}
 use Rattle.bitset.specs.Set.{_∖_, inside}
 use Rattle.job.specs.Refusal.{done}
-use Rattle.job.specs.Handed.{between, allCurves, someTests, placesKnown, curvesKnown, testsKnown, methodKnown, wantsKnown, numbersKnown, jobKnown}
-use Rattle.job.specs.Handed.{jobKnownBy}
+use Rattle.job.specs.Handed.{between, allCurves, placesKnown, curvesKnown, testsKnown, methodKnown, wantsKnown, numbersKnown, jobKnown}
+use Rattle.job.specs.Handed.{jobKnownBy, countsKnown}
 use Rattle.job.specs.Words.{Job, IsJob}
 use Rattle.job.proofs.Laws.{both, and, demand-true, demand-done, both-done, done-both, each-true, true-each}
 
@@ -33,10 +33,6 @@ module _ (j : Job) where
   n = length (j .wants)
 
   module _ (is : IsJob j) where
-    some-done : someTests n ≡ done tt
-    unfolding someTests
-    some-done = demand-done _ 5 0 (lt-ltb 0 n (is .tests-bounds .0))
-
     places-done : placesKnown (j .rig .places) ≡ done tt
     unfolding placesKnown between
     places-done = demand-done _ 10 0 (and _ _ (le-leb 1 _ (is .places-bounds .0)) (le-leb _ 64 (is .places-bounds .1)))
@@ -47,7 +43,7 @@ module _ (j : Job) where
 
     tests-done : testsKnown n ≡ done tt
     unfolding testsKnown
-    tests-done = demand-done _ 10 2 (le-leb n 256 (is .tests-bounds .1))
+    tests-done = demand-done _ 10 2 (le-leb n 256 (is .tests-bound))
 
     wants-done : wantsKnown (j .rig .curves) (j .wants) ≡ done tt
     unfolding wantsKnown
@@ -56,20 +52,24 @@ module _ (j : Job) where
 
     numbers-done : numbersKnown (j .rig) n ≡ done tt
     unfolding numbersKnown
-    numbers-done = done-both _ _ some-done ∙ done-both _ _ places-done ∙ done-both _ _ curves-done ∙ tests-done
+    numbers-done = done-both _ _ places-done ∙ done-both _ _ curves-done ∙ tests-done
+
+    -- its counts are in range for plan bytes too
+    pub job-counts : countsKnown (j .rig .curves) n ≡ done tt
+    unfolding countsKnown
+    job-counts = done-both _ _ curves-done ∙ tests-done
 
   is-job : numbersKnown (j .rig) n ≡ done tt → wantsKnown (j .rig .curves) (j .wants) ≡ done tt → IsJob j
-  unfolding numbersKnown someTests placesKnown curvesKnown testsKnown wantsKnown between
+  unfolding numbersKnown placesKnown curvesKnown testsKnown wantsKnown between
   is-job e w =
-      let a = both-done (someTests n) _ tt e in
-      let b = both-done (placesKnown (j .rig .places)) _ tt (a .1) in
-      let c = both-done (curvesKnown (j .rig .curves)) _ tt (b .1) in
-      let p = both (leb 1 (j .rig .places)) (leb (j .rig .places) 64) (demand-true _ 10 0 (b .0)) in
-      let q = both (leb 1 (j .rig .curves)) (leb (j .rig .curves) 64) (demand-true _ 10 1 (c .0)) in
+      let a = both-done (placesKnown (j .rig .places)) _ tt e in
+      let b = both-done (curvesKnown (j .rig .curves)) _ tt (a .1) in
+      let p = both (leb 1 (j .rig .places)) (leb (j .rig .places) 64) (demand-true _ 10 0 (a .0)) in
+      let q = both (leb 1 (j .rig .curves)) (leb (j .rig .curves) 64) (demand-true _ 10 1 (b .0)) in
       record {
         places-bounds = (leb-true 1 _ (p .0), leb-true _ 64 (p .1));
         curves-bounds = (leb-true 1 _ (q .0), leb-true _ 64 (q .1));
-        tests-bounds = (ltb-true 0 n (demand-true _ 5 0 (a .0)), leb-true n 256 (demand-true _ 10 2 (c .1)));
+        tests-bound = leb-true n 256 (demand-true _ 10 2 (b .1));
         own-curves = λ t l. inside-below (j .rig .curves) (getD (j .wants) t 0) (each-true (λ v. inside v (allCurves (j .rig .curves))) 10 4 (j .wants) w t l);
       }
 

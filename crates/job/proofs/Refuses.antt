@@ -1,15 +1,16 @@
 -- Which refusals can come out: a property of the number and the figure that every refusal of an outcome has.
+-- 5 is the number of none.
 use mathlib.Core.Path.{_≡_, refl}
-use mathlib.Core.Logic.{_⊎_, inl, inr}
 use mathlib.Core.Bool.{Bool, true, false}
 use mathlib.Core.List.{List, [], _∷_}
 use Prim.Native.Nat.{ℕ, suc, _+_, _<_}
 use native.Mathlib.Omega.{arith}
 use lib.ListN.{length}
-use Rattle.job.specs.Refusal.{Outcome, done, refused, _>>=_, _>>_, mapped, demand}
+use Rattle.job.specs.declared.Refusal.{Refusal}
+use Rattle.job.specs.Refusal.{Outcome, done, refused, number, _>>=_, _>>_, mapped, demand}
 use Rattle.job.specs.declared.Rig.{Rig}
 use Rattle.job.specs.Words.{Job}
-use Rattle.job.specs.Handed.{each, someTests, placesKnown, curvesKnown, testsKnown, methodKnown, wantsKnown, numbersKnown, jobKnownBy}
+use Rattle.job.specs.Handed.{each, placesKnown, curvesKnown, testsKnown, methodKnown, wantsKnown, numbersKnown, jobKnownBy}
 
 abbrev pub Refuses : {A : Type 0} → (ℕ → ℕ → Type 0) → Outcome A → Type 0
 Refuses P (done a) = Unit {0}
@@ -48,23 +49,36 @@ module _ (P : ℕ → ℕ → Type 0) where
       refuses-both (demand (ok x) k i) (each ok k (suc i) xs) (refuses-demand (ok x) k i (rw z at (p 0 (omega arith))))
       (refuses-each ok k (suc i) xs (λ t l. let n : i + suc t ≡ suc i + t = omega arith in rw n at (p (suc t) (omega arith))))
 
--- ---- the examination refuses by 5 and 10 only
+-- 02, wish 3: "Refusal 5 is withdrawn and its number not used again": NO REFUSAL that a function can answer has this number
+pub withdrawn : (r : Refusal) → number r ≡ 5 → ⊥
+withdrawn (Refusal.Truncated i) e = omega arith
+withdrawn (Refusal.BadHeader i) e = omega arith
+withdrawn (Refusal.EmptyGroup i) e = omega arith
+withdrawn (Refusal.UnknownCurve i) e = omega arith
+withdrawn (Refusal.TrailingBytes i) e = omega arith
+withdrawn (Refusal.TestTooLarge i) e = omega arith
+withdrawn (Refusal.BadOrder i) e = omega arith
+withdrawn (Refusal.BufferTooSmall i) e = omega arith
+withdrawn (Refusal.BadArgument i) e = omega arith
+withdrawn (Refusal.BadPlanBytes i) e = omega arith
+withdrawn (Refusal.PlanRejected i) e = omega arith
+
+-- ---- the examination refuses by 10 only
 abbrev pub HandedRefusal : ℕ → ℕ → Type 0
-HandedRefusal k i = (k ≡ 5) ⊎ (k ≡ 10)
+HandedRefusal k i = k ≡ 10
 
 numbers-refuse : (rig : Rig) (tests : ℕ) → Refuses HandedRefusal (numbersKnown rig tests)
-unfolding numbersKnown someTests placesKnown curvesKnown testsKnown
+unfolding numbersKnown placesKnown curvesKnown testsKnown
 numbers-refuse rig tests =
-    refuses-both HandedRefusal _ _ (refuses-demand HandedRefusal _ 5 0 (inl refl))
-    (refuses-both HandedRefusal _ _ (refuses-demand HandedRefusal _ 10 0 (inr refl))
-    (refuses-both HandedRefusal _ _ (refuses-demand HandedRefusal _ 10 1 (inr refl)) (refuses-demand HandedRefusal _ 10 2 (inr refl))))
+    refuses-both HandedRefusal _ _ (refuses-demand HandedRefusal _ 10 0 refl)
+    (refuses-both HandedRefusal _ _ (refuses-demand HandedRefusal _ 10 1 refl) (refuses-demand HandedRefusal _ 10 2 refl))
 
 wants-refuse : (curves : ℕ) (wants : List ℕ) → Refuses HandedRefusal (wantsKnown curves wants)
 unfolding wantsKnown
-wants-refuse curves wants = refuses-each HandedRefusal _ 10 4 wants (λ t l. inr refl)
+wants-refuse curves wants = refuses-each HandedRefusal _ 10 4 wants (λ t l. refl)
 
 pub job-by-refuses : (method : ℕ) (j : Job) → Refuses HandedRefusal (jobKnownBy method j)
 unfolding jobKnownBy methodKnown
 job-by-refuses method j =
     refuses-both HandedRefusal _ _ (numbers-refuse (j .rig) (length (j .wants)))
-    (refuses-both HandedRefusal _ _ (refuses-demand HandedRefusal _ 10 3 (inr refl)) (wants-refuse (j .rig .curves) (j .wants)))
+    (refuses-both HandedRefusal _ _ (refuses-demand HandedRefusal _ 10 3 refl) (wants-refuse (j .rig .curves) (j .wants)))

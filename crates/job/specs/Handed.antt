@@ -1,9 +1,9 @@
--- "Handed lists and counts: 5, 10 in its own order", and 7: numbers that are handed over directly are examined the same way as bytes.
+-- "Handed lists and counts: .. 10 in its own order", and 7: numbers that are handed over directly are examined the same way as bytes.
 use mathlib.Core.Bool.{Bool, false, _&&_, _||_}
 use mathlib.Core.List.{List, [], _∷_}
 use Prim.Native.Nat.{ℕ, suc}
 use lib.ListN.{length}
-use lib.Dec.{leb, ltb, eqb}
+use lib.Dec.{leb, eqb}
 use Rattle.bitset.specs.Set.{size, inside, below}
 use Rattle.job.specs.declared.Rig.{Rig}
 use Rattle.job.specs.Refusal.{Outcome, done, _>>_, demand}
@@ -28,10 +28,6 @@ each ok k i [] = done tt
 each ok k i (x ∷ xs) = do
   demand (ok x) k i
   each ok k (suc i) xs
-
--- 5: "the list is empty"
-unfoldable pub someTests : ℕ → Outcome (Unit {0})
-someTests tests = demand (ltb 0 tests) 5 0
 
 -- 10: "0 places, 1 curves, 2 more than 256 tests, 3 method, 4 + t: wants of test t name a foreign curve", with the bounds "Places in the drive 1 to 64.
 -- Curves 1 to 64", and the methods 0 to 3
@@ -58,10 +54,9 @@ wantsKnown curves wants = each (λ w. inside w (allCurves curves)) 10 4 wants
 unfoldable pub wantsFit : ℕ → List ℕ → Outcome (Unit {0})
 wantsFit places wants = each (λ w. leb (size w) places) 7 0 wants
 
--- "5, 10 in its own order": as far as the number of tests
+-- "10 in its own order": as far as the number of tests
 unfoldable pub numbersKnown : Rig → ℕ → Outcome (Unit {0})
 numbersKnown rig tests = do
-  someTests tests
   placesKnown (rig .places)
   curvesKnown (rig .curves)
   testsKnown tests
@@ -80,6 +75,5 @@ jobKnown j = jobKnownBy 0 j
 -- of curves and a number of tests, as reading and fetching from plan bytes are handed them
 unfoldable pub countsKnown : ℕ → ℕ → Outcome (Unit {0})
 countsKnown curves tests = do
-  someTests tests
   curvesKnown curves
   testsKnown tests

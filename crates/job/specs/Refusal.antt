@@ -7,7 +7,7 @@ use lib.Dec.{leb}
 use lib.ListN.{length}
 unfoldable pub use Rattle.lists.specs.Lent.{overwritten}
 use Rattle.job.specs.declared.Refusal.{Refusal}
-use Rattle.job.specs.declared.Refusal.the-variants.{Truncated, BadHeader, EmptyGroup, UnknownCurve, NoTests, TrailingBytes, TestTooLarge, BadOrder}
+use Rattle.job.specs.declared.Refusal.the-variants.{Truncated, BadHeader, EmptyGroup, UnknownCurve, TrailingBytes, TestTooLarge, BadOrder}
 use Rattle.job.specs.declared.Refusal.the-variants.{BufferTooSmall, BadArgument, BadPlanBytes, PlanRejected}
 use Rattle.job.specs.declared.Head.{Head}
 use Rattle.job.specs.declared.JobRead.{JobRead}
@@ -20,13 +20,12 @@ pub data Outcome (A : Type 0) : Type 0 where
 
 -- ---- the table: "returned"
 
--- the refusal's number ..
+-- the refusal's number; 02, wish 3: "Refusal 5 is withdrawn and its number not used again" ..
 abbrev pub number : Refusal → ℕ
 number (Truncated i) = 1
 number (BadHeader i) = 2
 number (EmptyGroup i) = 3
 number (UnknownCurve i) = 4
-number NoTests = 5
 number (TrailingBytes i) = 6
 number (TestTooLarge i) = 7
 number (BadOrder i) = 8
@@ -41,7 +40,6 @@ figure (Truncated i) = i
 figure (BadHeader i) = i
 figure (EmptyGroup i) = i
 figure (UnknownCurve i) = i
-figure NoTests = 0
 figure (TrailingBytes i) = i
 figure (TestTooLarge i) = i
 figure (BadOrder i) = i

@@ -9,7 +9,7 @@ ghost use Rattle.job.specs.Handed.{between, numbersKnown, wantsKnown, wa
 ghost use Rattle.job.specs.Order.{orderKnown};
 ghost use Rattle.job.specs.Calls.{orderingKnown, checkingKnown, planningKnown, orderAloneKnown};
 
-// "Places in the drive 1 to 64. Curves 1 to 64, numbered from 0. Tests 1 to 256, numbered from 0."
+// "Places in the drive 1 to 64. Curves 1 to 64, numbered from 0. Tests 1 to 256, numbered from 0.", and since wish 3 of 02 a list may have no tests.
 pub const MOST_PLACES: usize = 64;
 
 pub const MOST_CURVES: usize = 64;
@@ -19,7 +19,7 @@ pub const MOST_TESTS: usize = 256;
 // The methods are 0 to 3.
 pub const LAST_METHOD: usize = 3;
 
-// Why a call is refused: the rows of document 01's table in its order, each with the figure that is returned beside its number.
+// Why a call is refused: the rows of document 01's table in its order, each with the figure that is returned beside its number. Row 5 is withdrawn.
 // The comment gives the table's own word.
 pub enum Refusal {
     // 1, cut
@@ -30,8 +30,6 @@ pub enum Refusal {
     EmptyGroup(usize),
     // 4, foreign curve
     UnknownCurve(usize),
-    // 5, no tests
-    NoTests,
     // 6, surplus
     TrailingBytes(usize),
     // 7, too wide
@@ -57,7 +55,6 @@ pub fn number_of(r: Refusal) -> u64
         Refusal::BadHeader(_) => 2,
         Refusal::EmptyGroup(_) => 3,
         Refusal::UnknownCurve(_) => 4,
-        Refusal::NoTests => 5,
         Refusal::TrailingBytes(_) => 6,
         Refusal::TestTooLarge(_) => 7,
         Refusal::BadOrder(_) => 8,
@@ -77,7 +74,6 @@ pub fn figure_of(r: Refusal) -> u64
         Refusal::BadHeader(i) => i as u64,
         Refusal::EmptyGroup(i) => i as u64,
         Refusal::UnknownCurve(i) => i as u64,
-        Refusal::NoTests => 0,
         Refusal::TrailingBytes(i) => i as u64,
         Refusal::TestTooLarge(i) => i as u64,
         Refusal::BadOrder(i) => i as u64,
@@ -119,7 +115,7 @@ pub enum Counted {
     Refused(Refusal),
 }
 
-// ---- 5 and 10
+// ---- 10
 
 // "Places in the drive 1 to 64. Curves 1 to 64".
 fn in_bounds(x: usize, most: usize) -> bool
@@ -128,13 +124,10 @@ fn in_bounds(x: usize, most: usize) -> bool
     if x < 1 { false } else { x <= most }
 }
 
-// 5 and 10, of curves and a number of tests.
+// 10, of curves and a number of tests.
 pub fn examine_counts(curves: usize, tests: usize) -> Examined
     ensures { λ r. ⌜ examinedOutcome r ≡ countsKnown curves tests ⌝ }
 {
-    if tests == 0 {
-        return Examined::Refused(Refusal::NoTests);
-    }
     if !in_bounds(curves, MOST_CURVES) {
         return Examined::Refused(Refusal::BadArgument(1));
     }
@@ -144,13 +137,10 @@ pub fn examine_counts(curves: usize, tests: usize) -> Examined
     Examined::Passed
 }
 
-// "5, 10 in its own order": as far as the number of tests.
+// "10 in its own order": as far as the number of tests.
 fn examine_numbers(rig: Rig, tests: usize) -> Examined
     ensures { λ r. ⌜ examinedOutcome r ≡ numbersKnown rig tests ⌝ }
 {
-    if tests == 0 {
-        return Examined::Refused(Refusal::NoTests);
-    }
     if !in_bounds(rig.places, MOST_PLACES) {
         return Examined::Refused(Refusal::BadArgument(0));
     }
@@ -174,7 +164,7 @@ fn examine_wants(curves: usize, wants: &[u64]) -> Examined
     Examined::Passed
 }
 
-// 5 and 10, of a job and a method: what writing a job is handed. With method 0, of a job alone.
+// 10, of a job and a method: what writing a job is handed. With method 0, of a job alone.
 pub fn examine_job(rig: Rig, method: usize, wants: &[u64]) -> Examined
     ensures { λ r. ⌜ examinedOutcome r ≡ jobKnownBy method (jobOf rig (was wants)) ⌝ }
 {
@@ -232,7 +222,7 @@ fn examine_order(tests: usize, order: &[u16]) -> Examined
 
 // ---- what the other calls are handed
 
-// Of what ordering is handed: 5, 10, 7.
+// Of what ordering is handed: 10, 7.
 pub fn examine_ordering(rig: Rig, method: usize, wants: &[u64]) -> Examined
     ensures { λ r. ⌜ examinedOutcome r ≡ orderingKnown method (jobOf rig (was wants)) ⌝ }
 {
@@ -242,7 +232,7 @@ pub fn examine_ordering(rig: Rig, method: usize, wants: &[u64]) -> Examined
     examine_sizes(rig.places, wants)
 }
 
-// Of what the plan check is handed, but for the plan: 5, 10, 8.
+// Of what the plan check is handed, but for the plan: 10, 8.
 pub fn examine_checking(rig: Rig, wants: &[u64], order: &[u16]) -> Examined
     ensures { λ r. ⌜ examinedOutcome r ≡ checkingKnown (jobOf rig (was wants)) (was order) ⌝ }
 {
@@ -252,7 +242,7 @@ pub fn examine_checking(rig: Rig, wants: &[u64], order: &[u16]) -> Examined
     examine_order(wants.len(), order)
 }
 
-// Of what planning is handed: 5, 10, 8, 7.
+// Of what planning is handed: 10, 8, 7.
 pub fn examine_planning(rig: Rig, wants: &[u64], order: &[u16]) -> Examined
     ensures { λ r. ⌜ examinedOutcome r ≡ planningKnown (jobOf rig (was wants)) (was order) ⌝ }
 {

@@ -7,12 +7,11 @@ use mathlib.Core.List.{List, [], _∷_, _++_}
 use Prim.Native.Nat.{ℕ, zero, suc, _+_, _*_, _/_, _%_, _≤_}
 use native.Mathlib.Omega.{arith}
 use native.Mathlib.Decide.{decLe}
-use lib.Dec.{ltb, leb}
+use lib.Dec.{leb}
 use lib.ListN.{length, take, drop, length-take, length-drop, take-append-drop}
 use lib.Seq.{take-all}
 use Rattle.job.specs.declared.Head.{Head}
 use Rattle.job.specs.Refusal.{Outcome, done, refused, _>>=_, _>>_, demand, room}
-use Rattle.job.specs.Handed.{someTests}
 use Rattle.job_bytes.specs.declared.fields.Field.{Field}
 use Rattle.job_bytes.specs.SetBytes.{Got, got}
 use Rattle.job.specs.Words.{Job}
@@ -39,7 +38,7 @@ at-end bs e [] j m l r t = read j (omega (arith, ap length r, length-drop e bs))
 at-end bs e (b ∷ rest) j m l r t = figure 6 e m l
 
 pub read-bounded : (bs : List ℕ) → Bounded bs (readBytes bs)
-unfolding readBytes someTests demand _>>=_ _>>_
+unfolding readBytes _>>=_ _>>_
 read-bounded bs = behind (readHead bs) refl (head-span bs)
   where
     all : (h : Head) (n : ℕ) (o : Outcome (Got (List ℕ))) → h .tests ≤ 256 → n ≤ 6 → Spans (9 * h .tests) n bs o
@@ -47,23 +46,20 @@ read-bounded bs = behind (readHead bs) refl (head-span bs)
     all h n (done g) t m s = let e = span-done s in at-end bs (g .next) (g .rest) _ (omega (arith, e .most)) (e .within) (e .behind) t
     all h n (refused k f) t m s = let e = span-refused s in figure k f (omega (arith, e .0)) (e .1)
 
-    tested : (h : Head) (n : ℕ) (rest : List ℕ) (b : Bool) → h .tests ≤ 256 → Ends 6 0 bs n rest
-        → Bounded bs (_>>_ (demand b 5 0) (_>>=_ (readRecords (h .rig .curves) (h .tests) [] n rest)
-        (λ r. _>>_ (atEnd 6 (r .next) (r .rest)) (done (record { head = h; wants = r .value })))))
-    tested h n rest false t s = figure 5 0 (omega arith) (omega arith)
-    tested h n rest true t s =
+    records : (h : Head) (n : ℕ) (rest : List ℕ) → h .tests ≤ 256 → Ends 6 0 bs n rest
+        → Bounded bs (_>>=_ (readRecords (h .rig .curves) (h .tests) [] n rest)
+        (λ r. _>>_ (atEnd 6 (r .next) (r .rest)) (done (record { head = h; wants = r .value }))))
+    records h n rest t s =
         subst (λ (l : List ℕ). Bounded bs (_>>=_ (readRecords (h .rig .curves) (h .tests) [] n l)
         (λ r. _>>_ (atEnd 6 (r .next) (r .rest)) (done (record { head = h; wants = r .value }))))) (sym (s .behind))
         (all h n (readRecords (h .rig .curves) (h .tests) [] n (drop n bs)) t (omega (arith, s .most))
         (records-span bs (h .rig .curves) (h .tests) [] n (s .within)))
 
     behind : (o : Outcome (Got Head)) → readHead bs ≡ o → Spans 6 0 bs o
-        → Bounded bs (_>>=_ o (λ h. _>>_ (someTests (h .value .tests))
-        (_>>=_ (readRecords (h .value .rig .curves) (h .value .tests) [] (h .next) (h .rest))
-        (λ r. _>>_ (atEnd 6 (r .next) (r .rest)) (done (record { head = h .value; wants = r .value }))))))
+        → Bounded bs (_>>=_ o (λ h. _>>=_ (readRecords (h .value .rig .curves) (h .value .tests) [] (h .next) (h .rest))
+        (λ r. _>>_ (atEnd 6 (r .next) (r .rest)) (done (record { head = h .value; wants = r .value })))))
     behind (refused k f) e s = let x = span-refused s in figure k f (omega (arith, x .0)) (x .1)
-    behind (done g) e s =
-        tested (g .value) (g .next) (g .rest) (ltb 0 (g .value .tests)) (head-range bs g e .tests) (span-done s)
+    behind (done g) e s = records (g .value) (g .next) (g .rest) (head-range bs g e .tests) (span-done s)
 
 -- A JOB THAT READS HAS AT MOST 2,310 BYTES
 pub job-short : (bs : List ℕ) (j : Request) → readBytes bs ≡ done j → length bs ≤ 2310
@@ -151,22 +147,14 @@ module _ (ys : List ℕ) where
 
   -- BYTES BEHIND THE 2,311TH NEVER CHANGE THE ANSWER
   pub behind-same : (xs : List ℕ) → 2311 ≤ length xs → readBytes (xs ++ ys) ≡ readBytes xs
-  unfolding readBytes someTests demand _>>=_ _>>_
+  unfolding readBytes _>>=_ _>>_
   behind-same xs l = go refl refl (head-same 2305 xs (omega arith))
     where
-      tested : (h : Head) (n : ℕ) (rest : List ℕ) (b : Bool) → h .tests ≤ 256 → 2305 ≤ length rest
-          → _≡_ {A = Outcome Request} (_>>_ (demand b 5 0)
-          (_>>=_ (readRecords (h .rig .curves) (h .tests) [] n (rest ++ ys))
-          (λ r. _>>_ (atEnd 6 (r .next) (r .rest)) (done (record { head = h; wants = r .value })))))
-          (_>>_ (demand b 5 0) (_>>=_ (readRecords (h .rig .curves) (h .tests) [] n rest)
-          (λ r. _>>_ (atEnd 6 (r .next) (r .rest)) (done (record { head = h; wants = r .value })))))
-      tested h n rest false t m = refl
-      tested h n rest true t m = end-same h (records-same (h .rig .curves) (h .tests) [] n 1 rest (omega arith))
-
       go : {o q : Outcome (Got Head)} → readHead xs ≡ o → readHead (xs ++ ys) ≡ q → Same ys 2305 o q → readBytes (xs ++ ys) ≡ readBytes xs
       go e f (fault k i) = rw (e, f) refl
       go e f (value h n rest m) =
-          rw (e, f) (tested h n rest (ltb 0 (h .tests)) (head-range xs (got h n rest) e .tests) m)
+          let t = head-range xs (got h n rest) e .tests in
+          rw (e, f) (end-same h (records-same (h .rig .curves) (h .tests) [] n 1 rest (omega arith)))
 
 pub prefix-reads : (bs : List ℕ) → readBytes (take 2311 bs) ≡ readBytes bs
 prefix-reads bs = go (decLe (length bs) 2311)

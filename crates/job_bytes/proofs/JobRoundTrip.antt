@@ -4,14 +4,13 @@ use mathlib.Core.List.{List, [], _∷_, _++_, append-assoc, append-nil}
 use Prim.Native.Nat.{ℕ, zero, suc, _+_, _^_, _≤_, _<_}
 use native.Mathlib.Omega.{arith}
 use lib.ListN.{length, getD, length-append}
-use borrow.Author.Tests.{ltb-true, lt-ltb}
 use Rattle.job.specs.declared.Head.{Head}
-use Rattle.job.specs.Refusal.{done, refused, _>>=_, _>>_, demand, room}
-use Rattle.job.specs.Handed.{someTests, jobKnownBy}
+use Rattle.job.specs.Refusal.{done, _>>=_, _>>_, room}
+use Rattle.job.specs.Handed.{jobKnownBy}
 use Rattle.job_bytes.specs.SetBytes.{groupMap, groupBytes, setBytes, Got, got, byteAt}
 use Rattle.job_bytes.specs.JobBytes.{Request, jobIn, request, valuesOf, readHead, readRecord, readRecords, atEnd, readBytes, headBytes, recordBytes}
 use Rattle.job_bytes.specs.JobBytes.{jobBytes, writeJob}
-use Rattle.job.proofs.Laws.{done-same, refused≢done, demand-true, both-done, done-both, bind-done, done-room}
+use Rattle.job.proofs.Laws.{done-same, refused≢done, both-done, done-both, bind-done, done-room}
 use Rattle.job.specs.Words.{Job, jobOf, IsJob}
 use Rattle.job.proofs.JobExact.{job-by-exact}
 use Rattle.job_bytes.proofs.SetRoundTrip.{set-back, Bytes, SetRead, set-read}
@@ -40,7 +39,7 @@ module _ (curves : ℕ) (few : curves ≤ 64) where
 
 -- A JOB THAT IS WRITTEN READS BACK
 pub job-back : (method : ℕ) (j : Job) (lent : ℕ) (bytes : List ℕ) → writeJob method j lent ≡ done bytes → readBytes bytes ≡ done (request method j)
-unfolding writeJob readBytes jobBytes someTests demand atEnd _>>=_ _>>_
+unfolding writeJob readBytes jobBytes atEnd _>>=_ _>>_
 job-back method j lent bytes e =
     let a = both-done (jobKnownBy method j) _ bytes e in
     let b = both-done (room lent (length (jobBytes (request method j)))) (done (jobBytes (request method j))) bytes (a .1) in
@@ -54,10 +53,10 @@ job-back method j lent bytes e =
     go k =
         let x = job-by-exact j method .0 k in
         let h = request method j .head in
-        let ok : InRange h = record { places = x .0 .places-bounds; curves = x .0 .curves-bounds; tests = x .0 .tests-bounds .1; method = x .1 } in
+        let ok : InRange h = record { places = x .0 .places-bounds; curves = x .0 .curves-bounds; tests = x .0 .tests-bound; method = x .1 } in
         let z : recordBytes (j .wants) ≡ recordBytes (j .wants) ++ [] = sym (append-nil (recordBytes (j .wants))) in
         let r = records-back (j .rig .curves) (x .0 .curves-bounds .1) (length (headBytes (valuesOf h))) [] (j .wants) [] (x .0 .own-curves) in
-        rw (head-back h (recordBytes (j .wants)) (range-in h ok), lt-ltb 0 (length (j .wants)) (x .0 .tests-bounds .0), z, r) refl
+        rw (head-back h (recordBytes (j .wants)) (range-in h ok), z, r) refl
 
 -- ---- read, then written
 
@@ -106,16 +105,16 @@ unfolding atEnd
 end-none k i [] e = refl
 end-none k i (b ∷ bs) e = absurd (refused≢done e)
 
-job-written : (h : Head) (ws bs : List ℕ) → InRange h → 1 ≤ h .tests → length ws ≡ h .tests → ((t : ℕ) → t < length ws → getD ws t 0 < 2 ^ h .rig .curves)
+job-written : (h : Head) (ws bs : List ℕ) → InRange h → length ws ≡ h .tests → ((t : ℕ) → t < length ws → getD ws t 0 < 2 ^ h .rig .curves)
     → bs ≡ headBytes (valuesOf h) ++ recordBytes ws → writeJob (h .method) (jobOf (h .rig) ws) (length bs) ≡ done bs
 unfolding writeJob jobBytes
-job-written h ws bs ok some count known bytes =
+job-written h ws bs ok count known bytes =
     done-both _ _ (job-by-exact (jobOf (h .rig) ws) (h .method) .1 (is-job, ok .method))
     ∙ done-both _ _ (done-room (length bs) (length (jobBytes (request (h .method) (jobOf (h .rig) ws)))) (omega (arith, ap length same)))
     ∙ ap done same
   where
     is-job : IsJob (jobOf (h .rig) ws)
-    is-job = record { places-bounds = ok .places; curves-bounds = ok .curves; tests-bounds = (omega arith, omega (arith, ok .tests)); own-curves = known }
+    is-job = record { places-bounds = ok .places; curves-bounds = ok .curves; tests-bound = omega (arith, ok .tests); own-curves = known }
 
     head : _≡_ {A = Head} (record { rig = h .rig; tests = length ws; method = h .method }) h
     head i = record { rig = h .rig; tests = count i; method = h .method }
@@ -123,13 +122,12 @@ job-written h ws bs ok some count known bytes =
     same : jobBytes (request (h .method) (jobOf (h .rig) ws)) ≡ bs
     same = ap (λ (x : Head). headBytes (valuesOf x) ++ recordBytes ws) head ∙ sym bytes
 
-job-found : (h : Head) (bs rest : List ℕ) (g : Got (List ℕ)) → InRange h → someTests (h .tests) ≡ done tt → bs ≡ headBytes (valuesOf h) ++ rest
+job-found : (h : Head) (bs rest : List ℕ) (g : Got (List ℕ)) → InRange h → bs ≡ headBytes (valuesOf h) ++ rest
     → RecordsRead (h .rig .curves) (h .tests) [] rest g → g .rest ≡ []
     → writeJob (h .method) (jobOf (h .rig) (g .value)) (length bs) ≡ done bs
-unfolding someTests
-job-found h bs rest g ok some bytes r none =
+job-found h bs rest g ok bytes r none =
     rw (r .value)
-    (job-written h (r .wants) bs ok (ltb-true 0 (h .tests) (demand-true _ 5 0 some)) (r .count) (r .known)
+    (job-written h (r .wants) bs ok (r .count) (r .known)
     (bytes ∙ ap (λ (l : List ℕ). headBytes (valuesOf h) ++ l)
     (r .bytes ∙ ap (λ (l : List ℕ). recordBytes (r .wants) ++ l) none ∙ append-nil (recordBytes (r .wants)))))
 
@@ -140,10 +138,9 @@ job-read bs q all e =
     let x = bind-done (readHead bs) _ q e in
     let H = head-read bs (x .0) (x .1) .exact all in
     let h = x .0 .value in
-    let s = both-done (someTests (h .tests)) _ q (x .2) in
-    let y = bind-done (readRecords (h .rig .curves) (h .tests) [] (x .0 .next) (x .0 .rest)) _ q (s .1) in
+    let y = bind-done (readRecords (h .rig .curves) (h .tests) [] (x .0 .next) (x .0 .rest)) _ q (x .2) in
     let R : RecordsRead (h .rig .curves) (h .tests) [] (x .0 .rest) (y .0) =
     records-read (h .rig .curves) (h .tests) (x .0 .next) [] (x .0 .rest) (y .0) (H .1) (y .1) in
     let z = both-done (atEnd 6 (y .0 .next) (y .0 .rest)) (done (record { head = h; wants = y .0 .value })) q (y .2) in
     subst (λ (q : Request). writeJob (q .head .method) (jobIn q) (length bs) ≡ done bs) (done-same (z .1))
-    (job-found h bs (x .0 .rest) (y .0) (head-range bs (x .0) (x .1)) (s .0) (H .0) R (end-none 6 (y .0 .next) (y .0 .rest) (z .0)))
+    (job-found h bs (x .0 .rest) (y .0) (head-range bs (x .0) (x .1)) (H .0) R (end-none 6 (y .0 .next) (y .0 .rest) (z .0)))

@@ -1,16 +1,16 @@
--- Reading job bytes refuses by 1 to 6 only.
+-- Reading job bytes refuses by 1 to 4 and 6 only.
+use mathlib.Core.Path.{_≡_}
 use mathlib.Core.List.{List, [], _∷_, _++_}
 use Prim.Native.Nat.{ℕ, zero, suc, _+_, _/_, _%_, _≤_}
 use native.Mathlib.Omega.{arith}
 use Rattle.bitset.specs.Set.{_∪_, bit}
-use Rattle.job.specs.Handed.{someTests}
 use Rattle.job_bytes.specs.declared.fields.Field.{Field}
 use Rattle.job_bytes.specs.SetBytes.{byteAt, readGroup, readGroups}
 use Rattle.job_bytes.specs.JobBytes.{fields, readNumber, readField, readFields, readHead, readRecord, readRecords, atEnd, readBytes}
 use Rattle.job.proofs.Refuses.{Refuses, refuses-demand, refuses-both, refuses-bind}
 
 abbrev pub ByReading : ℕ → ℕ → Type 0
-ByReading k i = (1 ≤ k) × (k ≤ 6)
+ByReading k i = (1 ≤ k) × (k ≤ 6) × (k ≡ 5 → ⊥)
 
 abbrev P : ℕ → ℕ → Type 0
 P = ByReading
@@ -24,14 +24,14 @@ number : (w i : ℕ) (bs : List ℕ) → Refuses P (readNumber w i bs)
 unfolding readNumber
 number zero i bs = tt
 number (suc w) i bs =
-    refuses-bind P (byteAt 1 i bs) _ (byte 1 i bs (omega arith, omega arith))
+    refuses-bind P (byteAt 1 i bs) _ (byte 1 i bs (omega arith, omega arith, λ e. omega arith))
     (λ b e. refuses-bind P (readNumber w (b .next) (b .rest)) _ (number w (b .next) (b .rest)) (λ r e. tt))
 
 field : (f : Field) (d i : ℕ) (bs : List ℕ) → Refuses P (readField f d i bs)
 unfolding readField
 field f zero i bs = tt
 field f (suc d) i bs =
-    refuses-bind P (readNumber (f .width) i bs) _ (number (f .width) i bs) (λ v e. refuses-both P _ _ (refuses-demand P _ 2 i (omega arith, omega arith)) tt)
+    refuses-bind P (readNumber (f .width) i bs) _ (number (f .width) i bs) (λ v e. refuses-both P _ _ (refuses-demand P _ 2 i (omega arith, omega arith, λ e. omega arith)) tt)
 
 all-fields : (fs : List Field) (map : ℕ) (values : List ℕ) (i : ℕ) (bs : List ℕ) → Refuses P (readFields fs map values i bs)
 unfolding readFields
@@ -42,8 +42,8 @@ all-fields (f ∷ fs) map values i bs =
 head : (bs : List ℕ) → Refuses P (readHead bs)
 unfolding readHead
 head bs =
-    refuses-bind P (byteAt 1 0 bs) _ (byte 1 0 bs (omega arith, omega arith))
-    (λ m e. refuses-both P _ _ (refuses-demand P _ 2 0 (omega arith, omega arith))
+    refuses-bind P (byteAt 1 0 bs) _ (byte 1 0 bs (omega arith, omega arith, λ e. omega arith))
+    (λ m e. refuses-both P _ _ (refuses-demand P _ 2 0 (omega arith, omega arith, λ e. omega arith))
     (refuses-bind P _ _ (all-fields fields (m .value) [] (m .next) (m .rest)) (λ r e. tt)))
 
 module _ (curves : ℕ) where
@@ -51,9 +51,9 @@ module _ (curves : ℕ) where
   unfolding readGroup
   group zero j i bs = tt
   group (suc d) j i bs =
-      refuses-bind P (byteAt 1 i bs) _ (byte 1 i bs (omega arith, omega arith))
-      (λ b e. refuses-both P _ _ (refuses-demand P _ 3 i (omega arith, omega arith))
-      (refuses-both P _ _ (refuses-demand P _ 4 i (omega arith, omega arith)) tt))
+      refuses-bind P (byteAt 1 i bs) _ (byte 1 i bs (omega arith, omega arith, λ e. omega arith))
+      (λ b e. refuses-both P _ _ (refuses-demand P _ 3 i (omega arith, omega arith, λ e. omega arith))
+      (refuses-both P _ _ (refuses-demand P _ 4 i (omega arith, omega arith, λ e. omega arith)) tt))
 
   groups : (k j map s i : ℕ) (bs : List ℕ) → Refuses P (readGroups 1 3 4 curves k j map s i bs)
   unfolding readGroups
@@ -62,7 +62,7 @@ module _ (curves : ℕ) where
 
   one-record : (i : ℕ) (bs : List ℕ) → Refuses P (readRecord curves i bs)
   unfolding readRecord
-  one-record i bs = refuses-bind P (byteAt 1 i bs) _ (byte 1 i bs (omega arith, omega arith)) (λ m e. groups 8 0 (m .value) 0 (m .next) (m .rest))
+  one-record i bs = refuses-bind P (byteAt 1 i bs) _ (byte 1 i bs (omega arith, omega arith, λ e. omega arith)) (λ m e. groups 8 0 (m .value) 0 (m .next) (m .rest))
 
   records : (k : ℕ) (wants : List ℕ) (i : ℕ) (bs : List ℕ) → Refuses P (readRecords curves k wants i bs)
   unfolding readRecords
@@ -72,12 +72,12 @@ module _ (curves : ℕ) where
 end : (i : ℕ) (bs : List ℕ) → Refuses P (atEnd 6 i bs)
 unfolding atEnd
 end i [] = tt
-end i (b ∷ bs) = (omega arith, omega arith)
+end i (b ∷ bs) = (omega arith, omega arith, λ e. omega arith)
 
--- READING REFUSES BY 1 TO 6
+-- READING REFUSES BY 1 TO 4 AND 6
 pub read-refuses : (bs : List ℕ) → Refuses ByReading (readBytes bs)
-unfolding readBytes someTests
+unfolding readBytes
 read-refuses bs =
     refuses-bind P (readHead bs) _ (head bs)
-    (λ h e. refuses-both P _ _ (refuses-demand P _ 5 0 (omega arith, omega arith))
-    (refuses-bind P _ _ (records (h .value .rig .curves) (h .value .tests) [] (h .next) (h .rest)) (λ r e. refuses-both P _ _ (end (r .next) (r .rest)) tt)))
+    (λ h e. refuses-bind P _ _ (records (h .value .rig .curves) (h .value .tests) [] (h .next) (h .rest))
+    (λ r e. refuses-both P _ _ (end (r .next) (r .rest)) tt))

@@ -7,13 +7,12 @@ use native.Mathlib.Omega.{arith}
 use native.Mathlib.Numerals.{add-one}
 use lib.ListN.{length, getD, take, drop, set, drop-of-length-le}
 use lib.Seq.{drop-drop, drop-cons, take-suc-set}
-use borrow.Author.Tests.{lt-ltb, lt-leb, le-leb}
+use borrow.Author.Tests.{lt-leb, le-leb}
 use Rattle.job.specs.declared.Refusal.{Refusal}
 use Rattle.job.specs.declared.Head.{Head}
 use Rattle.job.specs.declared.Counted.{Counted}
 use Rattle.job.specs.declared.Examined.{Examined}
 use Rattle.job.specs.Refusal.{Outcome, done, refused, number, figure, countOutcome, _>>=_, _>>_, mapped, demand, room, overwritten, leaves}
-use Rattle.job.specs.Handed.{someTests}
 use Rattle.job_bytes.specs.SetBytes.{Got, got, byteAt, readGroups}
 use Rattle.job_bytes.specs.JobBytes.{Request, readHead, readRecord, readRecords, atEnd, readBytes, readJob, readJobAnswer, readJobWants}
 use Rattle.job.proofs.Laws.{refused≢done, done-same, mapped-done, done-mapped, refused-mapped}
@@ -88,27 +87,22 @@ unfolding readBytes _>>=_
 whole-head bs k f e = rw e refl
 
 module _ (bs : List ℕ) (h : Head) (n : ℕ) (head : readHead bs ≡ done (got h n (drop n bs))) where
-  pub whole-none : h .tests ≡ 0 → readBytes bs ≡ refused 5 0
-  unfolding readBytes someTests demand _>>=_ _>>_
-  whole-none e = rw (head, e) refl
+  pub whole-fault : (k f : ℕ) → readRecords (h .rig .curves) (h .tests) [] n (drop n bs) ≡ refused k f → readBytes bs ≡ refused k f
+  unfolding readBytes _>>=_
+  whole-fault k f e = rw (head, e) refl
 
-  module _ (some : 0 < h .tests) where
-    pub whole-fault : (k f : ℕ) → readRecords (h .rig .curves) (h .tests) [] n (drop n bs) ≡ refused k f → readBytes bs ≡ refused k f
-    unfolding readBytes someTests demand _>>=_ _>>_
-    whole-fault k f e = rw (head, lt-ltb 0 (h .tests) some, e) refl
+  module _ (ws : List ℕ) (e : ℕ) (records : readRecords (h .rig .curves) (h .tests) [] n (drop n bs) ≡ done (got ws e (drop e bs))) where
+    to-end : readBytes bs ≡ _>>_ (atEnd 6 e (drop e bs)) (done (record { head = h; wants = ws }))
+    unfolding readBytes _>>=_
+    to-end = rw (head, records) refl
 
-    module _ (ws : List ℕ) (e : ℕ) (records : readRecords (h .rig .curves) (h .tests) [] n (drop n bs) ≡ done (got ws e (drop e bs))) where
-      to-end : readBytes bs ≡ _>>_ (atEnd 6 e (drop e bs)) (done (record { head = h; wants = ws }))
-      unfolding readBytes someTests demand _>>=_ _>>_
-      to-end = rw (head, lt-ltb 0 (h .tests) some, records) refl
+    pub whole-more : e < length bs → readBytes bs ≡ refused 6 e
+    unfolding atEnd _>>_
+    whole-more l = to-end ∙ rw (drop-cons bs e 0 l) refl
 
-      pub whole-more : e < length bs → readBytes bs ≡ refused 6 e
-      unfolding atEnd _>>_
-      whole-more l = to-end ∙ rw (drop-cons bs e 0 l) refl
-
-      pub whole-read : length bs ≤ e → readBytes bs ≡ done (record { head = h; wants = ws })
-      unfolding atEnd _>>_
-      whole-read l = to-end ∙ rw (drop-of-length-le bs l) refl
+    pub whole-read : length bs ≤ e → readBytes bs ≡ done (record { head = h; wants = ws })
+    unfolding atEnd _>>_
+    whole-read l = to-end ∙ rw (drop-of-length-le bs l) refl
 
 -- what `read_records` promises gives the records' reading whole
 pub records-got : (bs : List ℕ) (curves k i e : ℕ) (sets : List ℕ) → i ≤ length bs

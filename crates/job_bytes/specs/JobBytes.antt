@@ -7,7 +7,7 @@ use lib.Dec.{ltb, eqb}
 use Rattle.job.specs.declared.Head.{Head}
 use Rattle.job.specs.Refusal.{Outcome, done, refused, _>>=_, _>>_, mapped, demand, room, fitting, leaves}
 use Rattle.job.specs.Words.{Job, jobOf}
-use Rattle.job.specs.Handed.{between, someTests, jobKnownBy}
+use Rattle.job.specs.Handed.{between, jobKnownBy}
 use Rattle.job_bytes.specs.declared.fields.Field.{Field}
 use Rattle.job_bytes.specs.SetBytes.{setBytes, Got, got, byteAt, readGroups}
 
@@ -91,11 +91,10 @@ unfoldable pub atEnd : ℕ → ℕ → List ℕ → Outcome (Unit {0})
 atEnd k i [] = done tt
 atEnd k i (b ∷ bs) = refused k i
 
--- "Job bytes: head map, each field, 5, records in byte order, 6"
+-- "Job bytes: head map, each field, .. records in byte order, 6"; 02, wish 3: "A job with no tests now reads"
 unfoldable pub readBytes : List ℕ → Outcome Request
 readBytes bs = do
   h ← readHead bs
-  someTests (h .value .tests)
   r ← readRecords (h .value .rig .curves) (h .value .tests) [] (h .next) (h .rest)
   atEnd 6 (r .next) (r .rest)
   done (record { head = h .value; wants = r .value })
@@ -137,7 +136,7 @@ recordBytes (w ∷ ws) = setBytes w ++ recordBytes ws
 unfoldable pub jobBytes : Request → List ℕ
 jobBytes q = headBytes (valuesOf (q .head)) ++ recordBytes (q .wants)
 
--- "writing a job 9", after 5 and 10
+-- "writing a job 9", after 10
 unfoldable pub writeJob : ℕ → Job → ℕ → Outcome (List ℕ)
 writeJob method j lent = do
   jobKnownBy method j

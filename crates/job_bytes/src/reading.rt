@@ -183,16 +183,13 @@ fn copy_front(to: &mut [u64], from: &[u64], n: usize)
     }
 }
 
-// The tests behind a head that was read, from `start` on: 5, the records, 6, 9.
+// The tests behind a head that was read, from `start` on: the records, 6, 9.
 fn read_tests(job: &[u8], head: Head, start: usize, wants: &mut [u64]) -> JobRead
     requires { ⌜ readHead (now job) ≡ done (got head start (drop start (now job))) ⌝ }
     ensures answer { λ r. ⌜ readOutcome r ≡ readJobAnswer (was job) (was wants) ⌝ }
     ensures lent { λ _. ⌜ after wants ≡ readJobWants (was job) (was wants) ⌝ }
 {
     let tests = head.tests;
-    if tests == 0 {
-        return JobRead::Refused(Refusal::NoTests);
-    }
     let mut list = [0u64; job::MOST_TESTS];
     match read_records(job, start, tests, head.rig.curves, &mut list) {
         Counted::Refused(r) => JobRead::Refused(r),

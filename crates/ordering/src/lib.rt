@@ -34,7 +34,7 @@ fn write_order(places: usize, method: usize, wants: &[u64], order: &mut [u16])
     packages::package_order(places, wants, order);
 }
 
-// Orders the tests: "5, 10 in its own order, then for ordering 7, 9". Answers the number of tests, which are in the first entries of the lent list; nothing
+// Orders the tests: "10 in its own order, then for ordering 7, 9". Answers the number of tests, which are in the first entries of the lent list; nothing
 // lent changes under a refusal.
 pub fn order_tests(rig: Rig, method: usize, wants: &[u64], order: &mut [u16]) -> Counted
     ensures answer { λ r. ⌜ countOutcome r ≡ orderAnswer method (jobOf rig (was wants)) (was order) ⌝ }

@@ -1,13 +1,14 @@
 -- How long plan bytes are: a step takes at most 1 + 9 + 9 + 1 = 20 of them, and the end step 1 + 9 = 10.
-use mathlib.Core.Path.{_≡_, sym, ap, _∙_}
+use mathlib.Core.Path.{_≡_, refl, sym, ap, _∙_}
 use mathlib.Core.List.{List, [], _∷_}
-use Prim.Native.Nat.{ℕ, _+_, _*_, _≤_}
+use Prim.Native.Nat.{ℕ, zero, suc, _+_, _*_, _≤_}
 use native.Mathlib.Omega.{arith}
 use lib.ListN.{length, length-append, length-map}
 use Rattle.bitset.proofs.Bits.{bit-empty, same-by-bits}
-use Rattle.job.specs.Refusal.{done, room}
-use Rattle.job.proofs.Laws.{done-same, both-done, bind-done}
+use Rattle.job.specs.Refusal.{done, _>>=_, room}
+use Rattle.job.proofs.Laws.{done-same, refused≢done, both-done, bind-done}
 use Rattle.job.proofs.Orders.{order-length}
+use Rattle.job_bytes.specs.SetBytes.{byteAt}
 use Rattle.job_bytes.proofs.SetRoundTrip.{Bytes}
 use Rattle.job.specs.Handed.{countsKnown}
 use Rattle.job.specs.Words.{Job}
@@ -16,7 +17,8 @@ use Rattle.drive.proofs.CheckExact.{AllKept, first-kept}
 use Rattle.planning.specs.Plan.{Plan, steps, inOrder}
 use Rattle.planning.specs.Planning.{checking}
 use Rattle.planning.proofs.CheckExact.{Passes, passed}
-use Rattle.plan_bytes.specs.PlanBytes.{Contents, stepBytes, stepsBytes, endBytes, planBytes, testsOf, planIn, readPlanBytes, planSteps, writePlan}
+use Rattle.plan_bytes.specs.PlanBytes.{Contents, stepBytes, stepsBytes, endBytes, planBytes, testsOf, planIn, planSteps, writePlan}
+use Rattle.plan_bytes.specs.PlanBytes.{readStep, readSteps, readPlanBytes}
 use Rattle.plan_bytes.proofs.Writing.{one, field-le, field-none, step-length, step-le, end-le, no-end-bytes, listBytes}
 use Rattle.plan_bytes.proofs.Steps.{counts-bounds}
 use Rattle.plan_bytes.proofs.ReadPlan.{plan-count}
@@ -67,7 +69,7 @@ passed-length j order p m e =
       arith,
       length-append (listBytes order (p .drops) (p .loads)) (endBytes (p .end)),
       first-le (j .wants) order (p .drops) (p .loads) (p .end) (ok .drop-sets ∙ sym n) (ok .load-sets ∙ sym n) (ok .steps) (ok .ends),
-      ok .is-job .tests-bounds,
+      ok .is-job .tests-bound,
     )
 
 pub written-length : (j : Job) (order : List ℕ) (p : Plan) (lent : ℕ) (bytes : List ℕ) → writePlan j order p lent ≡ done bytes → length bytes ≤ 5121
@@ -95,3 +97,9 @@ pub read-longest : (curves tests : ℕ) (bs : List ℕ) (c : Contents) → Bytes
 unfolding planSteps
 read-longest curves tests bs c all e =
     omega (arith, read-length curves tests bs c all e, counts-bounds curves tests (both-done (countsKnown curves tests) _ c e .0) .1)
+
+-- NO BYTES are a plan of no tests, and of no other number (02, wish 3)
+pub no-bytes : (curves tests : ℕ) (c : Contents) → planSteps curves tests [] ≡ done c → tests ≡ 0
+unfolding planSteps readPlanBytes readSteps readStep byteAt _>>=_
+no-bytes curves zero c e = refl
+no-bytes curves (suc n) c e = absurd (refused≢done (both-done (countsKnown curves (suc n)) _ c e .1))

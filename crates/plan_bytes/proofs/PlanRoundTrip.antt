@@ -10,16 +10,16 @@ use lib.ListN.{length, length-append}
 use borrow.Author.Tests.{ltb-true, leb-true, eqb-true, lt-ltb, le-leb}
 use Rattle.bitset.specs.Set.{bit}
 use Rattle.bitset.proofs.Bits.{bit-zero, bit-suc}
-use Rattle.job.specs.Refusal.{done, refused, _>>=_, _>>_, demand, room}
-use Rattle.job.specs.Handed.{between, allCurves, countsKnown, someTests, curvesKnown, testsKnown}
+use Rattle.job.specs.Refusal.{done, _>>=_, _>>_, demand, room}
+use Rattle.job.specs.Handed.{between, allCurves, countsKnown}
 use Rattle.job_bytes.specs.SetBytes.{stands, groupMap, groupBytes, setBytes, Got, got, byteAt, readGroups}
 use Rattle.job_bytes.specs.JobBytes.{atEnd}
-use Rattle.job.proofs.Laws.{both, and, done-same, refused≢done, demand-true, demand-done, both-done, done-both, bind-done, done-room}
+use Rattle.job.proofs.Laws.{both, done-same, refused≢done, demand-true, both-done, done-both, bind-done, done-room}
 use Rattle.job_bytes.proofs.SetRoundTrip.{set-back, Bytes, SetRead, set-read}
 use Rattle.job_bytes.proofs.JobRoundTrip.{end-none}
 use native.Mathlib.Decide.{decLe}
 use Rattle.bitset.proofs.Parts.{_≼_, ≼-inside, empty-≼}
-use Rattle.job.proofs.JobExact.{inside-below}
+use Rattle.job.proofs.JobExact.{inside-below, job-counts}
 use Rattle.job.specs.Words.{Job, capacity, count}
 use Rattle.job.proofs.Orders.{one-same, order-length}
 use Rattle.drive.specs.Steps.{moves}
@@ -216,7 +216,7 @@ module _ (places curves : ℕ) (wants : List ℕ) where
 -- A PLAN THAT IS WRITTEN READS BACK
 pub plan-back : (j : Job) (order : List ℕ) (p : Plan) (lent : ℕ) (bytes : List ℕ) → writePlan j order p lent ≡ done bytes
     → (c : Contents) × (planSteps (j .rig .curves) (length (j .wants)) bytes ≡ done c) × (testsOf c ≡ order) × (planIn c ≡ p)
-unfolding writePlan planSteps countsKnown someTests curvesKnown testsKnown between
+unfolding writePlan planSteps
 plan-back j order p lent bytes e =
     let curves = j .rig .curves in
     let tests = length (j .wants) in
@@ -231,18 +231,12 @@ plan-back j order p lent bytes e =
     let held : p .end < 2 ^ curves =
     rw (ok .ends) (below (capacity (j .rig)) curves (j .wants) (heldAtEnd (planSets j order p)) (held-≼ (empty-≼ (allCurves curves)) (ok .steps))) in (
       contentsOf curves tests few order p,
-      done-both _ _ (counts-done curves tests (ok .is-job .curves-bounds) (ok .is-job .tests-bounds))
+      done-both _ _ (job-counts j (ok .is-job))
           ∙ ap (readPlanBytes curves tests) (sym (done-same (b .1)))
           ∙ bytes-back curves tests few order p long r held,
       of-tests curves tests few 0 order (p .drops) (p .loads) r,
       rw (of-drops curves tests few 0 order (p .drops) (p .loads) r, of-loads curves tests few 0 order (p .drops) (p .loads) r) refl,
     )
-  where
-    counts-done : (curves tests : ℕ) → (1 ≤ curves) × (curves ≤ 64) → (1 ≤ tests) × (tests ≤ 256) → countsKnown curves tests ≡ done tt
-    counts-done curves tests c t =
-        done-both _ _ (demand-done _ 5 0 (lt-ltb 0 tests (t .0)))
-        ∙ done-both _ _ (demand-done _ 10 1 (and _ _ (le-leb 1 curves (c .0)) (le-leb curves 64 (c .1))))
-        ∙ demand-done _ 10 2 (le-leb tests 256 (t .1))
 
 -- ---- read, then written
 module _ (curves tests : ℕ) where

@@ -1,4 +1,4 @@
--- What reading a plan answers and leaves, case by case: "reading a plan 11, 9", after 5 and 10.
+-- What reading a plan answers and leaves, case by case: "reading a plan 11, 9", after 10.
 use mathlib.Core.Path.{_≡_, refl, sym, ap, _∙_}
 use mathlib.Core.List.{List, [], _∷_, _++_}
 use Prim.Native.Nat.{ℕ, zero, suc, _+_, _≤_, _<_, min}

@@ -10,7 +10,7 @@ use lib.ListN.{length, getD, drop, set, length-set, length-map, length-append}
 use lib.Seq.{drop-cons, set-at}
 use Rattle.job.specs.Refusal.{Outcome, done, refused, _>>=_, _>>_, mapped, leaves, overwritten}
 use Rattle.job_bytes.specs.SetBytes.{got}
-use Rattle.job.specs.Handed.{between, someTests, curvesKnown, testsKnown, countsKnown}
+use Rattle.job.specs.Handed.{between, curvesKnown, testsKnown, countsKnown}
 use Rattle.job.proofs.Laws.{refused≢done, done-same, mapped-done, both, both-done, bind-done, done-both, demand-true}
 use Rattle.job.proofs.Examination.{refused-both}
 use Rattle.plan_bytes.specs.declared.StepRead.{StepRead}
@@ -95,9 +95,8 @@ module _ (curves tests : ℕ) (bs : List ℕ) where
 pub counts-bounds : (curves tests : ℕ) → countsKnown curves tests ≡ done tt → (curves ≤ 64) × (tests ≤ 256)
 unfolding countsKnown curvesKnown testsKnown between
 counts-bounds curves tests e =
-    let a = both-done (someTests tests) _ tt e in
-    let b = both-done (curvesKnown curves) _ tt (a .1) in
-    (leb-true curves 64 (both (leb 1 curves) (leb curves 64) (demand-true _ 10 1 (b .0)) .1), leb-true tests 256 (demand-true _ 10 2 (b .1)))
+    let a = both-done (curvesKnown curves) _ tt e in
+    (leb-true curves 64 (both (leb 1 curves) (leb curves 64) (demand-true _ 10 1 (a .0)) .1), leb-true tests 256 (demand-true _ 10 2 (a .1)))
 
 -- ---- lists that are filled step by step
 

@@ -168,7 +168,7 @@ module _ (j : Job) (order : List ℕ) (p : Plan) (m : ℕ) (e : checking j order
 
   own-order : orderAloneKnown order ≡ done tt
   unfolding orderAloneKnown
-  own-order = rw n (done-both _ _ (few-tests _ (ok .is-job .tests-bounds .1)) ∙ order-passes _ order (ok .is-order))
+  own-order = rw n (done-both _ _ (few-tests _ (ok .is-job .tests-bound)) ∙ order-passes _ order (ok .is-order))
 
   own-sets : setsFor order p ≡ done tt
   own-sets = sets-known _ _ _ (ok .drop-sets ∙ sym n) (ok .load-sets ∙ sym n)

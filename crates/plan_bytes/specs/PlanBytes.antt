@@ -41,7 +41,7 @@ endBytes (suc s) = 1 ∷ setBytes (suc s)
 abbrev pub planBytes : List ℕ → Plan → List ℕ
 planBytes order p = stepsBytes (steps order (p .drops) (p .loads)) ++ endBytes (p .end)
 
--- "writing a plan 8, 12, 9", after 5 and 10
+-- "writing a plan 8, 12, 9", after 10
 unfoldable pub writePlan : Job → List ℕ → Plan → ℕ → Outcome (List ℕ)
 writePlan j order p lent = do
   _ ← checking j order p
@@ -128,7 +128,7 @@ module _ (curves tests : ℕ) where
     countsKnown curves tests
     readPlanBytes bs
 
-  -- "reading a plan 11, 9", after 5 and 10: into lists of which the shortest has so many entries
+  -- "reading a plan 11, 9", after 10: into lists of which the shortest has so many entries
   unfoldable pub readPlan : List ℕ → ℕ → Outcome Contents
   readPlan bs lent = do
     c ← planSteps bs

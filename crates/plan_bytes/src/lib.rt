@@ -166,7 +166,7 @@ fn examine_steps(curves: usize, tests: usize, plan: &[u8]) -> EndRead
     read_end(plan, at, curves)
 }
 
-// 5, 10 and 11: whether the bytes are a plan of so many curves and tests, and its end set.
+// 10 and 11: whether the bytes are a plan of so many curves and tests, and its end set.
 fn examine_plan(curves: usize, tests: usize, plan: &[u8]) -> EndRead
     ensures { λ r. ⌜ endOutcome r ≡ mapped (λ c. c .end) (planSteps curves tests (was plan)) ⌝ }
 {
@@ -427,7 +427,7 @@ fn write_fitting(order: &[u16], drops: &[u64], loads: &[u64], end: u64, out: &mu
     Counted::Count(need)
 }
 
-// Writes a plan that passes the check as plan bytes, and answers their count: "writing a plan 8, 12, 9", after 5 and 10.
+// Writes a plan that passes the check as plan bytes, and answers their count: "writing a plan 8, 12, 9", after 10.
 pub fn write_plan(
     rig: Rig,
     wants: &[u64],

@@ -1,15 +1,17 @@
 -- What reading, ordering and planning come to in turn. Once a job is read, only 7 can follow.
-use mathlib.Core.Path.{_≡_, refl, _∙_}
-use mathlib.Core.List.{List}
+use mathlib.Core.Path.{_≡_, refl, ap, _∙_}
+use mathlib.Core.List.{List, []}
 use Prim.Native.Nat.{ℕ}
 use native.Mathlib.Omega.{arith}
+use lib.ListN.{length, drop-of-length-le}
 use Rattle.job.specs.Refusal.{Outcome, done, refused, _>>=_, _>>_}
 use Rattle.job.specs.Words.{capacity}
-use Rattle.job.specs.Handed.{wantsFit}
+use Rattle.job.specs.Handed.{each, wantsFit}
 use Rattle.job.specs.Calls.{orderingKnown, planningKnown}
 use Rattle.job_bytes.specs.JobBytes.{Request, jobIn, readBytes}
 use Rattle.job.proofs.Laws.{done-both}
 use Rattle.job.proofs.JobExact.{job-by-exact}
+use Rattle.job.proofs.Orders.{order-length}
 use Rattle.job_bytes.proofs.SetRoundTrip.{Bytes}
 use Rattle.job_bytes.proofs.ReadExact.{ReadJob, read-exact}
 use Rattle.ordering.specs.Methods.{orderBy}
@@ -17,7 +19,8 @@ use Rattle.ordering.proofs.Complete.{order-complete}
 use Rattle.ordering.proofs.Ordered.{not-known, ordered}
 use Rattle.drive.specs.declared.Sets.{Sets}
 use Rattle.drive.specs.Steps.{loadCount}
-use Rattle.planning.specs.Plan.{handed}
+use Rattle.drive.specs.Plan.{planFrom}
+use Rattle.planning.specs.Plan.{handed, inOrder}
 use Rattle.planning.specs.Planning.{ourPlan, planning, checking}
 use Rattle.planning.proofs.Sequence.{exact-known, planning-known, plan-done}
 use Rattle.planning.proofs.Demand3.{our-check}
@@ -29,6 +32,21 @@ orderOf q = orderBy (q .head .method) (capacity (q .head .rig)) (q .wants)
 
 abbrev pub setsOf : Request → List Sets
 setsOf q = ourPlan (jobIn q) (orderOf q)
+
+-- 02, wish 3: "A job with no tests .. empty order": and so an empty plan
+module _ (q : Request) (none : q .wants ≡ []) where
+  pub no-order : orderOf q ≡ []
+  no-order =
+      let whole = order-complete (q .head .method) (capacity (q .head .rig)) (q .wants) in
+      drop-of-length-le (orderOf q) {i = 0} (omega (arith, order-length (length (q .wants)) (orderOf q) whole, ap length none))
+
+  pub no-sets : setsOf q ≡ []
+  unfolding ourPlan planFrom inOrder
+  no-sets = rw no-order refl
+
+  pub none-too-large : wantsFit (capacity (q .head .rig)) (q .wants) ≡ done tt
+  unfolding wantsFit each
+  none-too-large = rw none refl
 
 module _ (q : Request) (r : ReadJob q) where
   abbrev fits : Outcome (Unit {0})

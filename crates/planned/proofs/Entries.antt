@@ -111,7 +111,7 @@ module _ (bs : List ℕ) (all : Bytes bs) where
           is = e;
           head = refl;
           count = sym c ∙ ap curveCount (sym (f .loads));
-          few = omega (arith, f .read .tests, f .read .is-job .tests-bounds .1);
+          few = omega (arith, f .read .tests, f .read .is-job .tests-bound);
           places = f .read .is-job .places-bounds .1;
           method = f .read .method;
           order = f .order;

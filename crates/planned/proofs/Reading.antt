@@ -33,7 +33,7 @@ module _ (bs W : List ℕ) (all : Bytes bs) (long : 256 ≤ length W) where
       go (refused k i) e = refl
       go (done q) e =
           let r : ReadJob q = read-exact bs q all e in
-          rw (done-room (length W) (q .head .tests) (omega (arith, r .tests, r .is-job .tests-bounds .1))) (unfold _>>_ in refl)
+          rw (done-room (length W) (q .head .tests) (omega (arith, r .tests, r .is-job .tests-bound))) (unfold _>>_ in refl)
 
   pub wants-left : readJobWants bs W ≡ leaves (mapped (λ q. q .wants) (readBytes bs)) W
   unfolding readJobWants
@@ -56,7 +56,7 @@ module _ (bs W : List ℕ) (all : Bytes bs) (long : 256 ≤ length W) where
       record {
         read = f ∙ same (x .2) (sym k);
         tests = ap length k ∙ t;
-        few = omega (arith, r .is-job .tests-bounds .1);
+        few = omega (arith, r .is-job .tests-bound);
       }
     where
       same : {q : Request} {h : Head} {ws : List ℕ} → q .head ≡ h → q .wants ≡ ws → _≡_ {A = Outcome Request} (done q) (done (record { head = h; wants = ws }))

@@ -40,7 +40,7 @@ fn order_and_plan(
     if let Counted::Refused(r) = ordering::order_tests(head.rig, head.method, wants, order) {
         return PlanCounted::Refused(r);
     }
-    // "planning 8, 7": nothing of it is left, since ordering has asked for 5, 10 and 7, and its order names each test once
+    // "planning 8, 7": nothing of it is left, since ordering has asked for 10 and 7, and its order names each test once
     planning::plan_tests(head.rig.places, wants, &order[..n], drops, loads)
 }
 

@@ -1,7 +1,7 @@
 -- Refusal 12 names the first step that breaks a rule, or, before that, the first position where the drops or loads do not fit the tests; and behind the steps
 -- the number of tests, where the end set is not what is held.
 use mathlib.Core.Path.{_≡_, refl, sym, ap, _∙_}
-use mathlib.Core.Logic.{_↔_, _⊎_, inl, inr, ⊎-elim}
+use mathlib.Core.Logic.{_↔_, _⊎_, inl, inr}
 use mathlib.Core.List.{List, []}
 use Prim.Native.Nat.{ℕ, _+_}
 use native.Mathlib.Omega.{arith}
@@ -98,7 +98,7 @@ module _ (j : Job) (order : List ℕ) (p : Plan) (i : ℕ) where
   known-refuses e = go (refused-split (jobKnown j) _ 12 i e)
     where
       go : (jobKnown j ≡ refused 12 i) ⊎ ((x : Unit {0}) × (jobKnown j ≡ done x) × (orderKnown n order ≡ refused 12 i)) → ⊥
-      go (inl e) = ⊎-elim (λ q. omega arith) (λ q. omega arith) (refuses HandedRefusal _ 12 i (job-by-refuses 0 j) e)
+      go (inl e) = omega (arith, refuses HandedRefusal _ 12 i (job-by-refuses 0 j) e)
       go (inr x) = omega (arith, refuses (λ k i. k ≡ 8) _ 12 i (order-refuses n [] order) (x .2))
 
   by-end : (endKnown j order p ≡ refused 12 i) ⊎ ((x : Unit {0}) × (endKnown j order p ≡ done x) × (done (curveCount (p .loads)) ≡ refused 12 i))

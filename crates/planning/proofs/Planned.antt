@@ -124,7 +124,7 @@ module _ (j : Job) (order : List ℕ) (lent : SetLists) where
 
     as-tests : planTests (capacity (j .rig)) (j .wants) order lent ≡ planning j order (entries lent)
     unfolding planning planTests
-    as-tests = rw (as-long, ours) (done-both _ _ (few-tests (length (j .wants)) (exact .0 .tests-bounds .1)) ∙ sym (done-both _ _ known))
+    as-tests = rw (as-long, ours) (done-both _ _ (few-tests (length (j .wants)) (exact .0 .tests-bound)) ∙ sym (done-both _ _ known))
 
     -- both plan the same
     pub tests-answer : testsAnswer (capacity (j .rig)) (j .wants) order lent ≡ planAnswer j order lent

@@ -67,7 +67,7 @@ fn count_curves(sets: &[u64]) -> usize
     count
 }
 
-// Whether a plan from anywhere keeps the rules: its load count, or the first fault. "checking 8, 12", after 5 and 10; 02, wish 1: "The check fails a plan whose
+// Whether a plan from anywhere keeps the rules: its load count, or the first fault. "checking 8, 12", after 10; 02, wish 1: "The check fails a plan whose
 // end set is not what is held, with the number of tests as its step."
 pub fn check_plan(
     rig: Rig,
@@ -130,7 +130,7 @@ pub fn plan_tests(
     PlanCounted::Count(count_curves(&loads[..tests]), held)
 }
 
-// Our plan for one job and one order of its tests. "planning 8, 7, 9", after 5 and 10.
+// Our plan for one job and one order of its tests. "planning 8, 7, 9", after 10.
 pub fn plan(
     rig: Rig,
     wants: &[u64],

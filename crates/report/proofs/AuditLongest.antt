@@ -5,13 +5,11 @@ use mathlib.Core.List.{List, [], _∷_, _++_}
 use Prim.Native.Nat.{ℕ, _+_, _-_, _≤_, _<_, min}
 use native.Mathlib.Omega.{arith}
 use lib.ListN.{length, length-append, length-map}
-use borrow.Author.Tests.{le-leb}
 use Rattle.job.specs.Refusal.{Outcome, done, refused, _>>=_}
-use Rattle.job.specs.Handed.{between, jobKnown, countsKnown, allCurves}
-use Rattle.job.proofs.Laws.{and, done-both, done-room, both-done, mapped-done}
+use Rattle.job.specs.Handed.{jobKnown, countsKnown, allCurves}
+use Rattle.job.proofs.Laws.{done-both, done-room, both-done, mapped-done}
 use Rattle.job.proofs.Refuses.{Refuses, refuses, refuses-demand, refuses-both, refuses-bind, refuses-mapped}
-use Rattle.job.proofs.Examination.{counts-known}
-use Rattle.job.proofs.JobExact.{job-exact}
+use Rattle.job.proofs.JobExact.{job-exact, job-counts}
 use Rattle.job.specs.Words.{capacity}
 use Rattle.job.specs.Order.{orderFrom, orderKnown}
 use Rattle.job.specs.Calls.{checkingKnown}
@@ -42,9 +40,9 @@ use Rattle.report.proofs.Fewest.{passed-planned, audit-says, audit-fewe
 
 -- ---- which refusals an audit prints
 
--- of the job: 1 to 6, with an offset or the input length
+-- of the job: what reading refuses by, with an offset or the input length
 abbrev pub OfJob : ℕ → ℕ → Type 0
-OfJob k i = (1 ≤ k) × (k ≤ 6) × (i ≤ 2310)
+OfJob k i = ByReading k i × (i ≤ 2310)
 
 -- of the plan: 8 with a position, 11 with an offset or the input length, 12 with a step
 abbrev pub OfPlan : ℕ → ℕ → Type 0
@@ -87,11 +85,7 @@ module _ (j : Request) (r : ReadJob j) where
   t = j .head .tests
 
   known : countsKnown c t ≡ done tt
-  unfolding between
-  known =
-      let b = r .is-job .curves-bounds in
-      let n = r .is-job .tests-bounds in
-      counts-known c t (omega (arith, r .tests)) (and _ _ (le-leb 1 c (b .0)) (le-leb c 64 (b .1))) (omega (arith, r .tests))
+  known = rw (r .tests) at (job-counts (jobIn j) (r .is-job))
 
   plan-small : (plan : List ℕ) → Refuses OfPlan (planSteps c t plan)
   unfolding planSteps
@@ -101,13 +95,13 @@ module _ (j : Request) (r : ReadJob j) where
       go (done ss) e = tt
       go (refused k i) e =
           rw (refuses (λ (k i : ℕ). k ≡ 11) (readPlanBytes c t plan) k i (plan-eleven c t plan) e)
-          (at-offset i (omega (arith, plan-figure c t plan k i e, r .tests, r .is-job .tests-bounds .1)))
+          (at-offset i (omega (arith, plan-figure c t plan k i e, r .tests, r .is-job .tests-bound)))
 
   check-small : (order : List ℕ) (p : Plan) → length order ≤ 256 → Refuses OfPlan (checking (jobIn j) order p)
   unfolding checking checkingKnown setsKnown endKnown
   check-small order p m =
       let n = length (j .wants) in
-      let l : n ≤ 256 = r .is-job .tests-bounds .1 in
+      let l : n ≤ 256 = r .is-job .tests-bound in
       refuses-both OfPlan _ _ (rw (done-both (jobKnown (jobIn j)) (orderKnown n order) (job-exact (jobIn j) .1 (r .is-job)))
       (order-small n [] order (omega arith)))
       (refuses-both OfPlan _ _ (refuses-demand OfPlan _ 12 (min (min (length (p .drops)) (length (p .loads))) n) (at-step _ (omega arith)))
@@ -122,17 +116,17 @@ module _ (j : Request) (r : ReadJob j) where
       (λ ss e.
       refuses-bind OfPlan (checking (jobIn j) (testsOf ss) (planIn ss)) _
       (check-small (testsOf ss) (planIn ss) (omega
-      (arith, steps-count c t plan ss e, length-map (ss .steps) (λ s. s .step .test), r .tests, r .is-job .tests-bounds .1)))
+      (arith, steps-count c t plan ss e, length-map (ss .steps) (λ s. s .step .test), r .tests, r .is-job .tests-bound)))
       (λ m f. rw (passed-planned (jobIn j) (testsOf ss) (planIn ss) m f t (omega (arith, r .tests))) tt))
 
--- A REFUSED JOB has a number from 1 to 6 ..
+-- A REFUSED JOB has a number from 1 to 4, or 6 ..
 pub audit-job-refuses : (job plan : List ℕ) → Refuses OfJob (audit job plan)
 unfolding audit
 audit-job-refuses job plan = refuses-mapped OfJob (λ j. auditPlan j plan) (readBytes job) (go (readBytes job) refl)
   where
     go : (o : Outcome Request) → readBytes job ≡ o → Refuses OfJob o
     go (done j) e = tt
-    go (refused k i) e = let n = refuses ByReading (readBytes job) k i (read-refuses job) e in (n .0, n .1, figure-short job k i e .0)
+    go (refused k i) e = (refuses ByReading (readBytes job) k i (read-refuses job) e, figure-short job k i e .0)
 
 -- .. AND A REFUSED PLAN has 8, 11 or 12
 pub audit-plan-refuses : (job plan : List ℕ) (o : Outcome Audit) → Bytes job → audit job plan ≡ done o → Refuses OfPlan o
@@ -198,7 +192,7 @@ audit-longest job plan all = go (audit job plan) refl
         (omega (
           arith,
           check-few (jobIn (s .request)) (testsOf (s .contents)) (planIn (s .contents)) (a .loads) (s .passes),
-          read-exact job (s .request) all (s .job-read) .is-job .tests-bounds .1,
+          read-exact job (s .request) all (s .job-read) .is-job .tests-bound,
         ))
         (audit-fewer job plan a all e)
 

@@ -6,6 +6,7 @@
 --     Lines    the lines of the sheet, grouped as they are put
 --     Fitted   a text that was measured, and is then refused or written
 --     Longest  the longest sheet
+--     WithoutTests the sheet of a job without tests
 --     Auditing an audit, stage by stage
 --     Reporting the sheet, stage by stage
 --     Fewest   what an audit says: the loads of a plan, and the fewest
@@ -19,6 +20,7 @@ pub mod Lines
 pub mod Fitted
 pub mod Fewest
 pub mod Longest
+pub mod WithoutTests
 pub mod Auditing
 pub mod Reporting
 pub mod Inputs

@@ -65,7 +65,7 @@ planned-bound : (q : Request) → ReadJob q → wantsFit (capacity (q .head .rig
 planned-bound q r f =
     let whole = order-complete (q .head .method) (capacity (q .head .rig)) (q .wants) in
     let long = order-length (length (q .wants)) (orderOf q) whole in
-    let tests = r .is-job .tests-bounds in
+    let tests = r .is-job .tests-bound in
     bound (q .head) (orderOf q) (handed (setsOf q) .drops) (handed (setsOf q) .loads) (handed (setsOf q) .end)
     (omega (arith, r .tests))
     (omega (arith, r .is-job .places-bounds .1))
@@ -101,7 +101,7 @@ sheet-longest bs all = go (readBytes bs) refl
         let is : ReadJob q = read-exact bs q all r in
         let few = refuses (λ (k i : ℕ). (k ≡ 7) × (i < 256)) (wantsFit (capacity (q .head .rig)) (q .wants)) k i
         (refuses-each (λ (k i : ℕ). (k ≡ 7) × (i < 256)) (λ w. leb (size w) (capacity (q .head .rig))) 7 0 (q .wants)
-        (λ t l. (refl, omega (arith, is .is-job .tests-bounds .1)))) f in
+        (λ t l. (refl, omega (arith, is .is-job .tests-bound)))) f in
         rw (job-too-large bs q all r k i f) (refusal-bound k i (omega (arith, few .0)) (omega (arith, few .1)))
 
     go : (o : Outcome Request) → readBytes bs ≡ o → length (printed (planJob bs)) ≤ 105000

@@ -1,8 +1,10 @@
 //! The reference against itself on random small jobs, and against the two fast
 //! implementations.
 
+use crate::empty;
 use crate::fast;
-use crate::generate::{self, permutation, Ending, Size, ENDINGS, PLAN_MADE, PLAN_READ};
+use crate::generate::{self, permutation, Case, Ending, Size, ENDINGS, FUNCTIONS};
+use crate::generate::{PLAN_MADE, PLAN_READ};
 use crate::parts;
 use crate::random::Random;
 use crate::reference::*;
@@ -10,11 +12,11 @@ use crate::ties;
 use crate::tuned;
 use std::collections::BTreeSet;
 
-/// A small job whose tests all fit: places up to 4, curves up to 6, tests up to 7.
+/// A small job whose tests all fit: places up to 4, curves up to 6, tests up to 7 or none.
 fn small_job(random: &mut Random) -> (usize, usize, Vec<u64>) {
     let places = random.between(1, 4);
     let curves = random.between(1, 6);
-    let tests = random.between(1, 7);
+    let tests = random.between(0, 7);
     let wants = (0..tests)
         .map(|_| {
             let number = random.between(0, places.min(curves));
@@ -38,9 +40,11 @@ fn assert_ends_empty(drops: &[u64], loads: &[u64], end: u64) {
 #[test]
 fn plan_passes_and_loads_least() {
     let mut random = Random::new(1);
+    let mut without_tests = 0;
     for _ in 0..4_000 {
         let (places, curves, wants) = small_job(&mut random);
         let tests = wants.len();
+        without_tests += (tests == 0) as usize;
         let order = permutation(&mut random, tests);
         let made = plan(places, curves, &wants, &order, tests, tests).unwrap();
         let (drops, loads, end) = (&made.drops, &made.loads, made.end);
@@ -57,6 +61,7 @@ fn plan_passes_and_loads_least() {
         );
         assert_eq!(fewest_loads(places, &wants, &order), made.count);
     }
+    assert!(without_tests > 300, "{without_tests} without tests");
 }
 
 /// Both rules' plans pass, told in two ways, and load equally often. Answers whether they differ.
@@ -101,7 +106,7 @@ fn assert_parting(wants: &[u64], order: &[u16], lowest: &Plan, highest: &Plan) {
 #[test]
 fn both_tie_rules_load_least_in_small_jobs() {
     let mut random = Random::new(17);
-    let mut differ = 0;
+    let (mut differ, mut without_tests) = (0, 0);
     for round in 0..4_000 {
         let (places, curves, wants) = match round % 2 {
             0 => small_job(&mut random),
@@ -115,12 +120,17 @@ fn both_tie_rules_load_least_in_small_jobs() {
         differ += load_alike(places, curves, &wants, &order) as usize;
         let least = least_loads(places, curves, &wants, &order);
         assert_eq!(least, Some(fewest_loads(places, &wants, &order)));
+        if wants.is_empty() {
+            without_tests += 1;
+            assert_eq!(least, Some(0));
+        }
     }
+    assert!(without_tests > 150, "{without_tests} without tests");
     println!("small jobs with another plan under the other tie rule: {differ} of 4000");
     assert!(differ > 1_000, "{differ} differ");
 }
 
-/// All places, up to 64 curves and 256 tests.
+/// All places, up to 64 curves and 256 tests or none.
 #[test]
 fn both_tie_rules_load_alike_in_large_jobs() {
     let mut random = Random::new(18);
@@ -131,6 +141,7 @@ fn both_tie_rules_load_alike_in_large_jobs() {
             let tests = match round {
                 0 => 256,
                 1..=3 => random.between(100, 256),
+                10 | 11 => 0,
                 _ => random.between(2, 60),
             };
             let (curves, mut wants) = match round % 3 {
@@ -260,7 +271,7 @@ fn no_plan_passes_exactly_if_a_test_is_too_wide() {
     for _ in 0..1_500 {
         let places = random.between(1, 4);
         let curves = random.between(1, 6);
-        let tests = random.between(1, 5);
+        let tests = random.between(0, 5);
         let all = generate::all_curves(curves);
         let wants: Vec<u64> = (0..tests)
             .map(|_| random.word() & random.word() & all)
@@ -285,7 +296,7 @@ fn the_two_checks_agree() {
     let (mut good, mut bad, mut at_the_end) = (0, 0, 0);
     for _ in 0..30_000 {
         let size = random.pick(&[Size::Tiny, Size::Tiny, Size::Small]);
-        let generate::Case::CheckPlan {
+        let Case::CheckPlan {
             places,
             curves,
             wants,
@@ -298,7 +309,7 @@ fn the_two_checks_agree() {
             unreachable!()
         };
         let answer = check_plan(places, curves, &wants, &order, &drops, &loads, end);
-        if matches!(answer, Err(Refusal { number: 5 | 10, .. })) {
+        if matches!(answer, Err(Refusal { number: 10, .. })) {
             continue;
         }
         let pass = passes(places, curves, &wants, &order, &drops, &loads, end);
@@ -358,7 +369,7 @@ fn least_by_the_check(
 fn no_small_plan_at_all_beats_ours() {
     let mut random = Random::new(4);
     // Jobs of so many tests and curves; one curve more is tried, which is foreign.
-    for (rounds, tests, curves) in [(6, 1, 4), (3, 2, 3), (20, 3, 1), (1, 3, 2)] {
+    for (rounds, tests, curves) in [(6, 0, 9), (6, 1, 4), (3, 2, 3), (20, 3, 1), (1, 3, 2)] {
         for _ in 0..rounds {
             let places = random.between(1, curves);
             let wants: Vec<u64> = (0..tests)
@@ -405,7 +416,7 @@ fn another_end_set_is_refused_behind_everything_else() {
         for other in others {
             assert_eq!(check(&drops, &loads, other), Err(refusal(12, tests)));
             // Also before a buffer that is too short.
-            for length in [0, needed - 1, needed, 6_000] {
+            for length in [0, needed.saturating_sub(1), needed, 6_000] {
                 let (places, curves, wants) = (job.places, job.curves, &job.wants);
                 let answer =
                     write_plan(places, curves, wants, &order, &drops, &loads, other, length);
@@ -413,13 +424,16 @@ fn another_end_set_is_refused_behind_everything_else() {
             }
         }
         // The lengths and the steps go first.
+        let mut longer = loads.clone();
+        longer.push(0);
+        assert_eq!(check(&drops, &longer, !end), Err(refusal(12, tests)));
+        if tests == 0 {
+            continue;
+        }
         assert_eq!(
             check(&drops[1..], &loads, !end),
             Err(refusal(12, tests - 1))
         );
-        let mut longer = loads.clone();
-        longer.push(0);
-        assert_eq!(check(&drops, &longer, !end), Err(refusal(12, tests)));
         let step = random.below(tests);
         let mut foreign = drops.clone();
         foreign[step] = u64::MAX;
@@ -513,7 +527,7 @@ fn plan_bytes_that_read_are_those_written() {
     let mut random = Random::new(14);
     let (mut read, mut ended) = (0, 0);
     for _ in 0..20_000 {
-        let generate::Case::ReadPlan {
+        let Case::ReadPlan {
             curves,
             tests,
             plan,
@@ -556,6 +570,9 @@ fn the_end_of_plan_bytes_is_read_as_foreseen() {
             };
             for list in 0..3 {
                 let mut lengths = [tests; 3];
+                if tests == 0 {
+                    break; // none is short
+                }
                 lengths[list] -= 1;
                 let [order, drops, loads] = lengths;
                 let answer = read_plan(curves, tests, &made.plan, order, drops, loads);
@@ -563,7 +580,7 @@ fn the_end_of_plan_bytes_is_read_as_foreseen() {
             }
             // What is not read has no step.
             if found.is_err() {
-                for position in [0, tests - 1, tests, tests + 1] {
+                for position in [0, tests.saturating_sub(1), tests, tests + 1] {
                     let part = step_bytes(curves, tests, &made.plan, position);
                     assert_eq!(part, (made.plan.len(), 0), "{name}");
                 }
@@ -603,7 +620,7 @@ fn every_cut_of_a_plan_is_told_by_its_length() {
         let (job, bytes) = (made.job, made.plan);
         let tests = job.wants.len();
         let steps = read_steps(job.curves, tests, &bytes).unwrap();
-        let behind_tests = steps.tests.last().unwrap().behind;
+        let behind_tests = steps.tests.last().map_or(0, |step| step.behind);
         for length in from..bytes.len() {
             let answer = read_steps(job.curves, tests, &bytes[..length]);
             if length == behind_tests {
@@ -616,10 +633,10 @@ fn every_cut_of_a_plan_is_told_by_its_length() {
     }
 }
 
-/// Whatever stands behind the only test's step of a job with nine curves. Those that read are
-/// nothing and the end steps of its sets. Of the others the first byte is refused with which no such
-/// end begins any more, or the length if there is no such byte. (Where all groups named can be there:
-/// a group map alone names no curve.)
+/// Whatever stands behind the only test's step of a job with nine curves, or alone where there is no
+/// test. Those that read are nothing and the end steps of its sets. Of the others the first byte is
+/// refused with which no such end begins any more, or the length if there is no such byte. (Where all
+/// groups named can be there: a group map alone names no curve.)
 #[test]
 fn every_short_end_of_a_plan() {
     let mut ends = BTreeSet::from([vec![]]);
@@ -643,27 +660,295 @@ fn every_short_end_of_a_plan() {
         tried.extend(bytes().map(|a| vec![1, map, a]));
         tried.extend(bytes().map(|a| vec![1, map, 1, 1, a]));
     }
-    let mut read = 0;
+    let mut read = [0, 0];
     for end in tried {
         let groups = end.get(1).copied().unwrap_or(0);
         if end.first() == Some(&1) && groups > 3 {
             continue;
         }
-        let mut plan = vec![4, 0];
-        plan.extend(&end);
-        let answer = read_steps(9, 1, &plan);
-        if ends.contains(&end) {
-            read += 1;
-            assert_eq!(
-                plan_bytes(&[0], &[0], &[0], answer.unwrap().end_set()),
-                plan
-            );
-        } else {
-            let sound = (0..=end.len()).rfind(|&length| begun.contains(&end[..length]));
-            assert_eq!(answer, Err(refusal(11, 2 + sound.unwrap())), "{end:x?}");
+        for (tests, step) in [(0, &[][..]), (1, &[4u8, 0][..])] {
+            let plan = [step, &end[..]].concat();
+            let answer = read_steps(9, tests, &plan);
+            if ends.contains(&end) {
+                read[tests] += 1;
+                let set = answer.unwrap().end_set();
+                let written = plan_bytes(&[0][..tests], &[0][..tests], &[0][..tests], set);
+                assert_eq!(written, plan);
+                let position = step_bytes(9, tests, &plan, tests);
+                assert_eq!(position, (step.len(), end.len()));
+            } else {
+                let sound = (0..=end.len()).rfind(|&length| begun.contains(&end[..length]));
+                let refused = refusal(11, step.len() + sound.unwrap());
+                assert_eq!(answer, Err(refused), "{end:x?}");
+                assert_eq!(step_bytes(9, tests, &plan, tests), (plan.len(), 0));
+            }
         }
     }
-    assert_eq!(read, 512);
+    assert_eq!(read, [512, 512]);
+}
+
+/// The bytes of every job without tests, and its numbers.
+fn jobs_without_tests() -> Vec<(Vec<u8>, [usize; 3])> {
+    let mut jobs = Vec::new();
+    for places in 1..=64 {
+        for curves in 1..=64 {
+            for method in 0..=3 {
+                let mut bytes = vec![0];
+                for (bit, value, absent) in [(1, places, 8), (2, curves, 64), (8, method, 0)] {
+                    if value != absent {
+                        bytes[0] |= bit;
+                        bytes.push(value as u8);
+                    }
+                }
+                jobs.push((bytes, [places, curves, method]));
+            }
+        }
+    }
+    jobs
+}
+
+#[test]
+fn every_job_without_tests() {
+    for (bytes, [places, curves, method]) in jobs_without_tests() {
+        let job = Job {
+            places,
+            curves,
+            tests: 0,
+            method,
+            wants: vec![],
+        };
+        assert_eq!(read_job(&bytes, 0), Ok(job));
+        let needed = bytes.len();
+        assert_eq!(needed, empty::job_length(places, curves, method));
+        let written = |length: usize| write_job(places, curves, method, &[], length);
+        assert_eq!(written(needed), Ok(bytes.clone()));
+        assert_eq!(written(needed - 1), Err(refusal(9, needed)));
+        assert_eq!(order_tests(places, curves, method, &[], 0), Ok(vec![]));
+        let made = plan(places, curves, &[], &[], 0, 0).unwrap();
+        assert_eq!((made.drops, made.loads), (vec![], vec![]));
+        assert_eq!((made.end, made.count), (0, 0));
+        assert_eq!(call(&bytes, 0), (0, vec![]));
+        let printed = format!("0 tests, {places} places, method {method}\nloads 0\n");
+        assert_eq!(sheet(&bytes), printed);
+        let audited = audit_text(&audit(&bytes, &[]));
+        assert_eq!(audited, "loads 0\nfewest 0\nshorter by 0\n");
+        // Plan bytes other than none: read or not, they do not pass.
+        assert_eq!(
+            audit(&bytes, &[1, 1, 1]),
+            Err(Refused::Plan(refusal(12, 0)))
+        );
+        assert_eq!(audit(&bytes, &[4, 0]), Err(Refused::Plan(refusal(11, 0))));
+    }
+}
+
+/// Whatever job bytes there are whose map has no tests field: up to two bytes behind the map, and a few
+/// with three or four. Those that read are the jobs without tests. Of the others those that such a job
+/// begins with are cut; of the rest the first byte is refused with which no such job begins any more,
+/// as surplus if a whole job stands before it.
+#[test]
+fn every_short_job_without_tests() {
+    let mut whole = BTreeSet::new();
+    let mut begun = BTreeSet::new();
+    for (bytes, _) in jobs_without_tests() {
+        for length in 0..=bytes.len() {
+            begun.insert(bytes[..length].to_vec());
+        }
+        whole.insert(bytes);
+    }
+    let bytes = || 0..=255u8;
+    let mut tried: Vec<Vec<u8>> = Vec::new();
+    for map in bytes().filter(|map| map & 4 == 0) {
+        tried.push(vec![map]);
+        tried.extend(bytes().map(|a| vec![map, a]));
+        if map < 16 {
+            tried.extend(bytes().flat_map(|a| bytes().map(move |b| vec![map, a, b])));
+            let few = [0, 1, 3, 4, 7, 8, 9, 63, 64, 65, 255];
+            for a in few {
+                for b in few {
+                    tried.extend(few.map(|c| vec![map, a, b, c]));
+                    tried.extend(few.map(|c| vec![map, a, b, c, 0]));
+                }
+            }
+        }
+    }
+    let mut outcomes = [0; 7];
+    for job in tried {
+        let answer = read_job(&job, 0);
+        let expected = if whole.contains(&job) {
+            Ok(0)
+        } else if begun.contains(&job) {
+            Err(refusal(1, job.len()))
+        } else {
+            let sound = (0..job.len()).rfind(|&length| begun.contains(&job[..length]));
+            let sound = sound.unwrap();
+            let number = if whole.contains(&job[..sound]) { 6 } else { 2 };
+            Err(refusal(number, sound))
+        };
+        outcomes[expected.map_or_else(|no| no.number as usize, |_| 0)] += 1;
+        assert_eq!(answer.map(|job| job.tests), expected, "{job:x?}");
+        if let Err(no) = expected {
+            assert_eq!(call(&job, 0), (no.number * 65_536 + no.figure, vec![]));
+            assert_eq!(audit(&job, &[]), Err(Refused::Job(no)));
+        }
+    }
+    // Read, cut, faulty and with surplus bytes.
+    assert!(
+        [0, 1, 2, 6].iter().all(|&number| outcomes[number] > 5),
+        "{outcomes:?}"
+    );
+}
+
+/// What the reference answers to handed numbers and lists without tests; where it answers, the result
+/// has nothing of a test. `None`: the case has job bytes instead, or no refusal.
+fn refused_without_tests(case: &Case) -> Option<Result<(), Refusal>> {
+    Some(match case {
+        Case::WriteJob {
+            places,
+            curves,
+            method,
+            wants,
+            out_len,
+        } => write_job(*places, *curves, *method, wants, *out_len).map(|bytes| {
+            assert_eq!(bytes.len(), empty::job_length(*places, *curves, *method));
+        }),
+        Case::OrderTests {
+            places,
+            curves,
+            method,
+            wants,
+            order_len,
+        } => order_tests(*places, *curves, *method, wants, *order_len).map(|order| {
+            assert!(order.is_empty());
+        }),
+        Case::PlanOrder {
+            places,
+            curves,
+            wants,
+            order,
+            drops_len,
+            loads_len,
+        } => plan(*places, *curves, wants, order, *drops_len, *loads_len).map(|plan| {
+            assert!(plan.drops.is_empty() && plan.loads.is_empty());
+            assert_eq!((plan.end, plan.count), (0, 0));
+        }),
+        Case::CheckPlan {
+            places,
+            curves,
+            wants,
+            order,
+            drops,
+            loads,
+            end,
+        } => {
+            let answer = check_plan(*places, *curves, wants, order, drops, loads, *end);
+            answer.map(|count| assert_eq!(count, 0))
+        }
+        Case::WritePlan {
+            places,
+            curves,
+            wants,
+            order,
+            drops,
+            loads,
+            end,
+            out_len,
+        } => {
+            let (p, c) = (*places, *curves);
+            let answer = write_plan(p, c, wants, order, drops, loads, *end, *out_len);
+            answer.map(|bytes| assert!(bytes.is_empty()))
+        }
+        Case::ReadPlan {
+            curves,
+            tests,
+            plan,
+            order_len,
+            drops_len,
+            loads_len,
+            ..
+        } => {
+            let (c, t) = (*curves, *tests);
+            let answer = read_plan(c, t, plan, *order_len, *drops_len, *loads_len);
+            answer.map(|steps| assert!(steps.tests.is_empty()))
+        }
+        Case::StepBytes {
+            curves,
+            tests,
+            plan,
+            further,
+            ..
+        } => {
+            let answer = read_steps(*curves, *tests, plan);
+            let first = if answer.is_ok() { 0 } else { plan.len() };
+            let fetched = step_bytes(*curves, *tests, plan, 0);
+            assert_eq!(fetched, (first, plan.len() - first));
+            for position in [1, 2, (*further).max(1)] {
+                let fetched = step_bytes(*curves, *tests, plan, position);
+                assert_eq!(fetched, (plan.len(), 0));
+            }
+            answer.map(|_| ())
+        }
+        Case::Examine {
+            places,
+            curves,
+            wants,
+        } => examine(*places, *curves, wants),
+        Case::ExamineBy {
+            places,
+            curves,
+            method,
+            wants,
+        } => examine_by(*places, *curves, *method, wants),
+        Case::ExamineCounts { curves, tests } => examine_counts(*curves, *tests),
+        Case::ExamineSizes { places, wants } => examine_sizes(*places, wants),
+        Case::PackageOrder { places, wants, .. } => {
+            assert!(package_order(*places, wants).is_empty());
+            Ok(())
+        }
+        _ => return None,
+    })
+}
+
+/// Of several faults of a list without tests the first in the papers' sequence is answered, and
+/// without any there is an answer.
+#[test]
+fn the_first_fault_without_tests_decides() {
+    let mut random = Random::new(20);
+    let mut functions = BTreeSet::new();
+    for (function, name) in FUNCTIONS.iter().enumerate() {
+        for _ in 0..2_000 {
+            let Some(case) = empty::case(function, &mut random) else {
+                break;
+            };
+            let text = case.describe();
+            assert_eq!(case.function(), function, "{text}");
+            assert_eq!(empty::without_tests(&case), Some(true), "{text}");
+            let Some(answer) = refused_without_tests(&case) else {
+                continue;
+            };
+            let told: &[&str] = match answer {
+                Ok(()) => &[],
+                Err(no) => match (no.number, no.figure) {
+                    (8, 0) => &["8"],
+                    (9, 1..=4) => &["9"],
+                    (10, 0) => &["10:0"],
+                    (10, 1) => &["10:1"],
+                    (10, 3) => &["10:3"],
+                    (11, _) => &["11"],
+                    (12, 0) => &["12:lengths", "12:end"],
+                    _ => panic!("{no:?} of {text}"),
+                },
+            };
+            match empty::faults(&case).first() {
+                Some(first) => assert!(told.contains(first), "{first}, {told:?}: {text}"),
+                None => {
+                    assert!(told.is_empty(), "{told:?}: {text}");
+                    functions.insert(name);
+                }
+            }
+        }
+    }
+    // All that are handed numbers or lists and may refuse, the steps fetched, and the packages.
+    assert_eq!(functions.len(), 12, "{functions:?}");
 }
 
 #[test]
@@ -707,16 +992,18 @@ fn tuned_and_the_c_program_agree() {
     let mut random = Random::new(10);
     for round in 0..20_000 {
         let size = match round {
-            0..=99 => random.pick(&[Size::Full, Size::Edge]),
+            500..=599 => random.pick(&[Size::Full, Size::Edge]),
             _ => random.pick(&[Size::Tiny, Size::Tiny, Size::Small]),
         };
         let job = match round {
             0..=11 => generate::job_bytes(&generate::longest_job(&mut random, 1 + round % 4)),
+            12..=499 => empty::job_bytes(&mut random),
             _ => generate::any_job_bytes(&mut random, size),
         };
         let length = match round {
             0..=3 => PLAN_MADE,
             4..=7 => PLAN_MADE - 1,
+            12..=499 => random.pick(&[0, 0, 1, 80]),
             _ if random.chance(1, 8) => random.below(80),
             _ => PLAN_READ,
         };

@@ -1,5 +1,6 @@
 //! Every example of the papers.
 
+use crate::fast;
 use crate::reference::*;
 use crate::tuned;
 
@@ -458,6 +459,256 @@ fn one_test_without_wants() {
     assert_eq!(step_bytes(64, 1, &bytes("04 00"), 1), (2, 0));
 }
 
+/// Wish 3's example.
+#[test]
+fn a_list_without_tests() {
+    let job = bytes("00");
+    let read = Job {
+        places: 8,
+        curves: 64,
+        tests: 0,
+        method: 0,
+        wants: vec![],
+    };
+    assert_eq!(read_job(&job, 0), Ok(read));
+    assert_eq!(write_job(8, 64, 0, &[], 1), Ok(job.clone()));
+    assert_eq!(write_job(8, 64, 0, &[], 0), Err(no(9, 1)));
+    for method in 0..=3 {
+        assert_eq!(order_tests(8, 64, method, &[], 0), Ok(vec![]));
+        assert_eq!(order_tests(8, 64, method, &[], 9), Ok(vec![]));
+    }
+    let nothing = Plan {
+        drops: vec![],
+        loads: vec![],
+        end: 0,
+        count: 0,
+    };
+    for rule in [TieRule::Lowest, TieRule::Highest] {
+        let made = plan_by(rule, 8, 64, &[], &[], 0, 0);
+        assert_eq!(made, Ok(nothing.clone()));
+    }
+    assert_eq!(plan(8, 64, &[], &[], 3, 0), Ok(nothing));
+    assert_eq!(check_plan(8, 64, &[], &[], &[], &[], 0), Ok(0));
+    assert!(passes(8, 64, &[], &[], &[], &[], 0));
+    assert_eq!(least_loads(8, 10, &[], &[]), Some(0));
+    assert_eq!(fewest_loads(8, &[], &[]), 0);
+    let written = write_plan(8, 64, &[], &[], &[], &[], 0, 0);
+    assert_eq!(written, Ok(vec![]));
+    let steps = read_plan(64, 0, &[], 0, 0, 0).unwrap();
+    assert_eq!((steps.tests.len(), steps.end_set()), (0, 0));
+    for position in [0, 1, 256, usize::MAX] {
+        assert_eq!(step_bytes(64, 0, &[], position), (0, 0));
+    }
+    for length in [0, 1, 5_121] {
+        assert_eq!(call(&job, length), (0, vec![]));
+    }
+    assert_eq!(sheet(&job), "0 tests, 8 places, method 0\nloads 0\n");
+    let audited = audit(&job, &[]);
+    assert_eq!(audit_text(&audited), "loads 0\nfewest 0\nshorter by 0\n");
+}
+
+/// Heads without a tests field: places, curves and method.
+const WITHOUT_TESTS: [(&str, usize, usize, usize); 8] = [
+    ("00", 8, 64, 0),
+    ("01 02", 2, 64, 0),
+    ("02 04", 8, 4, 0),
+    ("03 02 04", 2, 4, 0),
+    ("08 03", 8, 64, 3),
+    ("09 40 01", 64, 64, 1),
+    ("0a 3f 02", 8, 63, 2),
+    ("0b 02 04 03", 2, 4, 3),
+];
+
+#[test]
+fn heads_without_tests() {
+    for (head, places, curves, method) in WITHOUT_TESTS {
+        let job = bytes(head);
+        let read = read_job(&job, 0).unwrap();
+        assert_eq!((read.tests, read.wants), (0, vec![]));
+        assert_eq!(
+            (read.places, read.curves, read.method),
+            (places, curves, method)
+        );
+        assert_eq!(write_job(places, curves, method, &[], 4), Ok(job.clone()));
+        assert_eq!(call(&job, 0), (0, vec![]));
+        assert_eq!(
+            sheet(&job),
+            format!("0 tests, {places} places, method {method}\nloads 0\n")
+        );
+        // Every byte is needed, and none may stand behind.
+        for length in 0..job.len() {
+            assert_eq!(read_job(&job[..length], 0), Err(no(1, length as u64)));
+        }
+        for surplus in [0, 1, 4, 0xff] {
+            let longer = [&job[..], &[surplus]].concat();
+            assert_eq!(read_job(&longer, 0), Err(no(6, job.len() as u64)));
+        }
+    }
+}
+
+/// Job bytes that give no tests and do not read.
+const WITHOUT_TESTS_REFUSED: [(&str, u64, u64); 12] = [
+    ("00 ff", 6, 1),
+    ("00 00", 6, 1),
+    ("00 00 00 ff", 6, 1),
+    ("03 02 04 01 01", 6, 3),
+    ("04 00 00", 2, 1),
+    ("05 02 00 00", 2, 2),
+    ("07 02 04 00 00 01", 2, 3),
+    ("0c 00 00 01", 2, 1),
+    ("0b 02 04", 1, 3),
+    ("0b 02 40 04 ff", 2, 2),
+    ("09 02 04 00", 2, 2),
+    ("20", 2, 0),
+];
+
+#[test]
+fn refusals_of_job_bytes_without_tests() {
+    for (job, number, figure) in WITHOUT_TESTS_REFUSED {
+        let job = bytes(job);
+        assert_eq!(read_job(&job, 0), Err(no(number, figure)), "{job:x?}");
+        assert_eq!(call(&job, 0), (number * 65_536 + figure, vec![]));
+        assert_eq!(sheet(&job), format!("refused {number} at {figure}\n"));
+        // Whatever the plan is.
+        for plan in ["", "01 01 01", "04 00"] {
+            let audited = audit(&job, &bytes(plan));
+            assert_eq!(audited, Err(Refused::Job(no(number, figure))));
+        }
+    }
+}
+
+#[test]
+fn refusals_of_lists_without_tests() {
+    for (places, curves, method, figure) in [
+        (0, 0, 9, 0),
+        (65, 65, 4, 0),
+        (usize::MAX, 64, 0, 0),
+        (8, 0, 9, 1),
+        (8, 65, 0, 1),
+        (8, 64, 4, 3),
+        (8, 64, usize::MAX, 3),
+    ] {
+        let refused = no(10, figure);
+        assert_eq!(write_job(places, curves, method, &[], 0), Err(refused));
+        assert_eq!(order_tests(places, curves, method, &[], 0), Err(refused));
+        assert_eq!(examine_by(places, curves, method, &[]), Err(refused));
+        if figure == 3 {
+            continue; // the others are not handed a method
+        }
+        assert_eq!(examine(places, curves, &[]), Err(refused));
+        // 10 goes before everything else.
+        for order in [&[][..], &[0]] {
+            assert_eq!(plan(places, curves, &[], order, 0, 0), Err(refused));
+            for list in [&[][..], &[1]] {
+                let checked = check_plan(places, curves, &[], order, list, list, 1);
+                assert_eq!(checked, Err(refused));
+                let written = write_plan(places, curves, &[], order, list, list, 1, 0);
+                assert_eq!(written, Err(refused));
+            }
+        }
+    }
+    for curves in [0, 65, usize::MAX] {
+        assert_eq!(examine_counts(curves, 0), Err(no(10, 1)));
+        for plan in ["", "01 01 01", "04 00"] {
+            let plan = bytes(plan);
+            assert_eq!(read_plan(curves, 0, &plan, 0, 0, 0), Err(no(10, 1)));
+            assert_eq!(step_bytes(curves, 0, &plan, 0), (plan.len(), 0));
+        }
+    }
+    assert_eq!(examine(64, 64, &[]), Ok(()));
+    assert_eq!(examine_by(64, 64, 3, &[]), Ok(()));
+    assert_eq!(examine_counts(1, 0), Ok(()));
+    assert_eq!(examine_sizes(0, &[]), Ok(()));
+    assert!(package_order(0, &[]).is_empty());
+    // An order with an entry; the lists and the end set come behind it.
+    for order in [&[0][..], &[1], &[u16::MAX], &[0, 0]] {
+        assert_eq!(plan(8, 64, &[], order, 0, 0), Err(no(8, 0)));
+        for (drops, loads, end) in [(&[][..], &[][..], 0), (&[0], &[1], 1)] {
+            let checked = check_plan(8, 64, &[], order, drops, loads, end);
+            assert_eq!(checked, Err(no(8, 0)));
+            let written = write_plan(8, 64, &[], order, drops, loads, end, 0);
+            assert_eq!(written, Err(no(8, 0)));
+        }
+    }
+    // Drops or loads with an entry, or an end set, though nothing is held.
+    for end in [0, 1, 1 << 63, u64::MAX] {
+        for (drops, loads) in [
+            (&[][..], &[][..]),
+            (&[0], &[]),
+            (&[], &[0]),
+            (&[0], &[1]),
+            (&[], &[1, 2]),
+        ] {
+            let sound = drops.is_empty() && loads.is_empty() && end == 0;
+            let checked = check_plan(8, 64, &[], &[], drops, loads, end);
+            assert_eq!(checked, if sound { Ok(0) } else { Err(no(12, 0)) });
+            let written = write_plan(8, 64, &[], &[], drops, loads, end, 0);
+            assert_eq!(written, if sound { Ok(vec![]) } else { Err(no(12, 0)) });
+        }
+    }
+}
+
+/// The curves of the job are 0 to 3.
+#[test]
+fn plan_bytes_without_tests() {
+    let job = bytes("02 04");
+    for (plan, figure) in [
+        ("00", 0),
+        ("02 01 01", 0),
+        ("04", 0),
+        ("04 00", 0),
+        ("05 01 01 00", 0),
+        ("81 01 01", 0),
+        ("ff", 0),
+        ("01", 1),
+        ("01 00", 1),
+        ("01 01", 2),
+        ("01 01 00", 2),
+        ("01 01 10", 2),
+        ("01 02 01", 2),
+        ("01 03 01", 3),
+        ("01 01 01 00", 3),
+        ("01 01 01 01 01 01", 3),
+        ("01 01 01 04 00", 3),
+    ] {
+        let plan = bytes(plan);
+        assert_eq!(read_plan(4, 0, &plan, 0, 0, 0), Err(no(11, figure)));
+        for position in [0, 1] {
+            assert_eq!(step_bytes(4, 0, &plan, position), (plan.len(), 0));
+        }
+        let audited = audit(&job, &plan);
+        let printed = format!("plan refused 11 at {figure}\n");
+        assert_eq!(audit_text(&audited), printed);
+    }
+    // An end step alone reads, and its check from an empty drive fails.
+    for (plan, end) in [("01 01 01", 1), ("01 01 0a", 10), ("01 01 0f", 15)] {
+        let plan = bytes(plan);
+        let steps = read_plan(4, 0, &plan, 0, 0, 0).unwrap();
+        assert_eq!((steps.tests.len(), steps.end_set()), (0, end));
+        assert_eq!(step_bytes(4, 0, &plan, 0), (0, 3));
+        assert_eq!(step_bytes(4, 0, &plan, 1), (3, 0));
+        assert_eq!(check_plan(8, 4, &[], &[], &[], &[], end), Err(no(12, 0)));
+        let audited = audit(&job, &plan);
+        assert_eq!(audit_text(&audited), "plan refused 12 at 0\n");
+    }
+}
+
+#[test]
+fn fast_calls_without_tests() {
+    let sound = WITHOUT_TESTS.map(|(job, ..)| (job, 0));
+    let refused =
+        WITHOUT_TESTS_REFUSED.map(|(job, number, figure)| (job, number * 65_536 + figure));
+    for (job, answer) in sound.into_iter().chain(refused) {
+        for call in [tuned::call, fast::call] {
+            for length in [0, 1, 9] {
+                let mut out = vec![0xaa; length];
+                assert_eq!(call(&bytes(job), &mut out), answer, "{job}");
+                assert_eq!(out, vec![0xaa; length]);
+            }
+        }
+    }
+}
+
 #[test]
 fn nothing_is_held_where_all_was_dropped_before() {
     // A plan of two tests, the last without wants, that leaves nothing for the end.
@@ -492,7 +743,6 @@ fn refusals_of_job_bytes() {
         ("01 00", 2, 1),
         ("01 08", 2, 1),
         ("01 41", 2, 1),
-        ("00", 5, 0),
         ("04 01 00 01 00", 3, 4),
         ("04 01 00 00 00", 6, 4),
         ("06 04 01 00 01 10", 4, 5),
@@ -507,7 +757,6 @@ fn refusals_of_job_bytes() {
         ("04 00 01", 1, 3),
         ("08 00", 2, 1),
         ("08 04", 2, 1),
-        ("08 03", 5, 0),
         ("03 02 40", 2, 2),
         ("06 04 01 00 02", 1, 5),
         ("06 04 01 00 02 00", 3, 5),
@@ -538,7 +787,6 @@ fn refusals_of_orders() {
 #[test]
 fn refusals_of_handed_numbers() {
     let wants = vec![1u64; 257];
-    assert_eq!(order_tests(0, 0, 9, &[], 0), Err(no(5, 0)));
     assert_eq!(order_tests(0, 0, 9, &wants, 0), Err(no(10, 0)));
     assert_eq!(order_tests(65, 1, 0, &wants, 0), Err(no(10, 0)));
     assert_eq!(order_tests(usize::MAX, 1, 0, &wants, 0), Err(no(10, 0)));
@@ -548,7 +796,6 @@ fn refusals_of_handed_numbers() {
     assert_eq!(order_tests(64, 1, 3, &[1, 0, 2, 4], 0), Err(no(10, 6)));
     assert_eq!(order_tests(64, 1, 3, &wants[..256], 255), Err(no(9, 256)));
     assert_eq!(write_job(1, 3, 0, &[7, 7], 0), Err(no(9, 9)));
-    assert_eq!(read_plan(65, 0, &[], 0, 0, 0), Err(no(5, 0)));
     assert_eq!(read_plan(65, 257, &[], 0, 0, 0), Err(no(10, 1)));
     assert_eq!(read_plan(64, 257, &[], 0, 0, 0), Err(no(10, 2)));
     assert_eq!(read_plan(64, 256, &[], 0, 0, 0), Err(no(11, 0)));

@@ -1,5 +1,6 @@
 //! Inputs for every function: random, on the bounds, damaged once and damaged twice.
 
+use crate::empty;
 use crate::parts;
 use crate::random::Random;
 use crate::reference::{self, TieRule};
@@ -173,7 +174,7 @@ const FIRST_SET: usize = 22;
 
 /// The functions' names behind `curveplan_`, in the order of the variants above; `plan` is the C
 /// host's own call. What tells a refusal's number and figure has no cases of its own: every refusal
-/// is answered, or printed, through it, and each of the twelve occurs.
+/// is answered, or printed, through it, and each of them occurs.
 pub const FUNCTIONS: [&str; 32] = [
     "read_job",
     "write_job",
@@ -466,15 +467,15 @@ pub const PLAN_MADE: usize = 5_121;
 /// How large a case is.
 #[derive(Clone, Copy, Debug, PartialEq, Eq)]
 pub enum Size {
-    /// Up to 8 tests.
+    /// Up to 8 tests, or none.
     Tiny,
-    /// Up to 24 tests.
+    /// Up to 24 tests, or none.
     Small,
     /// Up to 80 tests.
     Medium,
     /// 200 to 256 tests, mostly 256.
     Full,
-    /// On the bounds: 1 or 256 tests, 1 or 64 curves, 1 or 64 places.
+    /// On the bounds: 0, 1 or 256 tests, 1 or 64 curves, 1 or 64 places.
     Edge,
 }
 
@@ -558,8 +559,8 @@ fn in_groups(random: &mut Random, curves: usize, number: usize) -> u64 {
 
 fn tests_of(random: &mut Random, size: Size) -> usize {
     match size {
-        Size::Tiny => random.between(1, 8),
-        Size::Small => random.between(1, 24),
+        Size::Tiny => random.between(0, 8),
+        Size::Small => random.between(0, 24),
         Size::Medium => random.between(25, 80),
         Size::Full => {
             if random.chance(3, 4) {
@@ -568,7 +569,7 @@ fn tests_of(random: &mut Random, size: Size) -> usize {
                 random.between(200, 256)
             }
         }
-        Size::Edge => random.pick(&[1, 2, 255, 256, 256, 256]),
+        Size::Edge => random.pick(&[0, 1, 2, 255, 256, 256, 256]),
     }
 }
 
@@ -789,13 +790,13 @@ pub fn wants(random: &mut Random, tests: usize, places: usize, curves: usize) ->
             }
         }
     }
-    if random.chance(1, 12) {
+    if tests > 0 && random.chance(1, 12) {
         // Perhaps wider than the places.
         let test = random.below(tests);
         let number = random.between(places.min(curves), curves);
         list[test] = random_set(random, curves, number);
     }
-    if random.chance(1, 40) {
+    if tests > 0 && random.chance(1, 40) {
         let test = random.below(tests);
         list[test] = all;
     }
@@ -963,7 +964,7 @@ pub fn any_job_bytes(random: &mut Random, size: Size) -> Vec<u8> {
 // Handed numbers, lists and lengths
 
 /// The length of a lent list, around the number of entries needed.
-fn lent(random: &mut Random, needed: usize) -> usize {
+pub(crate) fn lent(random: &mut Random, needed: usize) -> usize {
     match random.below(16) {
         0..=6 => needed,
         7..=9 => needed + random.between(1, 9),
@@ -985,7 +986,8 @@ fn enough(random: &mut Random, needed: usize) -> usize {
     needed + random.pick(&[0, 0, 1, 5, 40])
 }
 
-const WILD: [usize; 12] = [
+/// Numbers of places and of curves that are out of range.
+pub(crate) const WILD: [usize; 12] = [
     0,
     0,
     65,
@@ -999,6 +1001,8 @@ const WILD: [usize; 12] = [
     1 << 32,
     usize::MAX,
 ];
+
+pub(crate) const WILD_METHODS: [usize; 7] = [4, 5, 255, 256, 1 << 16, 1 << 32, usize::MAX];
 
 /// Faults in what is handed over (not in the lists of orders and plans).
 fn spoil_numbers(
@@ -1017,13 +1021,11 @@ fn spoil_numbers(
         match random.below(8) {
             0 => *places = random.pick(&WILD),
             1 => *curves = random.pick(&WILD),
-            2 => *method = random.pick(&[4, 5, 255, 256, 1 << 16, 1 << 32, usize::MAX]),
+            2 => *method = random.pick(&WILD_METHODS),
             3 => {
                 let tests = random.pick(&[257, 257, 258, 300, 512]);
-                while wants.len() < tests {
-                    let set = wants[0];
-                    wants.push(set);
-                }
+                let set = wants.first().copied().unwrap_or(0);
+                wants.resize(tests.max(wants.len()), set);
             }
             4 => wants.clear(),
             _ => {
@@ -1038,9 +1040,6 @@ fn spoil_numbers(
                     };
                 }
             }
-        }
-        if wants.is_empty() {
-            break;
         }
     }
 }
@@ -1218,7 +1217,7 @@ pub struct SomePlan {
 }
 
 impl SomePlan {
-    fn bytes(&self) -> Vec<u8> {
+    pub(crate) fn bytes(&self) -> Vec<u8> {
         reference::plan_bytes(&self.order, &self.drops, &self.loads, self.end)
     }
 
@@ -1398,6 +1397,13 @@ impl Ending {
         matches!(self, Held | LongestMade | LongestRead)
             || matches!(self, Missing | OneMore | OneFewer | All | All64 | Others)
     }
+
+    /// Whether a plan without tests can end so: nothing is held, and there is no test's step.
+    pub fn without_tests(self) -> bool {
+        use Ending::*;
+        !matches!(self, Missing | OneFewer | BeforeLast | Early)
+            && !matches!(self, LongestMade | LongestRead | LongerStill)
+    }
 }
 
 /// Plan bytes of a job with an end made on purpose.
@@ -1424,13 +1430,13 @@ fn asked_for(random: &mut Random, map: u8, curves: usize, tests: usize) -> Vec<u
         }
     }
     if map & 4 != 0 {
-        bytes.push(random.below(tests) as u8);
+        bytes.push(random.below(tests.max(1)) as u8);
     }
     bytes
 }
 
 /// A plan's bytes with this end, and what is foreseen of them. `None`: the plan does not allow it.
-fn with_ending(
+pub(crate) fn with_ending(
     random: &mut Random,
     job: &Job,
     made: &SomePlan,
@@ -1531,7 +1537,10 @@ fn with_ending(
         }
         Ending::Step => {
             bytes.extend(step);
-            bytes.extend(made.first_bytes(1));
+            match tests {
+                0 => bytes.extend([4, 0]),
+                _ => bytes.extend(made.first_bytes(1)),
+            }
             Err(behind)
         }
         Ending::Surplus => {
@@ -1540,7 +1549,7 @@ fn with_ending(
             bytes.push(random.pick(&[0, 1, 4, 255, byte]));
             Err(behind)
         }
-        Ending::BeforeLast | Ending::Early => {
+        Ending::BeforeLast | Ending::Early if tests > 0 => {
             let steps = match ending {
                 Ending::BeforeLast => tests - 1,
                 _ => random.below(tests),
@@ -1626,11 +1635,13 @@ fn any_plan_bytes(random: &mut Random, size: Size) -> HandedBytes {
         if random.chance(1, 8) {
             spoil_counts(random, &mut curves, &mut tests);
         }
+        // Of a list without tests this is no end any more.
+        let steps_alone = tests == 0 && !job.wants.is_empty();
         return HandedBytes {
             curves,
             tests,
             plan,
-            ending: Some(ending),
+            ending: (!steps_alone).then_some(ending),
         };
     }
     let job = job(random, size);
@@ -1683,6 +1694,7 @@ fn audited(random: &mut Random, size: Size) -> (Vec<u8>, Vec<u8>, Option<Ending>
         let mut bytes = job_bytes(&job);
         if random.chance(1, 12) {
             damage(random, &mut bytes);
+            return (bytes, plan, None); // perhaps of another job
         }
         return (bytes, plan, Some(ending));
     }
@@ -1701,7 +1713,7 @@ fn audited(random: &mut Random, size: Size) -> (Vec<u8>, Vec<u8>, Option<Ending>
     if random.chance(1, 8) {
         spoil_end(random, &mut made.end, job.curves);
     }
-    if random.chance(1, 8) {
+    if tests > 0 && random.chance(1, 8) {
         let at = random.below(tests);
         made.order[at] = random.pick(&made.order);
     }
@@ -1772,7 +1784,7 @@ const EDGE_NUMBERS: [usize; 24] = [
 ];
 
 /// Any 64-bit number: an edge, dense, sparse, or with some groups of eight empty.
-fn any_set(random: &mut Random) -> u64 {
+pub(crate) fn any_set(random: &mut Random) -> u64 {
     match random.below(4) {
         0 => random.pick(&EDGE_SETS),
         1 => random.word(),
@@ -1800,7 +1812,7 @@ fn beside(random: &mut Random, set: u64) -> u64 {
     }
 }
 
-fn any_number(random: &mut Random) -> usize {
+pub(crate) fn any_number(random: &mut Random) -> usize {
     if random.chance(1, 2) {
         random.pick(&EDGE_NUMBERS)
     } else {
@@ -1855,9 +1867,7 @@ fn spoilt_job(random: &mut Random, size: Size) -> Job {
             method,
             wants,
         } = &mut job;
-        if !wants.is_empty() {
-            spoil_numbers(random, places, curves, method, wants);
-        }
+        spoil_numbers(random, places, curves, method, wants);
     }
     job
 }
@@ -1884,6 +1894,11 @@ pub fn case(seed: u64, number: u64, only: Option<usize>) -> Case {
         function += 1;
     }
     let function = only.unwrap_or(function);
+    if random.chance(1, 8) {
+        if let Some(case) = empty::case(function, random) {
+            return case;
+        }
+    }
     let size = size(random);
     case_of(function, size, random)
 }
@@ -1954,7 +1969,7 @@ pub fn case_of(function: usize, size: Size, random: &mut Random) -> Case {
                 mut method,
                 mut wants,
             } = job(random, size);
-            if large(size) && random.chance(1, 4) {
+            if large(size) && !wants.is_empty() && random.chance(1, 4) {
                 // All 64 curves are held at the end.
                 (places, curves) = (64, 64);
                 let test = random.below(wants.len());
@@ -2237,7 +2252,7 @@ pub fn case_of(function: usize, size: Size, random: &mut Random) -> Case {
             match random.below(12) {
                 0 => wants.clear(),
                 1 => wants.resize(random.between(257, 300), any_set(random)),
-                2 | 3 => {
+                2 | 3 if !wants.is_empty() => {
                     for _ in 0..random.between(1, 2) {
                         let test = random.below(wants.len());
                         wants[test] = any_set(random);
@@ -2289,7 +2304,7 @@ pub fn case_of(function: usize, size: Size, random: &mut Random) -> Case {
             match random.below(12) {
                 0 => wants.clear(),
                 1 => wants.resize(random.between(257, 300), any_set(random)),
-                2 | 3 => {
+                2 | 3 if !wants.is_empty() => {
                     for _ in 0..random.between(1, 2) {
                         let test = random.below(wants.len());
                         wants[test] = any_set(random);

@@ -1,8 +1,9 @@
 //! An independent implementation of the curve planner's papers (`reference`) and of the small public
 //! functions below it (`parts`), where its tie rule matters (`ties`), two fast implementations for the
-//! benchmark (`tuned`, and in C `fast`), random inputs (`generate`) and the library under test
-//! (`product`, only with the feature of that name).
+//! benchmark (`tuned`, and in C `fast`), random inputs (`generate`), among them lists without tests
+//! (`empty`), and the library under test (`product`, only with the feature of that name).
 
+pub mod empty;
 pub mod fast;
 pub mod generate;
 pub mod parts;

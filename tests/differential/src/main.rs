@@ -8,8 +8,10 @@
 //! other functions are only counted. Ends with 1 at the first difference, with 2 if some outcome
 //! that a function can have was never reached, or something else that is counted: one of method 3's
 //! flips, one of the audit's two kinds of refusal, a kind of end set or of plan's end, a wrong end
-//! set beside another fault, a length on its bound, or a kind of tie that the tie rule decides.
+//! set beside another fault, a length on its bound, a kind of tie that the tie rule decides, or an
+//! outcome, a kind or two faults of a list without tests.
 
+use differential::empty;
 use differential::generate::{
     self, Case, Ending, SetFunction, ENDINGS, FUNCTIONS, PLAN_MADE, SHEET,
 };
@@ -22,6 +24,7 @@ use std::collections::BTreeMap;
 use std::env;
 use std::fmt::Debug;
 use std::process::exit;
+use std::sync::LazyLock;
 use std::time::Instant;
 
 #[cfg(feature = "product")]
@@ -329,7 +332,6 @@ fn kind_of_end(held: u64, end: u64, curves: usize) -> &'static str {
 /// The refusal that a plan with another end set than what is held gets for another fault.
 fn before_end(outcome: &str) -> Option<&'static str> {
     match outcome {
-        "5" => Some("5"),
         "8" => Some("8"),
         "12:lengths" => Some("12:lengths"),
         "12:step" => Some("12:step"),
@@ -912,6 +914,9 @@ fn run(case: &Case, random: &mut Random, subjects: &[Box<dyn Subject>]) -> Verdi
             name
         }
     };
+    if empty::without_tests(case) == Some(true) {
+        notes.extend(notes_without_tests(case, &outcome));
+    }
     Verdict {
         outcome,
         notes,
@@ -953,7 +958,6 @@ fn beside_ending(
 ) -> Option<(&'static str, &'static str, u64)> {
     let name = match outcome {
         _ if ending.reads() => return None,
-        "5" => "5-first",
         "10:1" | "10:2" => "10-first",
         "11" if short && ending == Ending::Surplus => "surplus-short",
         "11" if short => "11-short",
@@ -976,6 +980,238 @@ fn tests_written(
     } else {
         ("ok", order())
     }
+}
+
+// ---------------------------------------------------------------------------------------------
+// Lists without tests
+
+/// What is told of a case without tests, beside its outcome.
+#[derive(Clone, Copy, Debug, PartialEq, Eq)]
+enum Told {
+    /// Of job bytes: the map of those that read, or what is faulty.
+    Head,
+    /// The method of an order that is answered.
+    Method,
+    /// How long the lists lent are beside the result's entries, of an answered case.
+    Lent,
+    /// Which of drops and loads have an entry.
+    Lists,
+    /// How the end of the plan bytes was made, if on purpose.
+    End,
+    /// The fault that is answered and another one.
+    Twice,
+}
+
+/// The function, what is told, the title and the names.
+type ToldTable = (&'static str, Told, &'static str, Vec<&'static str>);
+
+const HEADS: [&str; 14] = [
+    "00",
+    "01",
+    "02",
+    "03",
+    "08",
+    "09",
+    "0a",
+    "0b",
+    "00-surplus",
+    "surplus",
+    "cut",
+    "map",
+    "field",
+    "tests-0",
+];
+const METHODS: [&str; 4] = ["method-0", "method-1", "method-2", "method-3"];
+const LENT: [&str; 2] = ["exact", "longer"];
+const SEVERAL_LENT: [&str; 3] = ["exact", "longer", "mixed"];
+const LISTS: [&str; 3] = ["drops", "loads", "both"];
+
+// Two faults of handed numbers; with a buffer, an order, or an order, lists and an end set.
+const TWO_NUMBERS: [&str; 3] = ["10:0+10:1", "10:0+10:3", "10:1+10:3"];
+const TWO_WITH_BUFFER: [&str; 6] = [
+    "10:0+10:1",
+    "10:0+10:3",
+    "10:0+9",
+    "10:1+10:3",
+    "10:1+9",
+    "10:3+9",
+];
+const TWO_WITH_ORDER: [&str; 3] = ["10:0+10:1", "10:0+8", "10:1+8"];
+const TWO_WITH_PLAN: [&str; 10] = [
+    "10:0+10:1",
+    "10:0+8",
+    "10:0+12:lengths",
+    "10:0+12:end",
+    "10:1+8",
+    "10:1+12:lengths",
+    "10:1+12:end",
+    "8+12:lengths",
+    "8+12:end",
+    "12:lengths+12:end",
+];
+
+#[rustfmt::skip]
+static TOLD_TABLES: LazyLock<Vec<ToldTable>> = LazyLock::new(|| {
+    let mut endings = Vec::new();
+    for (ending, name) in ENDINGS {
+        if ending.without_tests() {
+            endings.push(name);
+        }
+    }
+    let tables: [(&str, Told, &str, &[&str]); 30] = [
+        ("read_job", Told::Head, "jobs read, without tests", &HEADS),
+        ("read_job", Told::Lent, "jobs read, without tests, list lent", &LENT),
+        ("write_job", Told::Lent, "jobs written, without tests, buffer lent", &LENT),
+        ("write_job", Told::Twice, "jobs written, without tests, two faults", &TWO_WITH_BUFFER),
+        ("order_tests", Told::Method, "orders made, without tests, method", &METHODS),
+        ("order_tests", Told::Lent, "orders made, without tests, list lent", &LENT),
+        ("order_tests", Told::Twice, "orders made, without tests, two faults", &TWO_NUMBERS),
+        ("plan_order", Told::Lent, "plans made, without tests, lists lent", &SEVERAL_LENT),
+        ("plan_order", Told::Twice, "plans made, without tests, two faults", &TWO_WITH_ORDER),
+        ("check_plan", Told::Lists, "plans checked, without tests, entries in", &LISTS),
+        ("check_plan", Told::Twice, "plans checked, without tests, two faults", &TWO_WITH_PLAN),
+        ("write_plan", Told::Lent, "plans written, without tests, buffer lent", &LENT),
+        ("write_plan", Told::Lists, "plans written, without tests, entries in", &LISTS),
+        ("write_plan", Told::Twice, "plans written, without tests, two faults", &TWO_WITH_PLAN),
+        ("read_plan", Told::End, "plans read, without tests, end of the bytes", &endings),
+        ("read_plan", Told::Lent, "plans read, without tests, lists lent", &SEVERAL_LENT),
+        ("read_plan", Told::Twice, "plans read, without tests, two faults", &["10:1+11"]),
+        ("step_bytes", Told::End, "steps fetched, without tests, end of the bytes", &endings),
+        ("step_bytes", Told::Twice, "steps fetched, without tests, two faults", &["10:1+11"]),
+        ("plan", Told::Head, "C calls, without tests", &HEADS),
+        ("plan", Told::Lent, "C calls, without tests, buffer lent", &LENT),
+        ("sheet", Told::Head, "sheets, without tests", &HEADS),
+        ("sheet", Told::Lent, "sheets, without tests, buffer lent", &LENT),
+        ("audit", Told::Head, "audits, without tests", &HEADS),
+        ("audit", Told::End, "plans audited, without tests, end of the bytes", &endings),
+        ("audit", Told::Lent, "audits, without tests, buffer lent", &LENT),
+        ("examine", Told::Twice, "numbers examined, without tests, two faults", &["10:0+10:1"]),
+        ("examine_by", Told::Twice, "numbers with method examined, without tests, two faults", &TWO_NUMBERS),
+        ("listed_order", Told::Lent, "listed orders, without tests, list lent", &LENT),
+        ("package_order", Told::Lent, "package orders, without tests, list lent", &LENT),
+    ];
+    tables.map(|(function, told, title, names)| (function, told, title, names.to_vec())).to_vec()
+});
+
+/// Job bytes that give no tests: the map, where they read, or what is faulty.
+fn kind_of_head(job: &[u8]) -> String {
+    let no = match reference::read_job(job, 0) {
+        Ok(_) => return format!("{:02x}", job[0]),
+        Err(no) => no,
+    };
+    let tests_field = 1 + (job[0] & 3).count_ones() as u64;
+    let kind = match (no.number, no.figure) {
+        (1, _) => "cut",
+        (2, 0) => "map",
+        (2, at) if job[0] & 4 != 0 && at == tests_field => "tests-0",
+        (2, _) => "field",
+        (6, 1) => "00-surplus",
+        (6, _) => "surplus",
+        _ => "unforeseen",
+    };
+    kind.to_string()
+}
+
+/// The entries of the result of a case without tests, if it is answered, and the lengths lent.
+fn lengths_lent(case: &Case) -> Option<(usize, Vec<usize>)> {
+    Some(match case {
+        Case::ReadJob { wants_len, .. } => (0, vec![*wants_len]),
+        Case::WriteJob {
+            places,
+            curves,
+            method,
+            out_len,
+            ..
+        } => (empty::job_length(*places, *curves, *method), vec![*out_len]),
+        Case::OrderTests { order_len, .. }
+        | Case::ListedOrder { order_len, .. }
+        | Case::PackageOrder { order_len, .. } => (0, vec![*order_len]),
+        Case::PlanOrder {
+            drops_len,
+            loads_len,
+            ..
+        } => (0, vec![*drops_len, *loads_len]),
+        Case::WritePlan { out_len, .. } => (0, vec![*out_len]),
+        Case::ReadPlan {
+            order_len,
+            drops_len,
+            loads_len,
+            ..
+        } => (0, vec![*order_len, *drops_len, *loads_len]),
+        Case::Call { plan_len, .. } => (0, vec![*plan_len]),
+        Case::Sheet { job, out_len } => (reference::sheet(job).len(), vec![*out_len]),
+        Case::Audit {
+            job, plan, out_len, ..
+        } => {
+            let text = reference::audit_text(&reference::audit(job, plan));
+            (text.len(), vec![*out_len])
+        }
+        _ => return None,
+    })
+}
+
+/// What is told of a case without tests that came out so.
+fn told_without_tests(case: &Case, outcome: &str) -> Vec<(Told, String)> {
+    let mut told = Vec::new();
+    match case {
+        Case::ReadJob { job, .. }
+        | Case::Call { job, .. }
+        | Case::Sheet { job, .. }
+        | Case::Audit { job, .. } => told.push((Told::Head, kind_of_head(job))),
+        Case::OrderTests { method, .. } if outcome == "ok" => {
+            told.push((Told::Method, format!("method-{method}")));
+        }
+        Case::CheckPlan { drops, loads, .. } | Case::WritePlan { drops, loads, .. }
+            if outcome == "12:lengths" =>
+        {
+            let name = match (drops.is_empty(), loads.is_empty()) {
+                (false, false) => "both",
+                (false, true) => "drops",
+                _ => "loads",
+            };
+            told.push((Told::Lists, name.to_string()));
+        }
+        _ => {}
+    }
+    if let Case::ReadPlan { ending, .. }
+    | Case::StepBytes { ending, .. }
+    | Case::Audit { ending, .. } = case
+    {
+        told.extend(ending.map(|ending| (Told::End, ending.name().to_string())));
+    }
+    if outcome == "ok" {
+        if let Some((entries, lengths)) = lengths_lent(case) {
+            let exact = lengths.iter().filter(|length| **length == entries).count();
+            let name = match exact {
+                0 => "longer",
+                _ if exact == lengths.len() => "exact",
+                _ => "mixed",
+            };
+            told.push((Told::Lent, name.to_string()));
+        }
+    }
+    if let Some((first, others)) = empty::faults(case).split_first() {
+        let twice = |other: &&str| (Told::Twice, format!("{first}+{other}"));
+        told.extend(others.iter().map(twice));
+    }
+    told
+}
+
+/// The same with the titles and names of the tables.
+fn notes_without_tests(case: &Case, outcome: &str) -> Vec<(&'static str, &'static str, u64)> {
+    let function = FUNCTIONS[case.function()];
+    let mut notes = Vec::new();
+    for (told, name) in told_without_tests(case, outcome) {
+        let found = TOLD_TABLES
+            .iter()
+            .find(|table| (table.0, table.1) == (function, told));
+        let (_, _, title, names) = found.expect("what is told has a table");
+        match names.iter().find(|known| **known == name) {
+            Some(known) => notes.push((*title, *known, 1)),
+            None => panic!("{title}: {name} is unforeseen"),
+        }
+    }
+    notes
 }
 
 // ---------------------------------------------------------------------------------------------
@@ -1036,13 +1272,13 @@ fn tables() -> Vec<(&'static str, &'static str, Vec<&'static str>)> {
         ("plan_order", PLANNED_ENDS, &SETS),
         ("plan_order", PLANNED_TIES, &ties::KINDS),
         ("check_plan", CHECKED_ENDS, &ENDS),
-        ("check_plan", CHECKED_TWICE, &["5", "8", "10", "12:lengths", "12:step"]),
+        ("check_plan", CHECKED_TWICE, &["8", "10", "12:lengths", "12:step"]),
         ("write_plan", WRITTEN_ENDS, &ENDS),
-        ("write_plan", WRITTEN_TWICE, &["5", "8", "10", "12:lengths", "12:step", "short"]),
+        ("write_plan", WRITTEN_TWICE, &["8", "10", "12:lengths", "12:step", "short"]),
         ("write_plan", WRITTEN_LENGTHS, &LONGEST),
         ("read_plan", READ_ENDS, &SETS),
         ("read_plan", READ_ENDINGS, &endings),
-        ("read_plan", READ_TWICE, &["5-first", "10-first", "11-short", "surplus-short"]),
+        ("read_plan", READ_TWICE, &["10-first", "11-short", "surplus-short"]),
         ("step_bytes", FETCHED_ENDINGS, &endings),
         ("step_bytes", FETCHED_BEHIND, &["end-step", "no-end-step", "refused"]),
         ("plan", CALL_LENGTHS, &LONGEST),
@@ -1053,27 +1289,29 @@ fn tables() -> Vec<(&'static str, &'static str, Vec<&'static str>)> {
         ("audit", AUDITS_REFUSED, &["job", "plan"]),
         ("audit", AUDITS, &["every-plan-tried"]),
     ];
-    tables.map(|(function, title, names)| (function, title, names.to_vec())).to_vec()
+    let told = TOLD_TABLES.iter().map(|(function, _, title, names)| (*function, *title, names.clone()));
+    let tables = tables.map(|(function, title, names)| (function, title, names.to_vec()));
+    tables.into_iter().chain(told).collect()
 }
 
-/// What each function can come out with.
+/// What each function can come out with. No refusal has the number 5 any more.
 #[rustfmt::skip]
 const OUTCOMES: [&[&str]; FUNCTIONS.len()] = [
-    &["ok", "1", "2", "3", "4", "5", "6", "9"],
-    &["ok", "5", "9", "10:0", "10:1", "10:2", "10:3", "10:4+"],
-    &["ok", "5", "7", "9", "10:0", "10:1", "10:2", "10:3", "10:4+"],
-    &["ok", "5", "7", "8", "9", "10:0", "10:1", "10:2", "10:4+"],
-    &["ok", "5", "8", "10:0", "10:1", "10:2", "10:4+", "12:lengths", "12:step", "12:end"],
-    &["ok", "5", "8", "9", "10:0", "10:1", "10:2", "10:4+", "12:lengths", "12:step", "12:end"],
-    &["ok", "5", "9", "10:1", "10:2", "11"],
-    &["ok", "5", "10:1", "10:2", "11"],
-    &["ok", "1", "2", "3", "4", "5", "6", "7", "9"],
-    &["ok", "1", "2", "3", "4", "5", "6", "7", "9:ok", "9:job"],
-    &["ok", "ok:more", "1", "2", "3", "4", "5", "6", "plan:8", "plan:11", "plan:12:step",
+    &["ok", "1", "2", "3", "4", "6", "9"],
+    &["ok", "9", "10:0", "10:1", "10:2", "10:3", "10:4+"],
+    &["ok", "7", "9", "10:0", "10:1", "10:2", "10:3", "10:4+"],
+    &["ok", "7", "8", "9", "10:0", "10:1", "10:2", "10:4+"],
+    &["ok", "8", "10:0", "10:1", "10:2", "10:4+", "12:lengths", "12:step", "12:end"],
+    &["ok", "8", "9", "10:0", "10:1", "10:2", "10:4+", "12:lengths", "12:step", "12:end"],
+    &["ok", "9", "10:1", "10:2", "11"],
+    &["ok", "10:1", "10:2", "11"],
+    &["ok", "1", "2", "3", "4", "6", "7", "9"],
+    &["ok", "1", "2", "3", "4", "6", "7", "9:ok", "9:job"],
+    &["ok", "ok:more", "1", "2", "3", "4", "6", "plan:8", "plan:11", "plan:12:step",
         "plan:12:end", "9:ok", "9:job", "9:plan"],
-    &["ok", "5", "10:0", "10:1", "10:2", "10:4+"],
-    &["ok", "5", "10:0", "10:1", "10:2", "10:3", "10:4+"],
-    &["ok", "5", "10:1", "10:2"],
+    &["ok", "10:0", "10:1", "10:2", "10:4+"],
+    &["ok", "10:0", "10:1", "10:2", "10:3", "10:4+"],
+    &["ok", "10:1", "10:2"],
     &["ok", "7"],
     &["curves", "curves:65+", "owed", "empty", "unknown", "unknown:8+"],
     &SETS,
@@ -1095,9 +1333,72 @@ const OUTCOMES: [&[&str]; FUNCTIONS.len()] = [
     &NUMBERS,
 ];
 
+/// What each function can come out with where the list has no tests; nothing where a function has to
+/// do with no list of tests.
+#[rustfmt::skip]
+const OUTCOMES_WITHOUT_TESTS: [&[&str]; FUNCTIONS.len()] = [
+    &["ok", "1", "2", "6"],
+    &["ok", "9", "10:0", "10:1", "10:3"],
+    &["ok", "10:0", "10:1", "10:3"],
+    &["ok", "8", "10:0", "10:1"],
+    &["ok", "8", "10:0", "10:1", "12:lengths", "12:end"],
+    &["ok", "8", "10:0", "10:1", "12:lengths", "12:end"],
+    &["ok", "10:1", "11"],
+    &["ok", "10:1", "11"],
+    &["ok", "1", "2", "6"],
+    &["ok", "1", "2", "6", "9:ok", "9:job"],
+    &["ok", "1", "2", "6", "plan:11", "plan:12:end", "9:ok", "9:job", "9:plan"],
+    &["ok", "10:0", "10:1"],
+    &["ok", "10:0", "10:1", "10:3"],
+    &["ok", "10:1"],
+    &["ok"],
+    &[],
+    &[],
+    &[],
+    &[],
+    &["even"],
+    &["ok"],
+    &["ok"],
+    &[],
+    &[],
+    &[],
+    &[],
+    &[],
+    &[],
+    &[],
+    &[],
+    &[],
+    &[],
+];
+
 const SETS: [&str; 3] = ["empty", "some", "full"];
 const LONGEST: [&str; 2] = ["5121-bytes", "5121-bytes-short"];
 const NUMBERS: [&str; 7] = ["at0", "at1-62", "at63", "at64", "at65", "at66+", "at-most"];
+
+/// The counts of what a function can come out with. What was never reached is noted, and anything
+/// else ends the run.
+fn outcome_counts(
+    name: &str,
+    outcomes: &[&str],
+    counts: &BTreeMap<String, u64>,
+    missing: &mut Vec<String>,
+) -> String {
+    let mut line = String::new();
+    for outcome in outcomes {
+        let count = counts.get(*outcome).copied().unwrap_or(0);
+        line += &format!(" {outcome}={count}");
+        if count == 0 {
+            missing.push(format!("{name} {outcome}"));
+        }
+    }
+    for outcome in counts.keys() {
+        if !outcomes.contains(&outcome.as_str()) {
+            println!("unforeseen outcome of {name}: {outcome}");
+            exit(1);
+        }
+    }
+    line
+}
 
 fn setting(place: usize, name: &str, default: u64) -> u64 {
     let text = match env::args().nth(place) {
@@ -1146,8 +1447,10 @@ fn main() {
 
     let start = Instant::now();
     let mut histogram: Vec<BTreeMap<String, u64>> = vec![BTreeMap::new(); FUNCTIONS.len()];
+    let mut without_tests = histogram.clone();
     let mut met: BTreeMap<(&str, &str), u64> = BTreeMap::new();
     let mut compared = vec![vec![0u64; FUNCTIONS.len()]; subjects.len()];
+    let mut compared_without_tests = compared.clone();
     let numbers = match only {
         Some(number) => number..number + 1,
         None => 0..cases,
@@ -1163,13 +1466,22 @@ fn main() {
         *histogram[called]
             .entry(verdict.outcome.clone())
             .or_default() += 1;
+        let is_without_tests = empty::without_tests(&case) == Some(true);
+        if is_without_tests {
+            *without_tests[called]
+                .entry(verdict.outcome.clone())
+                .or_default() += 1;
+        }
         for (title, name, count) in &verdict.notes {
             *met.entry((title, name)).or_default() += count;
         }
         for (s, result) in verdict.results.iter().enumerate() {
             match result {
                 None => {}
-                Some(Ok(())) => compared[s][called] += 1,
+                Some(Ok(())) => {
+                    compared[s][called] += 1;
+                    compared_without_tests[s][called] += is_without_tests as u64;
+                }
                 Some(Err(text)) => {
                     println!("DIFFERENCE: {} in case {number} of seed {seed}", names[s]);
                     print!("{}", case.describe());
@@ -1187,39 +1499,49 @@ fn main() {
     }
 
     println!("{:.1} s", start.elapsed().as_secs_f64());
+    let mut missing = Vec::new();
     for (s, name) in names.iter().enumerate() {
-        println!("\n{name}: compared and alike");
+        println!("\n{name}: compared and alike, and how many of these without tests");
         for (function, count) in compared[s].iter().enumerate() {
+            let mut line = format!("  {:<16}{count:>9}", FUNCTIONS[function]);
+            if !OUTCOMES_WITHOUT_TESTS[function].is_empty() {
+                let count = compared_without_tests[s][function];
+                line += &format!("{count:>9}");
+                if count == 0 && compared[s][function] > 0 {
+                    missing.push(format!("{name} {} without tests", FUNCTIONS[function]));
+                }
+            }
             if *count > 0 {
-                println!("  {:<16}{count:>9}", FUNCTIONS[function]);
+                println!("{line}");
             }
         }
-        println!("  {:<16}{:>9}", "all", compared[s].iter().sum::<u64>());
+        let all = |counts: &[u64]| counts.iter().sum::<u64>();
+        let (all, without) = (all(&compared[s]), all(&compared_without_tests[s]));
+        println!("  {:<16}{all:>9}{without:>9}", "all");
     }
     println!(
         "\noutcomes of the reference (ok, or refusal number; 10 with its figure; 12 with what is"
     );
     println!("faulty; plan: where an audit refuses the plan; 9 of a text with what it would have");
     println!("told: ok, or what is refused; for sets the kind of set, or the number asked)");
-    let mut missing = Vec::new();
+    let skipped =
+        |called: usize| histogram[called].is_empty() && (function.is_some() || only.is_some());
     for (called, outcomes) in OUTCOMES.iter().enumerate() {
-        if histogram[called].is_empty() && (function.is_some() || only.is_some()) {
-            continue;
+        if !skipped(called) {
+            let (name, counts) = (FUNCTIONS[called], &histogram[called]);
+            let line = outcome_counts(name, outcomes, counts, &mut missing);
+            println!("  {name:<16}{line}");
         }
-        let mut line = format!("  {:<16}", FUNCTIONS[called]);
-        for outcome in *outcomes {
-            let count = histogram[called].get(*outcome).copied().unwrap_or(0);
-            line += &format!(" {outcome}={count}");
-            if count == 0 {
-                missing.push(format!("{} {outcome}", FUNCTIONS[called]));
-            }
-        }
-        println!("{line}");
-        for outcome in histogram[called].keys() {
-            if !outcomes.contains(&outcome.as_str()) {
-                println!("unforeseen outcome of {}: {outcome}", FUNCTIONS[called]);
-                exit(1);
-            }
+    }
+    println!("of these without tests (of every function that has to do with a list of tests)");
+    for (called, outcomes) in OUTCOMES_WITHOUT_TESTS.iter().enumerate() {
+        let counts = &without_tests[called];
+        let has_list = !outcomes.is_empty() || !counts.is_empty();
+        if has_list && !skipped(called) {
+            let name = format!("{} without tests", FUNCTIONS[called]);
+            let line = outcome_counts(&name, outcomes, counts, &mut missing);
+            let all: u64 = counts.values().sum();
+            println!("  {:<16} all={all}{line}", FUNCTIONS[called]);
         }
     }
     for (name, title, names) in tables() {

@@ -8,7 +8,7 @@
 
 use std::collections::BTreeSet;
 
-/// A refusal with its number and its figure.
+/// A refusal with its number and its figure. Number 5 is withdrawn by wish 3, and never answered.
 #[derive(Clone, Copy, Debug, PartialEq, Eq, PartialOrd, Ord)]
 pub struct Refusal {
     pub number: u64,
@@ -148,9 +148,6 @@ pub fn read_job(job: &[u8], wants_len: usize) -> Answer<Job> {
         method = in_field(owed(job, offset)?, 1, 3, 0, offset)?;
         offset += 1;
     }
-    if tests == 0 {
-        return refuse(5, 0);
-    }
     let mut wants = Vec::new();
     for _ in 0..tests {
         let (set, behind) = read_record(job, offset, curves)?;
@@ -211,10 +208,11 @@ pub fn write_job(
         map += 2;
         fields.push(curves as u8);
     }
-    // Never absent: the list is not empty.
-    map += 4;
-    fields.push((wants.len() % 256) as u8);
-    fields.push((wants.len() / 256) as u8);
+    if !wants.is_empty() {
+        map += 4;
+        fields.push((wants.len() % 256) as u8);
+        fields.push((wants.len() / 256) as u8);
+    }
     if method != 0 {
         map += 8;
         fields.push(method as u8);
@@ -233,16 +231,13 @@ pub fn write_job(
 // ---------------------------------------------------------------------------------------------
 // Handed lists and counts
 
-/// Refusals 5 and 10 of a handed list.
+/// Refusal 10 of a handed list, which may be empty.
 fn handed(
     places: Option<usize>,
     curves: usize,
     method: Option<usize>,
     wants: &[u64],
 ) -> Answer<()> {
-    if wants.is_empty() {
-        return refuse(5, 0);
-    }
     if let Some(places) = places {
         if !(1..=64).contains(&places) {
             return refuse(10, 0);
@@ -277,17 +272,17 @@ fn none_too_wide(places: usize, wants: &[Curves]) -> Answer<()> {
     Ok(())
 }
 
-/// 5 and 10 of places, curves and wants.
+/// 10 of places, curves and wants.
 pub fn examine(places: usize, curves: usize, wants: &[u64]) -> Answer<()> {
     handed(Some(places), curves, None, wants)
 }
 
-/// 5 and 10 of places, curves, method and wants.
+/// 10 of places, curves, method and wants.
 pub fn examine_by(places: usize, curves: usize, method: usize, wants: &[u64]) -> Answer<()> {
     handed(Some(places), curves, Some(method), wants)
 }
 
-/// 5 and 10 of curves and a number of tests.
+/// 10 of curves and a number of tests.
 pub fn examine_counts(curves: usize, tests: usize) -> Answer<()> {
     handed_counts(curves, tests)
 }
@@ -362,9 +357,6 @@ pub fn order_and_flips(
 
 /// The order of method 3 alone, of any list of tests.
 pub fn package_order(places: usize, wants: &[u64]) -> Vec<u16> {
-    if wants.is_empty() {
-        return Vec::new();
-    }
     let order = packages(places, &sets_of(wants), &mut Flips::default());
     order.iter().map(|&test| test as u16).collect()
 }
@@ -416,7 +408,10 @@ fn reverse_cuthill_mckee(wants: &[Curves]) -> Vec<usize> {
 
 fn spanning_tree(wants: &[Curves]) -> Vec<usize> {
     let weight = weights(wants);
-    let mut list = vec![0];
+    let mut list = Vec::new();
+    if !wants.is_empty() {
+        list.push(0);
+    }
     while list.len() < wants.len() {
         let mut best: Option<(usize, usize)> = None;
         for test in 0..wants.len() {
@@ -535,7 +530,8 @@ fn packages(places: usize, wants: &[Curves], flips: &mut Flips) -> Vec<usize> {
         curves.remove(second);
         curves[first] = curves_of(&packages[first], wants);
     }
-    packages.remove(0)
+    // One is left, or there was none from the start.
+    packages.concat()
 }
 
 // ---------------------------------------------------------------------------------------------
@@ -889,7 +885,7 @@ fn read_end_step(plan: &[u8], start: usize, curves: usize) -> Answer<Option<EndS
     }))
 }
 
-/// All steps of a plan: 5, 10, then 11.
+/// All steps of a plan: 10, then 11.
 pub fn read_steps(curves: usize, tests: usize, plan: &[u8]) -> Answer<Steps> {
     handed_counts(curves, tests)?;
     let mut steps: Vec<Step> = Vec::new();
@@ -904,9 +900,6 @@ pub fn read_steps(curves: usize, tests: usize, plan: &[u8]) -> Answer<Steps> {
 }
 
 fn handed_counts(curves: usize, tests: usize) -> Answer<()> {
-    if tests == 0 {
-        return refuse(5, 0);
-    }
     if !(1..=64).contains(&curves) {
         return refuse(10, 1);
     }

@@ -1,4 +1,5 @@
-//! The stored cases of the sheet and audit programs, as the papers have them.
+//! The stored cases of the sheet and audit programs, as the papers have them. None prints the number
+//! of the withdrawn refusal.
 
 use crate::generate::{PLAN_MADE, PLAN_READ, SHEET};
 use crate::reference::*;
@@ -38,6 +39,7 @@ fn sheets() {
     for name in names("sheet", &["job", "out"]) {
         let printed = String::from_utf8(stored("sheet", &name, "out")).unwrap();
         assert_eq!(sheet(&stored("sheet", &name, "job")), printed, "{name}");
+        assert!(!printed.contains("refused 5 "), "{name}");
     }
 }
 
@@ -50,6 +52,24 @@ fn audits() {
         );
         let printed = String::from_utf8(stored("audit", &name, "out")).unwrap();
         assert_eq!(audit_text(&answer), printed, "{name}");
+        assert!(!printed.contains("refused 5 "), "{name}");
+    }
+}
+
+/// The lists without tests: the shortest job, its sheet of two lines, and its plan without bytes.
+#[test]
+fn empty_lists() {
+    for program in ["sheet", "audit"] {
+        assert_eq!(stored(program, "empty_list", "job"), [0]);
+        assert_eq!(stored(program, "empty_list_head", "job"), [3, 2, 4]);
+        assert_eq!(stored(program, "refused_6_empty_list", "job"), [0, 0xff]);
+    }
+    let lines = String::from_utf8(stored("sheet", "empty_list", "out")).unwrap();
+    let lines: Vec<&str> = lines.lines().collect();
+    assert_eq!(lines, ["0 tests, 8 places, method 0", "loads 0"]);
+    for name in ["empty_list", "empty_list_head"] {
+        let job = stored("audit", name, "job");
+        assert_eq!(call_bytes(&job, 0), Ok(stored("audit", name, "plan")));
     }
 }
 

@@ -14,7 +14,7 @@ unfolding examinedOutcome checkingKnown
 returns c = sym (refused-both _ _ _ _ (examined-refused _ _ _ (c .before .r .given .1) (c .before .before .before .examine-job .ensures)))
 
 examine-order-requires : tie.Need-examine-order-requires
-examine-order-requires c κs = job-exact _ .0 (examined-passed _ _ (c .enum-told .given .1) (c .before .before .examine-job .ensures)) .tests-bounds .1
+examine-order-requires c κs = job-exact _ .0 (examined-passed _ _ (c .enum-told .given .1) (c .before .before .examine-job .ensures)) .tests-bound
 
 returns-2 : tie.Need-returns-2
 unfolding checkingKnown

@@ -22,38 +22,34 @@ returns-4 c = rw (c .before .r4 .given .1)
 
 returns-5 : tie.Need-returns-5
 unfolding figure
-returns-5 c = rw (c .enum-told .given .1)
+returns-5 c = rw (c .before .r5 .given .1)
 
 returns-6 : tie.Need-returns-6
 unfolding figure
-returns-6 c = rw (c .before .r5 .given .1)
+returns-6 c = rw (c .before .r6 .given .1)
 
 returns-7 : tie.Need-returns-7
 unfolding figure
-returns-7 c = rw (c .before .r6 .given .1)
+returns-7 c = rw (c .before .r7 .given .1)
 
 returns-8 : tie.Need-returns-8
 unfolding figure
-returns-8 c = rw (c .before .r7 .given .1)
+returns-8 c = rw (c .before .r8 .given .1)
 
 returns-9 : tie.Need-returns-9
 unfolding figure
-returns-9 c = rw (c .before .r8 .given .1)
+returns-9 c = rw (c .before .r9 .given .1)
 
 returns-10 : tie.Need-returns-10
 unfolding figure
-returns-10 c = rw (c .before .r9 .given .1)
+returns-10 c = rw (c .before .r10 .given .1)
 
 returns-11 : tie.Need-returns-11
 unfolding figure
-returns-11 c = rw (c .before .r10 .given .1)
-
-returns-12 : tie.Need-returns-12
-unfolding figure
-returns-12 c = rw (c .before .r11 .given .1)
+returns-11 c = rw (c .before .r11 .given .1)
 
 pub figure-of-spec : {M : Type 1} → statement M
 figure-of-spec =
     tie.close (tie.spec (λ c. search needs) (λ c. search needs) (λ c. search needs) (λ c. search needs) (λ c. search needs) (λ c. search needs)
-    (λ c. search needs) (λ c. search needs) (λ c. search needs) (λ c. search needs) (λ c. search needs) (λ c. search needs) returns returns-2
-    returns-3 returns-4 returns-5 returns-6 returns-7 returns-8 returns-9 returns-10 returns-11 returns-12)
+    (λ c. search needs) (λ c. search needs) (λ c. search needs) (λ c. search needs) (λ c. search needs) returns returns-2
+    returns-3 returns-4 returns-5 returns-6 returns-7 returns-8 returns-9 returns-10 returns-11)

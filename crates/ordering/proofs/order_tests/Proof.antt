@@ -16,7 +16,7 @@ use borrow.Author.Needs.{needs}
 use Rattle.ordering.proofs.order_tests.Statement.{statement}
 use Rattle.ordering.proofs.order_tests.Tie as tie
 
--- 5, 10 and 7 were asked
+-- 10 and 7 were asked
 known : (c : tie.After-enum-told) → let a =
     c .before .before .before .before .before .args in orderingKnown (a .method) (jobOf (a .rig) (now (a .wants))) ≡ done tt
 known c = examined-passed _ _ (c .enum-told .given .1) (c .before .before .examine-ordering .ensures)
@@ -40,7 +40,7 @@ unfolding orderingKnown
 write-order-requires c κs =
     let a = c .before .before .before .before .before .before .before .args in
     let j = jobOf (a .rig) (now (a .wants)) in
-    (job-by-exact j (a .method) .0 (both-done (jobKnownBy (a .method) j) _ tt (known (c .before .before)) .0) .0 .tests-bounds .1, omega arith)
+    (job-by-exact j (a .method) .0 (both-done (jobKnownBy (a .method) j) _ tt (known (c .before .before)) .0) .0 .tests-bound, omega arith)
 
 returns-3 : tie.Need-returns-3
 unfolding countOutcome orderAnswer orderList

@@ -44,7 +44,7 @@ returns-2 c =
 enough : (c : tie.After-steps2)
     → length (now (c .before .before .before .before .before .before .before .before .before .before .before .before .before .args .wants)) ≤ length
     (c .before .in-order .last .1 .1 .0)
-enough c = omega (arith, c .before .in-order .kept .1 .1 .0, known-exact _ _ (passed (c .before .before .before .before .before .before)) .0 .tests-bounds)
+enough c = omega (arith, c .before .in-order .kept .1 .1 .0, known-exact _ _ (passed (c .before .before .before .before .before .before)) .0 .tests-bound)
 
 array-share-prefix-steps : tie.Need-array-share-prefix-steps
 array-share-prefix-steps c = omega (arith, enough (c .before))
@@ -73,7 +73,7 @@ checked c =
     let few : min (a .rig .curves) 64 ≡ a .rig .curves = omega (arith, is .curves-bounds) in
     let all : c .before .before .below .result ≡ allCurves (a .rig .curves) = c .before .before .below .ensures ∙ ap (λ (n : ℕ). 2 ^ n - 1) few in
     let steps : take (length (now (a .wants))) (s .in-order .last .1 .1 .0) ≡ inOrder (now (a .wants)) (now (a .order)) =
-    ap (take (length (now (a .wants)))) (s .in-order .ensures) ∙ first-steps j (now (a .order)) (passed k) _ (omega (arith, is .tests-bounds)) in
+    ap (take (length (now (a .wants)))) (s .in-order .ensures) ∙ first-steps j (now (a .order)) (passed k) _ (omega (arith, is .tests-bound)) in
     c .check-steps .ensures
     ∙ ap (λ (x : ℕ). checkFrom (a .rig .places) x 0 0 (ms (take (length (now (a .wants))) (s .in-order .last .1 .1 .0)))) all
     ∙ ap (λ (ws : List ℕ). checkFrom (a .rig .places) (allCurves (a .rig .curves)) 0 0 (ms ws)) steps
@@ -90,7 +90,7 @@ returns-3 c =
 count-curves-requires : tie.Need-count-curves-requires
 count-curves-requires c κs =
     let t = c .before .before .before .before .before .before .before .before .before .before in
-    omega (arith, sets-long _ _ _ (sets-passed t), known-exact _ _ (passed (t .before .before .before)) .0 .tests-bounds)
+    omega (arith, sets-long _ _ _ (sets-passed t), known-exact _ _ (passed (t .before .before .before)) .0 .tests-bound)
 
 returns-4 : tie.Need-returns-4
 unfolding countOutcome

@@ -24,7 +24,7 @@ known : (c : tie.After-enum-told) → let a =
 known c = examined-passed (c .before .before .examine-job .result) _ (c .enum-told .given .1) (c .before .before .examine-job .ensures)
 
 few : (c : tie.After-enum-told) → length (now (c .before .before .before .before .before .args .wants)) ≤ 256
-few c = let a = c .before .before .before .before .before .args in job-by-exact (jobOf (a .rig) (now (a .wants))) (a .method) .0 (known c) .0 .tests-bounds .1
+few c = let a = c .before .before .before .before .before .args in job-by-exact (jobOf (a .rig) (now (a .wants))) (a .method) .0 (known c) .0 .tests-bound
 
 returns : tie.Need-returns
 unfolding countOutcome

@@ -1,0 +1,449 @@
+//! Lists without tests (wish 3): cases of them for every function that has to do with a list of
+//! tests, and what is faulty in such a case.
+
+use crate::generate::{
+    self, any_number, any_set, lent, with_ending, Case, Ending, Job, Size, SomePlan, ENDINGS,
+    FUNCTIONS, WILD, WILD_METHODS,
+};
+use crate::random::Random;
+use crate::reference;
+
+/// Whether the list of a case has no tests. `None`: its function has to do with no list of tests.
+pub fn without_tests(case: &Case) -> Option<bool> {
+    match case {
+        Case::ReadJob { job, .. }
+        | Case::Call { job, .. }
+        | Case::Sheet { job, .. }
+        | Case::Audit { job, .. } => Some(gives_no_tests(job)),
+        Case::WriteJob { wants, .. }
+        | Case::OrderTests { wants, .. }
+        | Case::PlanOrder { wants, .. }
+        | Case::CheckPlan { wants, .. }
+        | Case::WritePlan { wants, .. }
+        | Case::Examine { wants, .. }
+        | Case::ExamineBy { wants, .. }
+        | Case::ExamineSizes { wants, .. }
+        | Case::PackageOrder { wants, .. } => Some(wants.is_empty()),
+        Case::ReadPlan { tests, .. }
+        | Case::StepBytes { tests, .. }
+        | Case::ExamineCounts { tests, .. }
+        | Case::ListedOrder { tests, .. } => Some(*tests == 0),
+        Case::Reverse { length } => Some(*length == 0),
+        Case::ReadGroup { .. }
+        | Case::GroupMap { .. }
+        | Case::SetLen { .. }
+        | Case::PutSet { .. }
+        | Case::Sets { .. } => None,
+    }
+}
+
+/// Whether job bytes give no tests: they have a map, and no such field or one that holds 0.
+fn gives_no_tests(job: &[u8]) -> bool {
+    match job.first() {
+        None => false,
+        Some(map) if map & 4 == 0 => true,
+        Some(map) => {
+            let field = 1 + (map & 3).count_ones() as usize;
+            job.get(field..field + 2) == Some(&[0, 0])
+        }
+    }
+}
+
+// ---------------------------------------------------------------------------------------------
+// Cases
+
+/// The other fields: bit, sound values and others.
+const FIELDS: [(u8, &[u8], &[u8]); 3] = [
+    (1, &[1, 2, 7, 9, 63, 64], &[0, 8, 65, 255]),
+    (2, &[1, 2, 8, 9, 62, 63], &[0, 64, 65, 255]),
+    (8, &[1, 2, 3], &[0, 4, 255]),
+];
+
+/// Job bytes that give no tests: sound, with faulty fields, cut, with a tests field of 0, with a bit
+/// of the map that has no field, with bytes behind, or with two of these faults.
+pub fn job_bytes(random: &mut Random) -> Vec<u8> {
+    let map = random.pick(&[0, 1, 2, 3, 8, 9, 10, 11]);
+    let fault = random.below(10);
+    let mut bytes = vec![map];
+    for (bit, sound, others) in FIELDS {
+        if map & bit != 0 {
+            let faulty = fault == 5 && random.chance(2, 3);
+            bytes.push(random.pick(if faulty { others } else { sound }));
+        }
+    }
+    match fault {
+        6 => bytes.truncate(random.between(1, bytes.len())),
+        7 => {
+            let field = 1 + (map & 3).count_ones() as usize;
+            bytes[0] |= 4;
+            drop(bytes.splice(field..field, [0, 0]));
+        }
+        _ => {}
+    }
+    if random.chance(1, 16) {
+        bytes[0] |= 1 << random.between(4, 7);
+    }
+    if fault > 7 || fault > 4 && random.chance(1, 3) {
+        for _ in 0..random.between(1, 3) {
+            let byte = random.byte();
+            bytes.push(random.pick(&[0, 1, 4, 255, byte]));
+        }
+    }
+    bytes
+}
+
+/// Out of range one time in three, at times what an absent field stands for.
+fn number(random: &mut Random, low: usize, high: usize, absent: usize, wild: &[usize]) -> usize {
+    match random.below(6) {
+        0 | 1 => random.pick(wild),
+        2 => absent,
+        _ => random.between(low, high),
+    }
+}
+
+/// Places, curves and method, faulty each for itself.
+fn numbers(random: &mut Random) -> (usize, usize, usize) {
+    (
+        number(random, 1, 64, 8, &WILD),
+        number(random, 1, 64, 64, &WILD),
+        number(random, 0, 3, 0, &WILD_METHODS),
+    )
+}
+
+/// A job within the bounds.
+fn job(random: &mut Random) -> Job {
+    Job {
+        places: random.between(1, 64),
+        curves: random.between(1, 64),
+        method: random.below(4),
+        wants: vec![],
+    }
+}
+
+/// The length of a lent list of which nothing is needed.
+fn any_length(random: &mut Random) -> usize {
+    random.pick(&[0, 0, 0, 1, 2, 9, 256, 300])
+}
+
+/// No entries; one time in three there are some, though none belongs there.
+fn entries<T>(random: &mut Random, entry: impl Fn(&mut Random) -> T) -> Vec<T> {
+    let number = random.pick(&[0, 0, 0, 0, 1, 3]);
+    (0..number).map(|_| entry(random)).collect()
+}
+
+fn order(random: &mut Random) -> Vec<u16> {
+    entries(random, |random| {
+        random.pick(&[0, 0, 1, 2, 255, 256, u16::MAX])
+    })
+}
+
+fn sets(random: &mut Random) -> Vec<u64> {
+    entries(random, |random| match random.below(2) {
+        0 => 0,
+        _ => any_set(random),
+    })
+}
+
+/// A job without tests and plan bytes for it: with an end made on purpose, which is all there is; or
+/// with tests' steps, or any few bytes.
+fn planned(random: &mut Random) -> (Job, Vec<u8>, Option<Ending>) {
+    let bytes = match random.below(12) {
+        0 => {
+            let other = generate::job(random, Size::Tiny);
+            let made = generate::some_plan(random, &other);
+            made.bytes()
+        }
+        1 => {
+            let length = random.below(6);
+            let any = |_| random.pick(&[0, 1, 1, 2, 4, 4, 5, 6, 7, 8, 255]);
+            (0..length).map(any).collect()
+        }
+        _ => {
+            let endings: Vec<Ending> = ENDINGS
+                .iter()
+                .map(|(ending, _)| *ending)
+                .filter(|ending| ending.without_tests())
+                .collect();
+            let ending = random.pick(&endings);
+            let nothing = SomePlan {
+                order: vec![],
+                drops: vec![],
+                loads: vec![],
+                end: 0,
+            };
+            loop {
+                let mut job = job(random);
+                if ending == Ending::All64 {
+                    job.curves = 64;
+                }
+                if let Some((plan, _)) = with_ending(random, &job, &nothing, ending) {
+                    return (job, plan, Some(ending));
+                }
+            }
+        }
+    };
+    (job(random), bytes, None)
+}
+
+/// Plan bytes, handed over with a number of curves that is at times out of range.
+fn handed_plan(random: &mut Random) -> (usize, Vec<u8>, Option<Ending>) {
+    let (job, plan, ending) = planned(random);
+    let wild = random.chance(1, 6);
+    let curves = if wild { random.pick(&WILD) } else { job.curves };
+    (curves, plan, ending)
+}
+
+/// A case of this function whose list has no tests. `None`: it has to do with no list of tests.
+pub fn case(function: usize, random: &mut Random) -> Option<Case> {
+    Some(match FUNCTIONS[function] {
+        "read_job" => Case::ReadJob {
+            job: job_bytes(random),
+            wants_len: any_length(random),
+        },
+        "write_job" => {
+            let (places, curves, method) = numbers(random);
+            let needed = match reference::write_job(places, curves, method, &[], usize::MAX) {
+                Ok(bytes) => bytes.len(),
+                Err(_) => random.between(1, 4),
+            };
+            Case::WriteJob {
+                places,
+                curves,
+                method,
+                wants: vec![],
+                out_len: lent(random, needed),
+            }
+        }
+        "order_tests" => {
+            let (places, curves, method) = numbers(random);
+            Case::OrderTests {
+                places,
+                curves,
+                method,
+                wants: vec![],
+                order_len: any_length(random),
+            }
+        }
+        "plan_order" => {
+            let (places, curves, _) = numbers(random);
+            Case::PlanOrder {
+                places,
+                curves,
+                wants: vec![],
+                order: order(random),
+                drops_len: any_length(random),
+                loads_len: any_length(random),
+            }
+        }
+        "check_plan" => {
+            let (places, curves, _) = numbers(random);
+            Case::CheckPlan {
+                places,
+                curves,
+                wants: vec![],
+                order: order(random),
+                drops: sets(random),
+                loads: sets(random),
+                end: sets(random).first().copied().unwrap_or(0),
+            }
+        }
+        "write_plan" => {
+            let (places, curves, _) = numbers(random);
+            Case::WritePlan {
+                places,
+                curves,
+                wants: vec![],
+                order: order(random),
+                drops: sets(random),
+                loads: sets(random),
+                end: sets(random).first().copied().unwrap_or(0),
+                out_len: any_length(random),
+            }
+        }
+        "read_plan" => {
+            let (curves, plan, ending) = handed_plan(random);
+            Case::ReadPlan {
+                curves,
+                tests: 0,
+                plan,
+                ending,
+                order_len: any_length(random),
+                drops_len: any_length(random),
+                loads_len: any_length(random),
+            }
+        }
+        "step_bytes" => {
+            let (curves, plan, ending) = handed_plan(random);
+            Case::StepBytes {
+                curves,
+                tests: 0,
+                plan,
+                ending,
+                further: any_number(random),
+            }
+        }
+        "plan" => Case::Call {
+            job: job_bytes(random),
+            plan_len: any_length(random),
+        },
+        "sheet" => {
+            let job = job_bytes(random);
+            let needed = reference::sheet(&job).len();
+            Case::Sheet {
+                job,
+                out_len: lent(random, needed),
+            }
+        }
+        "audit" => {
+            let (job, plan, mut ending) = planned(random);
+            let mut bytes = generate::job_bytes(&job);
+            if random.chance(1, 3) {
+                bytes = job_bytes(random);
+                ending = None; // of another job
+            }
+            let needed = reference::audit_text(&reference::audit(&bytes, &plan)).len();
+            Case::Audit {
+                job: bytes,
+                plan,
+                ending,
+                out_len: lent(random, needed),
+            }
+        }
+        "examine" => {
+            let (places, curves, _) = numbers(random);
+            Case::Examine {
+                places,
+                curves,
+                wants: vec![],
+            }
+        }
+        "examine_by" => {
+            let (places, curves, method) = numbers(random);
+            Case::ExamineBy {
+                places,
+                curves,
+                method,
+                wants: vec![],
+            }
+        }
+        "examine_counts" => Case::ExamineCounts {
+            curves: number(random, 1, 64, 64, &WILD),
+            tests: 0,
+        },
+        "examine_sizes" => Case::ExamineSizes {
+            places: any_number(random),
+            wants: vec![],
+        },
+        "reverse" => Case::Reverse { length: 0 },
+        "listed_order" => Case::ListedOrder {
+            tests: 0,
+            order_len: any_length(random),
+        },
+        "package_order" => Case::PackageOrder {
+            places: any_number(random),
+            wants: vec![],
+            order_len: any_length(random),
+        },
+        _ => return None,
+    })
+}
+
+// ---------------------------------------------------------------------------------------------
+// What is faulty
+
+fn outside(number: usize) -> bool {
+    !(1..=64).contains(&number)
+}
+
+/// The bytes of a job without tests: the map and the fields that do not hold their absent value.
+pub fn job_length(places: usize, curves: usize, method: usize) -> usize {
+    1 + (places != 8) as usize + (curves != 64) as usize + (method != 0) as usize
+}
+
+/// All that is faulty in a case without tests, in the sequence of the papers, so that the first is
+/// answered: 10 with its figure; 12 for entries in the drops or loads, or for an end set that is not
+/// empty; the others by their number. Faults in job bytes and what a text tells are left out.
+pub fn faults(case: &Case) -> Vec<&'static str> {
+    let mut faults = Vec::new();
+    let mut note = |faulty: bool, name: &'static str| {
+        if faulty {
+            faults.push(name);
+        }
+    };
+    match case {
+        Case::WriteJob {
+            places,
+            curves,
+            method,
+            out_len,
+            ..
+        } => {
+            note(outside(*places), "10:0");
+            note(outside(*curves), "10:1");
+            note(*method > 3, "10:3");
+            note(*out_len < job_length(*places, *curves, *method), "9");
+        }
+        Case::OrderTests {
+            places,
+            curves,
+            method,
+            ..
+        }
+        | Case::ExamineBy {
+            places,
+            curves,
+            method,
+            ..
+        } => {
+            note(outside(*places), "10:0");
+            note(outside(*curves), "10:1");
+            note(*method > 3, "10:3");
+        }
+        Case::Examine { places, curves, .. } => {
+            note(outside(*places), "10:0");
+            note(outside(*curves), "10:1");
+        }
+        Case::PlanOrder {
+            places,
+            curves,
+            order,
+            ..
+        } => {
+            note(outside(*places), "10:0");
+            note(outside(*curves), "10:1");
+            note(!order.is_empty(), "8");
+        }
+        Case::CheckPlan {
+            places,
+            curves,
+            order,
+            drops,
+            loads,
+            end,
+            ..
+        }
+        | Case::WritePlan {
+            places,
+            curves,
+            order,
+            drops,
+            loads,
+            end,
+            ..
+        } => {
+            note(outside(*places), "10:0");
+            note(outside(*curves), "10:1");
+            note(!order.is_empty(), "8");
+            note(!(drops.is_empty() && loads.is_empty()), "12:lengths");
+            note(*end != 0, "12:end");
+        }
+        Case::ReadPlan { curves, plan, .. } | Case::StepBytes { curves, plan, .. } => {
+            note(outside(*curves), "10:1");
+            let read = reference::read_steps((*curves).clamp(1, 64), 0, plan);
+            note(read.is_err(), "11");
+        }
+        Case::ExamineCounts { curves, .. } => note(outside(*curves), "10:1"),
+        _ => {}
+    }
+    faults
+}
