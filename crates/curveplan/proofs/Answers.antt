@@ -29,7 +29,7 @@ use Rattle.plan_bytes.proofs.PlanRoundTrip.{plan-back}
 use Rattle.plan_bytes.proofs.PlanLength.{passed-length, no-bytes}
 use Rattle.curveplan.specs.Call.{jobToPlan, numberOf, callAnswer}
 use Rattle.curveplan.specs.Library.{WrittenPlan}
-use Rattle.planned.proofs.Composed.{orderOf, setsOf, no-order, no-sets, none-too-large, checked}
+use Rattle.planned.proofs.Composed.{orderOf, setsOf, none-ordered, none-planned, none-too-large, checked}
 use Rattle.curveplan.proofs.Composed.{bytesOf, call-written, call-too-large, call-unread}
 use Rattle.job_bytes.proofs.ReadRefuses.{ByReading, read-refuses}
 
@@ -145,7 +145,7 @@ call-none bs all lent = (
 )
   where
     written : (q : Request) → q .wants ≡ [] → _>>_ (room lent (length (bytesOf q))) (done (bytesOf q)) ≡ done []
-    written q e = rw (no-sets q e, no-order q e) (done-both _ _ (done-room lent 0 (omega arith)))
+    written q e = rw (none-planned q e, none-ordered q e) (done-both _ _ (done-room lent 0 (omega arith)))
 
 -- ---- the answer as one number, of what was counted
 

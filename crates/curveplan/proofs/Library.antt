@@ -24,6 +24,6 @@ library =
       plan-back = plan-back;
       plan-read = plan-read;
       call-writes = λ bs all lent plan e. let t = call-tells bs all lent .0 plan e in (t .0, t .1, call-planned bs all lent plan e);
-      call-none = call-none;
       call-refuses = λ bs all lent. call-tells bs all lent .1;
+      call-none = call-none;
     }

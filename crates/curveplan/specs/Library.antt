@@ -60,8 +60,8 @@ pub record Library : Type 0 where
   -- the call: an answer below 65,536 is the count of the bytes written, at most 5,121, which are a plan with the fewest loads for its order ..
   pub call-writes : (bs : List ℕ) → Bytes bs → (lent : ℕ) (plan : List ℕ) → jobToPlan bs lent ≡ done plan
       → (numberOf (jobToPlan bs lent) ≡ length plan) × (length plan ≤ 5121) × WrittenPlan bs plan
-  -- .. no bytes, exactly for a job without tests (02, wish 3: "A job with no tests now reads: .. no plan bytes") ..
-  pub call-none : (bs : List ℕ) → Bytes bs → (lent : ℕ) → jobToPlan bs lent ≡ done [] ↔ ((q : Request) × (readBytes bs ≡ done q) × (q .wants ≡ []))
   -- .. and any other tells the refusal's number and figure
   pub call-refuses : (bs : List ℕ) → Bytes bs → (lent k i : ℕ) → jobToPlan bs lent ≡ refused k i
       → (65536 ≤ numberOf (jobToPlan bs lent)) × (numberOf (jobToPlan bs lent) / 65536 ≡ k) × (numberOf (jobToPlan bs lent) % 65536 ≡ i)
+  -- 02, wish 3: "A job with no tests now reads: .. no plan bytes": the call writes no bytes exactly for such a job
+  pub call-none : (bs : List ℕ) → Bytes bs → (lent : ℕ) → jobToPlan bs lent ≡ done [] ↔ ((q : Request) × (readBytes bs ≡ done q) × (q .wants ≡ []))

@@ -5,7 +5,7 @@ use mathlib.Core.List.{List, [], _∷_, _++_, reverse, reverse-cons}
 use Prim.Native.Nat.{ℕ, zero, suc, _+_, _^_, _≤_, _<_}
 use native.Mathlib.Omega.{arith}
 use native.Mathlib.Decide.{ℕ-discrete, decLe}
-use lib.ListN.{length, getD, length-append}
+use lib.ListN.{length, getD, length-append, drop-of-length-le}
 use lib.Dec.{eqb}
 use lib.Pow.{pow-mono, pow-pos}
 use borrow.Author.Tests.{eqb-true, eq-eqb, ne-eqb}
@@ -92,6 +92,14 @@ sum-ones (suc n) f h = omega (arith, h 0 (omega arith), sum-ones n (λ k. f (suc
 
 pub order-length : (n : ℕ) (order : List ℕ) → IsOrder n order → length order ≡ n
 order-length n order o = sym (sum-count n order (o .only)) ∙ sum-ones n (λ t. count t order) (o .once)
+
+-- no tests have one order, which is empty
+pub no-order : (n : ℕ) (order : List ℕ) → n ≡ 0 → IsOrder n order → order ≡ []
+no-order n order e o = drop-of-length-le order {i = 0} (omega (arith, order-length n order o))
+
+pub order-none : (n : ℕ) → n ≡ 0 → IsOrder n []
+unfolding count
+order-none n e = record { once = λ t l. absurd (omega arith); only = λ t l. refl }
 
 pub uncounted : (t : ℕ) (ss : List ℕ) → listed ss t ≡ false → count t ss ≡ 0
 unfolding count listed digit

@@ -19,7 +19,7 @@ pub const MOST_TESTS: usize = 256;
 // The methods are 0 to 3.
 pub const LAST_METHOD: usize = 3;
 
-// Why a call is refused: the rows of document 01's table in its order, each with the figure that is returned beside its number. Row 5 is withdrawn.
+// Why a call is refused: the rows of document 01's table in its order, each with the figure that is returned beside its number. Row 5 is withdrawn (02, wish 3).
 // The comment gives the table's own word.
 pub enum Refusal {
     // 1, cut

@@ -3,7 +3,7 @@ use mathlib.Core.Path.{_≡_, refl, ap, _∙_}
 use mathlib.Core.List.{List, []}
 use Prim.Native.Nat.{ℕ}
 use native.Mathlib.Omega.{arith}
-use lib.ListN.{length, drop-of-length-le}
+use lib.ListN.{length}
 use Rattle.job.specs.Refusal.{Outcome, done, refused, _>>=_, _>>_}
 use Rattle.job.specs.Words.{capacity}
 use Rattle.job.specs.Handed.{each, wantsFit}
@@ -11,7 +11,7 @@ use Rattle.job.specs.Calls.{orderingKnown, planningKnown}
 use Rattle.job_bytes.specs.JobBytes.{Request, jobIn, readBytes}
 use Rattle.job.proofs.Laws.{done-both}
 use Rattle.job.proofs.JobExact.{job-by-exact}
-use Rattle.job.proofs.Orders.{order-length}
+use Rattle.job.proofs.Orders.{no-order}
 use Rattle.job_bytes.proofs.SetRoundTrip.{Bytes}
 use Rattle.job_bytes.proofs.ReadExact.{ReadJob, read-exact}
 use Rattle.ordering.specs.Methods.{orderBy}
@@ -35,14 +35,12 @@ setsOf q = ourPlan (jobIn q) (orderOf q)
 
 -- 02, wish 3: "A job with no tests .. empty order": and so an empty plan
 module _ (q : Request) (none : q .wants ≡ []) where
-  pub no-order : orderOf q ≡ []
-  no-order =
-      let whole = order-complete (q .head .method) (capacity (q .head .rig)) (q .wants) in
-      drop-of-length-le (orderOf q) {i = 0} (omega (arith, order-length (length (q .wants)) (orderOf q) whole, ap length none))
+  pub none-ordered : orderOf q ≡ []
+  none-ordered = no-order _ (orderOf q) (ap length none) (order-complete (q .head .method) (capacity (q .head .rig)) (q .wants))
 
-  pub no-sets : setsOf q ≡ []
+  pub none-planned : setsOf q ≡ []
   unfolding ourPlan planFrom inOrder
-  no-sets = rw no-order refl
+  none-planned = rw none-ordered refl
 
   pub none-too-large : wantsFit (capacity (q .head .rig)) (q .wants) ≡ done tt
   unfolding wantsFit each

@@ -3,6 +3,7 @@
 --     EntryFault  before that, refusal 12 names the first missing or surplus position of the drops or loads
 --     FirstFault  refusal 12 names the first step that breaks a rule
 --     Demand3     DEMAND 3, the proof
+--     WithoutTests  a job without tests
 --     OtherPlans  plans that are not ours and pass the check, with plans that do not
 --     Turns       one turn of a loop
 --     Sequence    planning and checking, examination by examination
@@ -11,6 +12,7 @@ pub mod CheckExact
 pub mod EntryFault
 pub mod FirstFault
 pub mod Demand3
+pub mod WithoutTests
 pub mod OtherPlans
 pub mod Turns
 pub mod Sequence

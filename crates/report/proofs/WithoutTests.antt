@@ -11,7 +11,7 @@ use Rattle.job_bytes.proofs.ReadExact.{read-exact}
 use Rattle.job_bytes.proofs.SetRoundTrip.{Bytes}
 use Rattle.drive.specs.Steps.{heldAfter, curveCount}
 use Rattle.planning.specs.Plan.{steps}
-use Rattle.planned.proofs.Composed.{no-order, no-sets, none-too-large, job-planned}
+use Rattle.planned.proofs.Composed.{none-ordered, none-planned, none-too-large, job-planned}
 use Rattle.report.specs.Report.{text, highDigits, decimal, stepsText, endText, headText, planText, printed, sheet}
 
 -- the load count behind the first line, with no step and no end step between them
@@ -33,5 +33,5 @@ pub sheet-none : (bs : List ℕ) (q : Request) → Bytes bs → readBytes bs ≡
 unfolding sheet printed planText headText steps stepsText endText heldAfter curveCount
 sheet-none bs q all read none =
     let n : q .head .tests ≡ 0 = omega (arith, read-exact bs q all read .tests, ap length none) in
-    rw (job-planned bs q all read (none-too-large q none), no-sets q none, no-order q none, n)
+    rw (job-planned bs q all read (none-too-large q none), none-planned q none, none-ordered q none, n)
     (two-lines (decimal (capacity (q .head .rig))) (decimal (q .head .method)))

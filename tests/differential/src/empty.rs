@@ -371,6 +371,44 @@ pub fn faults(case: &Case) -> Vec<&'static str> {
         }
     };
     match case {
+        Case::WriteJob { places, curves, .. }
+        | Case::OrderTests { places, curves, .. }
+        | Case::PlanOrder { places, curves, .. }
+        | Case::CheckPlan { places, curves, .. }
+        | Case::WritePlan { places, curves, .. }
+        | Case::Examine { places, curves, .. }
+        | Case::ExamineBy { places, curves, .. } => {
+            note(outside(*places), "10:0");
+            note(outside(*curves), "10:1");
+        }
+        Case::ReadPlan { curves, .. }
+        | Case::StepBytes { curves, .. }
+        | Case::ExamineCounts { curves, .. } => note(outside(*curves), "10:1"),
+        _ => {}
+    }
+    match case {
+        Case::WriteJob { method, .. }
+        | Case::OrderTests { method, .. }
+        | Case::ExamineBy { method, .. } => note(*method > 3, "10:3"),
+        Case::PlanOrder { order, .. }
+        | Case::CheckPlan { order, .. }
+        | Case::WritePlan { order, .. } => note(!order.is_empty(), "8"),
+        _ => {}
+    }
+    match case {
+        Case::CheckPlan {
+            drops, loads, end, ..
+        }
+        | Case::WritePlan {
+            drops, loads, end, ..
+        } => {
+            note(!(drops.is_empty() && loads.is_empty()), "12:lengths");
+            note(*end != 0, "12:end");
+        }
+        Case::ReadPlan { curves, plan, .. } | Case::StepBytes { curves, plan, .. } => {
+            let read = reference::read_steps((*curves).clamp(1, 64), 0, plan);
+            note(read.is_err(), "11");
+        }
         Case::WriteJob {
             places,
             curves,
@@ -378,71 +416,8 @@ pub fn faults(case: &Case) -> Vec<&'static str> {
             out_len,
             ..
         } => {
-            note(outside(*places), "10:0");
-            note(outside(*curves), "10:1");
-            note(*method > 3, "10:3");
             note(*out_len < job_length(*places, *curves, *method), "9");
         }
-        Case::OrderTests {
-            places,
-            curves,
-            method,
-            ..
-        }
-        | Case::ExamineBy {
-            places,
-            curves,
-            method,
-            ..
-        } => {
-            note(outside(*places), "10:0");
-            note(outside(*curves), "10:1");
-            note(*method > 3, "10:3");
-        }
-        Case::Examine { places, curves, .. } => {
-            note(outside(*places), "10:0");
-            note(outside(*curves), "10:1");
-        }
-        Case::PlanOrder {
-            places,
-            curves,
-            order,
-            ..
-        } => {
-            note(outside(*places), "10:0");
-            note(outside(*curves), "10:1");
-            note(!order.is_empty(), "8");
-        }
-        Case::CheckPlan {
-            places,
-            curves,
-            order,
-            drops,
-            loads,
-            end,
-            ..
-        }
-        | Case::WritePlan {
-            places,
-            curves,
-            order,
-            drops,
-            loads,
-            end,
-            ..
-        } => {
-            note(outside(*places), "10:0");
-            note(outside(*curves), "10:1");
-            note(!order.is_empty(), "8");
-            note(!(drops.is_empty() && loads.is_empty()), "12:lengths");
-            note(*end != 0, "12:end");
-        }
-        Case::ReadPlan { curves, plan, .. } | Case::StepBytes { curves, plan, .. } => {
-            note(outside(*curves), "10:1");
-            let read = reference::read_steps((*curves).clamp(1, 64), 0, plan);
-            note(read.is_err(), "11");
-        }
-        Case::ExamineCounts { curves, .. } => note(outside(*curves), "10:1"),
         _ => {}
     }
     faults

@@ -1,0 +1,59 @@
+-- 02, wish 3: a job without tests. "The optimum covers this list too": with `Demand3` as for any other, and here in full.
+use mathlib.Core.Path.{_≡_, refl, sym, ap, _∙_}
+use mathlib.Core.Logic.{_↔_}
+use mathlib.Core.List.{List, []}
+use Prim.Native.Nat.{ℕ}
+use native.Mathlib.Omega.{arith}
+use lib.ListN.{length, drop-of-length-le}
+use Rattle.job.specs.Refusal.{done, mapped, overwritten, leaves}
+use Rattle.job.specs.Words.{Job, IsJob, IsOrder}
+use Rattle.job.specs.Handed.{each, wantsFit}
+use Rattle.job.specs.Calls.{planningKnown}
+use Rattle.job.proofs.Orders.{no-order, order-none}
+use Rattle.drive.specs.Steps.{heldAfter, moves, curveCount}
+use Rattle.drive.specs.Plan.{planFrom}
+use Rattle.drive.proofs.CheckExact.{AllKept}
+use Rattle.planning.specs.Plan.{Plan, planOf, SetLists, entries, inOrder}
+use Rattle.planning.specs.Planning.{ourPlan, planning, planAnswer, planLists, checking}
+use Rattle.planning.proofs.Sequence.{exact-known, planning-known, plan-done}
+use Rattle.planning.proofs.CheckExact.{Passes, passed, check-exact, check-count}
+
+module _ (j : Job) (is : IsJob j) (none : j .wants ≡ []) where
+  order : IsOrder (length (j .wants)) []
+  order = order-none _ (ap length none)
+
+  known : planningKnown j [] ≡ done tt
+  unfolding wantsFit each
+  known = planning-known j [] (exact-known j [] is order) ∙ rw none refl
+
+  planned : (lent : ℕ) → planning j [] lent ≡ done []
+  unfolding ourPlan planFrom inOrder
+  planned lent = plan-done j [] lent known (omega (arith, ap length none))
+
+  -- A JOB WITHOUT TESTS IS PLANNED, into lists of any length: 0 loads, the end set 0, and nothing lent changes
+  pub none-planned : (lent : SetLists) → (planAnswer j [] lent ≡ done (record { count = 0; end = 0 })) × (planLists j [] lent ≡ lent)
+  unfolding planAnswer planLists mapped leaves overwritten heldAfter curveCount
+  none-planned lent = (rw (planned (entries lent)) refl, rw (planned (entries lent)) refl)
+
+  passes : Passes j [] (planOf [] [] 0)
+  unfolding moves inOrder heldAfter
+  passes = record { is-job = is; is-order = order; drop-sets = sym (ap length none); load-sets = sym (ap length none); steps = AllKept.none; ends = refl }
+
+  only : (ts : List ℕ) (p : Plan) → Passes j ts p → (ts ≡ []) × (p ≡ planOf [] [] 0)
+  unfolding moves inOrder heldAfter
+  only ts p ok =
+      let o : ts ≡ [] = no-order _ ts (ap length none) (ok .is-order) in
+      let d : p .drops ≡ [] = drop-of-length-le (p .drops) {i = 0} (omega (arith, ok .drop-sets, ap length none)) in
+      let l : p .loads ≡ [] = drop-of-length-le (p .loads) {i = 0} (omega (arith, ok .load-sets, ap length none)) in
+      let e : p .end ≡ 0 = rw o at (ok .ends) in
+      (o, λ i. record { drops = d i; loads = l i; end = e i })
+
+  -- THE CHECK PASSES NO OTHER PLAN of it
+  pub none-checked : (ts : List ℕ) (p : Plan) (m : ℕ) → checking j ts p ≡ done m ↔ ((ts ≡ []) × (p ≡ planOf [] [] 0) × (m ≡ 0))
+  unfolding curveCount
+  none-checked ts p m = (
+    λ e.
+        let o = only ts p (passed j ts p m e) in
+        (o .0, o .1, check-count j ts p m e ∙ ap (λ (x : Plan). curveCount (x .loads)) (o .1)),
+    λ x. rw (x .0, x .1, x .2) (check-exact j [] (planOf [] [] 0) .1 passes),
+  )
