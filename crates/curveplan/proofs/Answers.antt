@@ -16,7 +16,7 @@ use Rattle.job.specs.Words.{capacity}
 use Rattle.job_bytes.specs.JobBytes.{Request, jobIn, readBytes}
 use Rattle.job.proofs.Laws.{refused≢done, done-same, both-done, done-both, done-room, mapped-done, mapped-refused, count-done, count-refused}
 use Rattle.job.proofs.Refuses.{Refuses, refuses, refuses-demand, refuses-both}
-use Rattle.job.proofs.Faults.{Examines, faultless, faulty, Fails, each-examines}
+use Rattle.job.proofs.Faults.{Examines, faultless, faulty, Fails, each-examines, none-too-large}
 use Rattle.job_bytes.proofs.SetRoundTrip.{Bytes}
 use Rattle.job_bytes.proofs.ReadExact.{ReadJob, read-exact}
 use Rattle.job_bytes.proofs.JobBounds.{figure-short}
@@ -29,7 +29,7 @@ use Rattle.plan_bytes.proofs.PlanRoundTrip.{plan-back}
 use Rattle.plan_bytes.proofs.PlanLength.{passed-length, no-bytes}
 use Rattle.curveplan.specs.Call.{jobToPlan, numberOf, callAnswer}
 use Rattle.curveplan.specs.Library.{WrittenPlan}
-use Rattle.planned.proofs.Composed.{orderOf, setsOf, none-ordered, none-planned, none-too-large, checked}
+use Rattle.planned.proofs.Composed.{orderOf, setsOf, order-empty, plan-empty, checked}
 use Rattle.curveplan.proofs.Composed.{bytesOf, call-written, call-too-large, call-unread}
 use Rattle.job_bytes.proofs.ReadRefuses.{ByReading, read-refuses}
 
@@ -141,11 +141,11 @@ call-none bs all lent = (
   λ e.
       let w = call-planned bs all lent [] e in
       (w .request, w .read, drop-of-length-le (w .request .wants) {i = 0} (omega (arith, no-bytes _ _ (w .contents) (w .reads-back)))),
-  λ x. call-written bs (x .0) all (x .1) (none-too-large (x .0) (x .2)) lent ∙ written (x .0) (x .2),
+  λ x. call-written bs (x .0) all (x .1) (none-too-large (capacity (x .0 .head .rig)) (x .0 .wants) (x .2)) lent ∙ written (x .0) (x .2),
 )
   where
     written : (q : Request) → q .wants ≡ [] → _>>_ (room lent (length (bytesOf q))) (done (bytesOf q)) ≡ done []
-    written q e = rw (none-planned q e, none-ordered q e) (done-both _ _ (done-room lent 0 (omega arith)))
+    written q e = rw (plan-empty q e, order-empty q e) (done-both _ _ (done-room lent 0 (omega arith)))
 
 -- ---- the answer as one number, of what was counted
 

@@ -5,21 +5,12 @@ use native.Mathlib.Omega.{arith}
 use Rattle.job.specs.declared.Refusal.{Refusal}
 use Rattle.job.specs.declared.Head.{Head}
 use Rattle.job.specs.Refusal.{Outcome, done, refused, number, mapped}
+use Rattle.job.proofs.Refuses.{in-table}
 use Rattle.exports.specs.Numbers.{numbered, headOf}
 
 -- a refusal's number takes five bits
 pub number-small : (r : Refusal) → number r ≤ 31
-number-small (Refusal.Truncated i) = omega arith
-number-small (Refusal.BadHeader i) = omega arith
-number-small (Refusal.EmptyGroup i) = omega arith
-number-small (Refusal.UnknownCurve i) = omega arith
-number-small (Refusal.TrailingBytes i) = omega arith
-number-small (Refusal.TestTooLarge i) = omega arith
-number-small (Refusal.BadOrder i) = omega arith
-number-small (Refusal.BufferTooSmall i) = omega arith
-number-small (Refusal.BadArgument i) = omega arith
-number-small (Refusal.BadPlanBytes i) = omega arith
-number-small (Refusal.PlanRejected i) = omega arith
+number-small r = omega (arith, in-table r .1)
 
 -- COUNTS AND REFUSALS NEVER MEET: a count below 2^48 is its own answer, with 0 for a refusal's number; a refusal with a figure below 2^48 tells both
 pub numbered-tells : ((n : ℕ) → n < 2 ^ 48 → (numbered (done n) ≡ n) × (numbered (done n) / 2 ^ 48 ≡ 0))

@@ -90,6 +90,11 @@ too-large-exact places wants t =
     Iff·trans (simp zero-add at (each-exact (λ w. leb (size w) places) 7 0 wants t))
     (first-same _ _ (λ s. ((λ f. (f .0, leb-false (size (getD wants s 0)) places (f .1))), (λ f. (f .0, lt-leb (size (getD wants s 0)) places (f .1))))) t)
 
+-- a list without tests has none (02, wish 3)
+pub none-too-large : (places : ℕ) (wants : List ℕ) → wants ≡ [] → wantsFit places wants ≡ done tt
+unfolding wantsFit each
+none-too-large places wants e = rw e refl
+
 -- 10, "4 + t: wants of test t name a foreign curve"
 pub foreign-exact : (curves : ℕ) (wants : List ℕ) (t : ℕ)
     → wantsKnown curves wants ≡ refused 10 (4 + t) ↔ First (λ s. (s < length wants) × (2 ^ curves ≤ getD wants s 0)) t

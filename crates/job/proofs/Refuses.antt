@@ -3,7 +3,7 @@
 use mathlib.Core.Path.{_≡_, refl}
 use mathlib.Core.Bool.{Bool, true, false}
 use mathlib.Core.List.{List, [], _∷_}
-use Prim.Native.Nat.{ℕ, suc, _+_, _<_}
+use Prim.Native.Nat.{ℕ, suc, _+_, _≤_, _<_}
 use native.Mathlib.Omega.{arith}
 use lib.ListN.{length}
 use Rattle.job.specs.declared.Refusal.{Refusal}
@@ -49,19 +49,23 @@ module _ (P : ℕ → ℕ → Type 0) where
       refuses-both (demand (ok x) k i) (each ok k (suc i) xs) (refuses-demand (ok x) k i (rw z at (p 0 (omega arith))))
       (refuses-each ok k (suc i) xs (λ t l. let n : i + suc t ≡ suc i + t = omega arith in rw n at (p (suc t) (omega arith))))
 
+-- ---- the numbers of the table: 1 to 12, without 5
+pub in-table : (r : Refusal) → (1 ≤ number r) × (number r ≤ 12) × (number r ≡ 5 → ⊥)
+in-table (Refusal.Truncated i) = (omega arith, omega arith, λ e. omega arith)
+in-table (Refusal.BadHeader i) = (omega arith, omega arith, λ e. omega arith)
+in-table (Refusal.EmptyGroup i) = (omega arith, omega arith, λ e. omega arith)
+in-table (Refusal.UnknownCurve i) = (omega arith, omega arith, λ e. omega arith)
+in-table (Refusal.TrailingBytes i) = (omega arith, omega arith, λ e. omega arith)
+in-table (Refusal.TestTooLarge i) = (omega arith, omega arith, λ e. omega arith)
+in-table (Refusal.BadOrder i) = (omega arith, omega arith, λ e. omega arith)
+in-table (Refusal.BufferTooSmall i) = (omega arith, omega arith, λ e. omega arith)
+in-table (Refusal.BadArgument i) = (omega arith, omega arith, λ e. omega arith)
+in-table (Refusal.BadPlanBytes i) = (omega arith, omega arith, λ e. omega arith)
+in-table (Refusal.PlanRejected i) = (omega arith, omega arith, λ e. omega arith)
+
 -- 02, wish 3: "Refusal 5 is withdrawn and its number not used again": NO REFUSAL that a function can answer has this number
 pub withdrawn : (r : Refusal) → number r ≡ 5 → ⊥
-withdrawn (Refusal.Truncated i) e = omega arith
-withdrawn (Refusal.BadHeader i) e = omega arith
-withdrawn (Refusal.EmptyGroup i) e = omega arith
-withdrawn (Refusal.UnknownCurve i) e = omega arith
-withdrawn (Refusal.TrailingBytes i) e = omega arith
-withdrawn (Refusal.TestTooLarge i) e = omega arith
-withdrawn (Refusal.BadOrder i) e = omega arith
-withdrawn (Refusal.BufferTooSmall i) e = omega arith
-withdrawn (Refusal.BadArgument i) e = omega arith
-withdrawn (Refusal.BadPlanBytes i) e = omega arith
-withdrawn (Refusal.PlanRejected i) e = omega arith
+withdrawn r = in-table r .2
 
 -- ---- the examination refuses by 10 only
 abbrev pub HandedRefusal : ℕ → ℕ → Type 0

@@ -72,7 +72,7 @@ jobKnownBy method j = do
 abbrev pub jobKnown : Job → Outcome (Unit {0})
 jobKnown j = jobKnownBy 0 j
 
--- of curves and a number of tests, as reading and fetching from plan bytes are handed them
+-- of curves and a number of tests, as reading and fetching from plan bytes are handed them; no tests are in range (02, wish 3)
 unfoldable pub countsKnown : ℕ → ℕ → Outcome (Unit {0})
 countsKnown curves tests = do
   curvesKnown curves

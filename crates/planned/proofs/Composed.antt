@@ -6,7 +6,7 @@ use native.Mathlib.Omega.{arith}
 use lib.ListN.{length}
 use Rattle.job.specs.Refusal.{Outcome, done, refused, _>>=_, _>>_}
 use Rattle.job.specs.Words.{capacity}
-use Rattle.job.specs.Handed.{each, wantsFit}
+use Rattle.job.specs.Handed.{wantsFit}
 use Rattle.job.specs.Calls.{orderingKnown, planningKnown}
 use Rattle.job_bytes.specs.JobBytes.{Request, jobIn, readBytes}
 use Rattle.job.proofs.Laws.{done-both}
@@ -19,11 +19,11 @@ use Rattle.ordering.proofs.Complete.{order-complete}
 use Rattle.ordering.proofs.Ordered.{not-known, ordered}
 use Rattle.drive.specs.declared.Sets.{Sets}
 use Rattle.drive.specs.Steps.{loadCount}
-use Rattle.drive.specs.Plan.{planFrom}
-use Rattle.planning.specs.Plan.{handed, inOrder}
+use Rattle.planning.specs.Plan.{handed}
 use Rattle.planning.specs.Planning.{ourPlan, planning, checking}
 use Rattle.planning.proofs.Sequence.{exact-known, planning-known, plan-done}
 use Rattle.planning.proofs.Demand3.{our-check}
+use Rattle.planning.proofs.WithoutTests.{no-steps}
 use Rattle.planned.specs.Planned.{orderRequest, planInOrder, orderAndPlan, planJob}
 
 -- the order and the plan of a job
@@ -35,16 +35,11 @@ setsOf q = ourPlan (jobIn q) (orderOf q)
 
 -- 02, wish 3: "A job with no tests .. empty order": and so an empty plan
 module _ (q : Request) (none : q .wants ≡ []) where
-  pub none-ordered : orderOf q ≡ []
-  none-ordered = no-order _ (orderOf q) (ap length none) (order-complete (q .head .method) (capacity (q .head .rig)) (q .wants))
+  pub order-empty : orderOf q ≡ []
+  order-empty = no-order _ (orderOf q) (ap length none) (order-complete (q .head .method) (capacity (q .head .rig)) (q .wants))
 
-  pub none-planned : setsOf q ≡ []
-  unfolding ourPlan planFrom inOrder
-  none-planned = rw none-ordered refl
-
-  pub none-too-large : wantsFit (capacity (q .head .rig)) (q .wants) ≡ done tt
-  unfolding wantsFit each
-  none-too-large = rw none refl
+  pub plan-empty : setsOf q ≡ []
+  plan-empty = ap (ourPlan (jobIn q)) order-empty ∙ no-steps (jobIn q)
 
 module _ (q : Request) (r : ReadJob q) where
   abbrev fits : Outcome (Unit {0})

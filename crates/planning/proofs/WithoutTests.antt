@@ -6,10 +6,10 @@ use Prim.Native.Nat.{ℕ}
 use native.Mathlib.Omega.{arith}
 use lib.ListN.{length, drop-of-length-le}
 use Rattle.job.specs.Refusal.{done, mapped, overwritten, leaves}
-use Rattle.job.specs.Words.{Job, IsJob, IsOrder}
-use Rattle.job.specs.Handed.{each, wantsFit}
+use Rattle.job.specs.Words.{Job, capacity, IsJob, IsOrder}
 use Rattle.job.specs.Calls.{planningKnown}
 use Rattle.job.proofs.Orders.{no-order, order-none}
+use Rattle.job.proofs.Faults.{none-too-large}
 use Rattle.drive.specs.Steps.{heldAfter, moves, curveCount}
 use Rattle.drive.specs.Plan.{planFrom}
 use Rattle.drive.proofs.CheckExact.{AllKept}
@@ -18,17 +18,20 @@ use Rattle.planning.specs.Planning.{ourPlan, planning, planAnswer, planL
 use Rattle.planning.proofs.Sequence.{exact-known, planning-known, plan-done}
 use Rattle.planning.proofs.CheckExact.{Passes, passed, check-exact, check-count}
 
+-- our plan for no steps
+pub no-steps : (j : Job) → ourPlan j [] ≡ []
+unfolding ourPlan planFrom inOrder
+no-steps j = refl
+
 module _ (j : Job) (is : IsJob j) (none : j .wants ≡ []) where
   order : IsOrder (length (j .wants)) []
   order = order-none _ (ap length none)
 
   known : planningKnown j [] ≡ done tt
-  unfolding wantsFit each
-  known = planning-known j [] (exact-known j [] is order) ∙ rw none refl
+  known = planning-known j [] (exact-known j [] is order) ∙ none-too-large (capacity (j .rig)) (j .wants) none
 
   planned : (lent : ℕ) → planning j [] lent ≡ done []
-  unfolding ourPlan planFrom inOrder
-  planned lent = plan-done j [] lent known (omega (arith, ap length none))
+  planned lent = plan-done j [] lent known (omega (arith, ap length none)) ∙ ap done (no-steps j)
 
   -- A JOB WITHOUT TESTS IS PLANNED, into lists of any length: 0 loads, the end set 0, and nothing lent changes
   pub none-planned : (lent : SetLists) → (planAnswer j [] lent ≡ done (record { count = 0; end = 0 })) × (planLists j [] lent ≡ lent)

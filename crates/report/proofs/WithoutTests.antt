@@ -6,12 +6,13 @@ use native.Mathlib.Omega.{arith}
 use lib.ListN.{length}
 use Rattle.job.specs.Refusal.{done}
 use Rattle.job.specs.Words.{capacity}
+use Rattle.job.proofs.Faults.{none-too-large}
 use Rattle.job_bytes.specs.JobBytes.{Request, readBytes}
 use Rattle.job_bytes.proofs.ReadExact.{read-exact}
 use Rattle.job_bytes.proofs.SetRoundTrip.{Bytes}
 use Rattle.drive.specs.Steps.{heldAfter, curveCount}
 use Rattle.planning.specs.Plan.{steps}
-use Rattle.planned.proofs.Composed.{none-ordered, none-planned, none-too-large, job-planned}
+use Rattle.planned.proofs.Composed.{order-empty, plan-empty, job-planned}
 use Rattle.report.specs.Report.{text, highDigits, decimal, stepsText, endText, headText, planText, printed, sheet}
 
 -- the load count behind the first line, with no step and no end step between them
@@ -33,5 +34,5 @@ pub sheet-none : (bs : List ℕ) (q : Request) → Bytes bs → readBytes bs ≡
 unfolding sheet printed planText headText steps stepsText endText heldAfter curveCount
 sheet-none bs q all read none =
     let n : q .head .tests ≡ 0 = omega (arith, read-exact bs q all read .tests, ap length none) in
-    rw (job-planned bs q all read (none-too-large q none), none-planned q none, none-ordered q none, n)
+    rw (job-planned bs q all read (none-too-large (capacity (q .head .rig)) (q .wants) none), plan-empty q none, order-empty q none, n)
     (two-lines (decimal (capacity (q .head .rig))) (decimal (q .head .method)))
