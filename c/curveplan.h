@@ -1,6 +1,6 @@
 /*
  * The rig's curve planner. The formats, the orders, the plan and the refusals are those of document 01, with the end step, the tie rule and the list without
- * tests of document 02 (wishes 1 to 3).
+ * tests of document 02 (wishes 1 to 3; wish 4 changes no answer).
  *
  * One call goes from a job's bytes to its plan's bytes: curveplan_plan, in the archive libcurveplan.a. The other functions take the steps between one by one,
  * and are in libexports.a; the smaller parts of these are declared in curveplan_parts.h.

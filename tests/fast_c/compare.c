@@ -1,8 +1,9 @@
 /*
- * Compares the C program with the library's call on random, damaged, boundary and two-fault jobs, on empty lists, and on jobs with many curves of equal next
- * use: the answer, and every byte of the plan's buffer. Fails on the first difference, on a refusal that the call does not have, and if some refusal, some
- * method's success, an empty list planned without room or refused for bytes behind it, a plan of a job with many equal next uses, an end with nothing held,
- * with some places taken or with a full drive, or the longest plan never came up. The same jobs in every run.
+ * Compares the C program with the library's call on random, damaged, boundary and two-fault jobs, on empty lists, on jobs with many curves of equal next use,
+ * and on jobs of method 1 with large degrees: the answer, and every byte of the plan's buffer. Fails on the first difference, on a refusal that the call does
+ * not have, and if some refusal, some method's success, an empty list planned without room or refused for bytes behind it, a plan of a job with many equal
+ * next uses, a kind of degrees, an end with nothing held, with some places taken or with a full drive, or the longest plan never came up. The same jobs in
+ * every run.
  */
 #include <stdio.h>
 #include <string.h>
@@ -13,10 +14,13 @@
 #define SMALL_JOBS 60000
 #define LARGE_JOBS 3000
 #define TIED_JOBS 12000
+#define DENSE_JOBS 1500
 #define JOB_ROOM (CURVEPLAN_JOB_BYTES + 64)
 #define PLAN_ROOM (CURVEPLAN_PLAN_BYTES + 64)
 #define LONGEST_PLAN 5121 /* of the call: 11 bytes for step 0, which has no drops, 20 for each other step, 10 for the end step */
 #define FILL 0xa5
+#define MOST_TESTS 256
+#define LARGEST_DEGREE (255 * 64)
 
 static uint64_t state = 20261116;
 
@@ -174,6 +178,59 @@ static void tied_job(struct bytes *job)
         uint64_t set = parts[in_turn ? t % number : below(number)];
         /* seldom less than the whole part */
         put_record(job, below(16) ? set : set & word());
+    }
+}
+
+/* A list whose tests have many curves in common. */
+static void dense_wants(uint64_t *wants, unsigned tests)
+{
+    unsigned kind = below(8), least = below(64), lacking = below(4), one = below(tests);
+    unsigned wide = between(tests > 129 ? 129 : tests / 2, tests); /* 129 that lack nothing have degrees of 8,192 and more */
+    unsigned narrow = kind == 1 ? PICK(0, 1, 2, 32, 63) : PICK(1, 2, 5, 10, 20);
+    uint64_t fewer = some_curves(64, PICK(0, 1, 2, 8, 32, 63));
+    for (unsigned t = 0; t < tests; t++) {
+        switch (kind) {
+        case 0: /* all curves */
+            wants[t] = ~(uint64_t)0;
+            break;
+        case 1: /* all, but in one test */
+            wants[t] = t == one ? some_curves(64, narrow) : ~(uint64_t)0;
+            break;
+        case 2: /* all, and the same fewer, in turn */
+            wants[t] = (t + one) % 2 == 0 ? ~(uint64_t)0 : fewer;
+            break;
+        case 3: /* all but a few */
+            wants[t] = ~some_curves(64, between(0, lacking + 1));
+            break;
+        case 4: /* any number from some number on */
+            wants[t] = some_curves(64, between(least, 64));
+            break;
+        default: /* two groups: all but a few, and few */
+            if (below(tests - t) < wide) {
+                wants[t] = ~some_curves(64, between(0, lacking));
+                wide--;
+            } else {
+                wants[t] = some_curves(64, between(0, narrow));
+            }
+        }
+    }
+}
+
+/* A job of method 1 with large degrees. Its tests fit. */
+static void dense_job(struct bytes *job, const uint64_t *wants, unsigned tests)
+{
+    unsigned widest = 1;
+    for (unsigned t = 0; t < tests; t++) {
+        unsigned size = 0;
+        for (uint64_t rest = wants[t]; rest != 0; rest &= rest - 1) {
+            size++;
+        }
+        widest = size > widest ? size : widest;
+    }
+    job->length = 0;
+    put_head(job, between(widest, 64), 64, tests, 1);
+    for (unsigned t = 0; t < tests; t++) {
+        put_record(job, wants[t]);
     }
 }
 
@@ -493,6 +550,108 @@ static int some_empty_differs(struct bytes *job)
     return 0;
 }
 
+/* ---- degrees of method 1 */
+
+/* Numbers that do not hold every degree: modulo 256, modulo 8,192, a signed byte. */
+enum held { WHOLE, MODULO_256, MODULO_8192, SIGNED_BYTE, NUMBERS };
+
+/* Of the jobs with large degrees: some degree is above 255, some are 8,192 or more and others less, one is the largest; such a number gives another order. */
+static unsigned long above_255, around_8192, at_largest, ordered_otherwise[NUMBERS];
+
+static int held_as(enum held number, unsigned degree)
+{
+    switch (number) {
+    case MODULO_256:
+        return (int)(degree % 256);
+    case MODULO_8192:
+        return (int)(degree % 8192);
+    case SIGNED_BYTE:
+        return (int)((degree + 128) % 256) - 128;
+    default:
+        return (int)degree;
+    }
+}
+
+/* A curve of a test counts once for every other test that wants it. */
+static void set_degrees(const uint64_t *wants, unsigned tests, unsigned *degrees)
+{
+    unsigned wanting[64] = {0};
+    for (unsigned t = 0; t < tests; t++) {
+        for (unsigned k = 0; k < 64; k++) {
+            wanting[k] += wants[t] >> k & 1;
+        }
+    }
+    for (unsigned t = 0; t < tests; t++) {
+        degrees[t] = 0;
+        for (unsigned k = 0; k < 64; k++) {
+            degrees[t] += wants[t] >> k & 1 ? wanting[k] - 1 : 0;
+        }
+    }
+}
+
+/* The list of method 1, not yet reversed, if degrees are compared by what a number holds of them. */
+static void set_list(const uint64_t *wants, unsigned tests, const unsigned *degrees, enum held number, uint8_t *list)
+{
+    uint8_t rising[MOST_TESTS], listed[MOST_TESTS] = {0};
+    for (unsigned t = 0; t < tests; t++) {
+        unsigned at = t;
+        for (; at > 0 && held_as(number, degrees[rising[at - 1]]) > held_as(number, degrees[t]); at--) {
+            rising[at] = rising[at - 1];
+        }
+        rising[at] = (uint8_t)t;
+    }
+    unsigned length = 0;
+    for (unsigned along = 0; along < tests; along++) {
+        /* Behind the last one: the remaining one of smallest degree. */
+        for (unsigned i = 0; i < tests && length == along; i++) {
+            if (!listed[rising[i]]) {
+                list[length++] = rising[i];
+                listed[rising[i]] = 1;
+            }
+        }
+        for (unsigned i = 0; i < tests; i++) {
+            if (!listed[rising[i]] && (wants[rising[i]] & wants[list[along]]) != 0) {
+                list[length++] = rising[i];
+                listed[rising[i]] = 1;
+            }
+        }
+    }
+}
+
+static void count_degrees(const uint64_t *wants, unsigned tests)
+{
+    unsigned degrees[MOST_TESTS], least = LARGEST_DEGREE, largest = 0;
+    uint8_t list[MOST_TESTS] = {0}, other[MOST_TESTS] = {0};
+    set_degrees(wants, tests, degrees);
+    for (unsigned t = 0; t < tests; t++) {
+        least = degrees[t] < least ? degrees[t] : least;
+        largest = degrees[t] > largest ? degrees[t] : largest;
+    }
+    above_255 += largest > 255;
+    around_8192 += least < 8192 && largest >= 8192;
+    at_largest += largest == LARGEST_DEGREE;
+    set_list(wants, tests, degrees, WHOLE, list);
+    for (enum held number = MODULO_256; number < NUMBERS; number++) {
+        set_list(wants, tests, degrees, number, other);
+        ordered_otherwise[number] += memcmp(list, other, tests) != 0;
+    }
+}
+
+static int some_dense_differs(struct bytes *job)
+{
+    uint64_t wants[MOST_TESTS];
+    for (unsigned i = 0; i < DENSE_JOBS; i++) {
+        unsigned tests = PICK(256, 256, 256, 256, 255, 200, 160, 130, 129, 66, 40, 17, 6, 5);
+        dense_wants(wants, tests);
+        dense_job(job, wants, tests);
+        count_degrees(wants, tests);
+        if (any_differs(job)) {
+            return 1;
+        }
+    }
+    return 0;
+}
+
 int main(void)
 {
     static struct bytes job;
@@ -523,6 +682,11 @@ int main(void)
         }
     }
     unsigned long tied = all_planned() - others;
+    unsigned long by_degree = planned[1];
+    if (some_dense_differs(&job)) {
+        return 1;
+    }
+    unsigned long dense = planned[1] - by_degree;
     int missing = 0;
     printf("fast_c: %lu calls as the library answers them", compared);
     printf("; with an empty list: %lu, of these planned without room: %lu, refused for bytes behind it: %lu", empty, empty_without_room, empty_with_surplus);
@@ -534,6 +698,14 @@ int main(void)
     }
     printf("; of these with many equal next uses: %lu", tied);
     missing |= tied == 0;
+    printf("; by method 1 with large degrees: %lu, of %u lists; of these with degrees above 255: %lu, on both sides of 8192: %lu, of 16320: %lu", dense,
+           DENSE_JOBS, above_255, around_8192, at_largest);
+    printf(", and with another order modulo 256: %lu, modulo 8192: %lu, by a signed byte: %lu", ordered_otherwise[MODULO_256], ordered_otherwise[MODULO_8192],
+           ordered_otherwise[SIGNED_BYTE]);
+    missing |= dense < DENSE_JOBS || above_255 == 0 || around_8192 == 0 || at_largest == 0;
+    for (enum held number = MODULO_256; number < NUMBERS; number++) {
+        missing |= ordered_otherwise[number] == 0;
+    }
     printf("; refused");
     for (size_t i = 0; i < sizeof REFUSALS / sizeof *REFUSALS; i++) {
         printf(" %u: %lu", REFUSALS[i], refused[REFUSALS[i]]);

@@ -4,6 +4,7 @@ use Rattle.job.proofs.OrderExact.{order-exact}
 use Rattle.job.proofs.Refuses.{withdrawn}
 use Rattle.job_bytes.proofs.JobRoundTrip.{job-back, job-read}
 use Rattle.ordering.proofs.Complete.{order-complete}
+use Rattle.ordering.proofs.Degrees.{degree-most, degree-reached}
 use Rattle.drive.proofs.Best.{either-tie}
 use Rattle.planning.proofs.Demand3.{demand3}
 use Rattle.plan_bytes.proofs.PlanRoundTrip.{plan-back, plan-read}
@@ -19,6 +20,8 @@ library =
       demand-3 = demand3;
       ties = either-tie;
       withdrawn = withdrawn;
+      degree-most = degree-most;
+      degree-reached = degree-reached;
       job-back = job-back;
       job-read = job-read;
       plan-back = plan-back;

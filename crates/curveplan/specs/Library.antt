@@ -2,8 +2,9 @@
 use mathlib.Core.Path.{_≡_}
 use mathlib.Core.Logic.{_↔_}
 use mathlib.Core.List.{List, []}
-use Prim.Native.Nat.{ℕ, _/_, _%_, _^_, _≤_, _<_}
-use lib.ListN.{length, getD}
+use Prim.Native.Nat.{ℕ, _*_, _/_, _%_, _^_, _≤_, _<_}
+use lib.ListN.{length, getD, replicate}
+use Rattle.bitset.specs.Set.{below}
 use Rattle.job.specs.declared.Refusal.{Refusal}
 use Rattle.job.specs.Refusal.{done, refused, number}
 use Rattle.job.specs.Words.{Job, capacity, IsJob, IsOrder}
@@ -11,7 +12,8 @@ use Rattle.job.specs.Handed.{jobKnownBy}
 use Rattle.job.specs.Order.{orderKnown}
 use Rattle.job_bytes.specs.SetBytes.{Bytes}
 use Rattle.job_bytes.specs.JobBytes.{Request, jobIn, request, readBytes, writeJob}
-use Rattle.ordering.specs.Methods.{orderBy}
+use Rattle.packages.specs.Tests.{wantsOf}
+use Rattle.ordering.specs.Methods.{degree, orderBy}
 use Rattle.drive.specs.Steps.{curveCount, loadCount}
 use Rattle.drive.specs.Plan.{furthest, furthestLowest, planFrom}
 use Rattle.planning.specs.Plan.{Plan, SetLists}
@@ -49,6 +51,11 @@ pub record Library : Type 0 where
       → loadCount (planFrom (furthestLowest n) capacity held ws) ≡ loadCount (planFrom (furthest n) capacity held ws)
   -- 02, wish 3: "Refusal 5 is withdrawn and its number not used again": no refusal that a function can answer has it
   pub withdrawn : (r : Refusal) → number r ≡ 5 → ⊥
+  -- 02, wish 4: "The largest is 255 × 64 = 16,320": no test of a list of at most 256 has a greater degree, and the first of 256 that want every curve has it.
+  -- A test has one set of 64 curves; this is said for any number of sets, one behind the other in one number, so with two it is 32,640
+  pub degree-most : (sets : ℕ) (wants : List ℕ) (t : ℕ) → length wants ≤ 256 → t < length wants → wantsOf wants t < 2 ^ (64 * sets)
+      → degree wants t ≤ 255 * (64 * sets)
+  pub degree-reached : (sets : ℕ) → degree (replicate 256 (below (64 * sets))) 0 ≡ 255 * (64 * sets)
   -- writing and reading undo each other: a job ..
   pub job-back : (method : ℕ) (j : Job) (lent : ℕ) (bytes : List ℕ) → writeJob method j lent ≡ done bytes → readBytes bytes ≡ done (request method j)
   pub job-read : (bs : List ℕ) (q : Request) → Bytes bs → readBytes bs ≡ done q → writeJob (q .head .method) (jobIn q) (length bs) ≡ done bs

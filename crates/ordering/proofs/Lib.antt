@@ -2,7 +2,7 @@
 --     Filter        those of a list that pass a test
 --     Window        a part of a list that was lent
 --     Complete      each method's order names each test exactly once
---     Degrees       sums of weights, and a test's degree from the numbers of tests that want each curve
+--     Degrees       sums of weights, a test's degree from the numbers of tests that want each curve, and the largest degree
 --     Append        a list that grows by one test at a time
 --     Unlisted      the list of the unlisted tests, each with its key
 --     Ranks         sorting by rank

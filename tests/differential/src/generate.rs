@@ -1,5 +1,6 @@
 //! Inputs for every function: random, on the bounds, damaged once and damaged twice.
 
+use crate::degrees;
 use crate::empty;
 use crate::parts;
 use crate::random::Random;
@@ -982,7 +983,7 @@ fn around(random: &mut Random, needed: usize) -> usize {
 }
 
 /// A length that always suffices.
-fn enough(random: &mut Random, needed: usize) -> usize {
+pub(crate) fn enough(random: &mut Random, needed: usize) -> usize {
     needed + random.pick(&[0, 0, 1, 5, 40])
 }
 
@@ -1898,6 +1899,9 @@ pub fn case(seed: u64, number: u64, only: Option<usize>) -> Case {
         if let Some(case) = empty::case(function, random) {
             return case;
         }
+    }
+    if let Some(case) = degrees::case(function, random) {
+        return case;
     }
     let size = size(random);
     case_of(function, size, random)

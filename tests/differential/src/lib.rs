@@ -1,8 +1,10 @@
 //! An independent implementation of the curve planner's papers (`reference`) and of the small public
 //! functions below it (`parts`), where its tie rule matters (`ties`), two fast implementations for the
 //! benchmark (`tuned`, and in C `fast`), random inputs (`generate`), among them lists without tests
-//! (`empty`), and the library under test (`product`, only with the feature of that name).
+//! (`empty`) and lists with large degrees (`degrees`), and the library under test (`product`, only with
+//! the feature of that name).
 
+pub mod degrees;
 pub mod empty;
 pub mod fast;
 pub mod generate;
@@ -21,3 +23,5 @@ mod consistency;
 mod examples;
 #[cfg(test)]
 mod stored;
+#[cfg(test)]
+mod two_bytes;

@@ -363,20 +363,40 @@ pub fn package_order(places: usize, wants: &[u64]) -> Vec<u16> {
 
 /// The weight of every two tests; a test has none with itself.
 fn weights(wants: &[Curves]) -> Vec<Vec<usize>> {
-    let mut table = Vec::new();
+    let mut table = vec![vec![0; wants.len()]; wants.len()];
     for (s, a) in wants.iter().enumerate() {
-        let mut row = Vec::new();
-        for (t, b) in wants.iter().enumerate() {
-            row.push(if s == t { 0 } else { common(a, b) });
+        for (t, b) in wants[..s].iter().enumerate() {
+            let weight = common(a, b);
+            table[s][t] = weight;
+            table[t][s] = weight;
         }
-        table.push(row);
     }
     table
 }
 
+/// Each test's degree: its row of the weights, summed. It is held in two bytes (wish 4); a sum that
+/// they cannot hold ends the run.
+fn row_sums(weight: &[Vec<usize>]) -> Vec<u16> {
+    let mut sums = Vec::new();
+    for row in weight {
+        let mut sum = 0u16;
+        for &entry in row {
+            let entry = u16::try_from(entry).expect("a weight is at most 64");
+            sum = sum.checked_add(entry).expect("two bytes hold a degree");
+        }
+        sums.push(sum);
+    }
+    sums
+}
+
+/// The degrees of a list.
+pub fn degrees(wants: &[u64]) -> Vec<u16> {
+    row_sums(&weights(&sets_of(wants)))
+}
+
 fn reverse_cuthill_mckee(wants: &[Curves]) -> Vec<usize> {
     let weight = weights(wants);
-    let degree: Vec<usize> = weight.iter().map(|row| row.iter().sum()).collect();
+    let degree = row_sums(&weight);
     // By rising degree, ties to the lowest test number.
     let rising = |mut tests: Vec<usize>| -> Vec<usize> {
         tests.sort_by_key(|&test| (degree[test], test));
@@ -1248,5 +1268,18 @@ mod tests {
             let expected = curves_of(&tests[..longest], &wants);
             assert_eq!(opening(&tests, job.places, &wants), expected);
         }
+    }
+
+    #[test]
+    fn the_largest_sum_of_two_bytes() {
+        let mut row = vec![64; 1_023];
+        row.push(63);
+        assert_eq!(row_sums(&[row, vec![], vec![0, 1]]), [u16::MAX, 0, 1]);
+    }
+
+    #[test]
+    #[should_panic(expected = "two bytes hold a degree")]
+    fn a_larger_sum_ends_the_run() {
+        row_sums(&[vec![64; 1_024]]);
     }
 }
