@@ -75,9 +75,9 @@ const WRONG: [(&str, Held); 12] = [
     }),
 ];
 
-/// What else is told: a degree is above 255, or the largest there is; a curve is wanted by 256 tests, one
-/// more than a byte counts, in a list with different degrees; two different degrees are alike modulo 256,
-/// in a list that has another order by the degrees modulo 256.
+/// What else is told: a degree is above 255, or the largest there is; a curve is wanted by 256 tests,
+/// one more than a byte counts, in a list with different degrees; two different degrees are alike
+/// modulo 256, in a list that has another order by the degrees modulo 256.
 const OTHERS: [&str; 4] = ["above-255", "16320", "wanted-by-256", "alike-modulo-256"];
 
 /// All that is told of a list that method 1 orders.

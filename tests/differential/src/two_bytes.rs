@@ -229,8 +229,8 @@ fn all_but_one_curve_in_some() {
     assert_eq!(order_of(&wants), order);
 }
 
-/// 129 full tests and 127 with fewer curves, which come first: the degrees of the full ones are 8,192 or
-/// more, those of the others less. Modulo 8,192 the full ones have the smaller ones, or all have the same.
+/// 129 full tests and 127 with fewer curves, which come first: the degrees of the full ones are 8,192
+/// or more, those of the others less. Modulo 8,192 the full ones have the smaller ones, or all the same.
 #[test]
 fn around_half_of_the_bound() {
     for number in [0, 1, 10, 31] {
