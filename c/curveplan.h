@@ -1,6 +1,6 @@
 /*
- * The rig's curve planner. The formats, the orders, the plan and the refusals are those of document 01, with the end step, the tie rule and the list without
- * tests of document 02 (wishes 1 to 3; wish 4 changes no answer).
+ * The rig's curve planner. The formats, the orders, the plan and the refusals are those of document 01, with the end step, the tie rule, the list without
+ * tests and the booked places of document 02 (wishes 1 to 3 and 5; wish 4 changes no answer).
  *
  * One call goes from a job's bytes to its plan's bytes: curveplan_plan, in the archive libcurveplan.a. The other functions take the steps between one by one,
  * and are in libexports.a; the smaller parts of these are declared in curveplan_parts.h.
@@ -9,6 +9,8 @@
  * - A set of curves is a 64-bit number, with bit k for curve k. Tests and curves are numbered from 0. A list of wants has an entry for each test; drops and
  *   loads have an entry for each step, and an order names each step's test. A plan's end set is one set beside them: the curves that are dropped behind the
  *   last test, 0 for none.
+ * - Of a drive's places some may be booked for its own prefetching. The others, places less booked, are what the drive can hold of a list's curves: all orders,
+ *   plans and checks go by this number, and 7 and the first line of the sheet too. Both numbers are read and written as they are.
  * - A job has 0 to 256 tests. Without tests its order and its lists are empty, its load count and its end set are 0, and its plan has no bytes.
  * - All lists and buffers belong to the caller. Nothing is kept of them after the call, and what is `const` is only read.
  * - Under a refusal nothing lent changes. On success the entries behind the result keep their contents.
@@ -30,7 +32,7 @@ extern "C" {
 
 /* Lists and buffers of these sizes are never refused as too short. */
 #define CURVEPLAN_TESTS 256          /* entries of a list with one for each test */
-#define CURVEPLAN_JOB_BYTES 2310     /* a job: 6 bytes of the head, and 9 for each of 256 tests */
+#define CURVEPLAN_JOB_BYTES 2311     /* a job: 7 bytes of the head, and 9 for each of 256 tests */
 #define CURVEPLAN_PLAN_BYTES 5130    /* a plan: 20 bytes for each of 256 steps, and 10 for the end step */
 #define CURVEPLAN_SHEET_BYTES 105000 /* a sheet */
 #define CURVEPLAN_AUDIT_BYTES 128    /* an audit */
@@ -41,20 +43,23 @@ extern "C" {
  */
 enum curveplan_refusal {
     CURVEPLAN_TRUNCATED = 1,        /* the job ends where a byte is still owed; figure: its length (plan, read_job) */
-    CURVEPLAN_BAD_HEADER = 2,       /* bit 4 to 7 of the map stands, or a field is out of range or at its absent value; figure: its offset (plan, read_job) */
+    CURVEPLAN_BAD_HEADER = 2,       /* bit 5 to 7 of the map stands, or a field is out of range or at its absent value; figure: its offset (plan, read_job) */
     CURVEPLAN_EMPTY_GROUP = 3,      /* a group byte is zero; figure: its offset (plan, read_job) */
     CURVEPLAN_UNKNOWN_CURVE = 4,    /* a group byte names a curve that the job lacks; figure: its offset (plan, read_job) */
     CURVEPLAN_TRAILING_BYTES = 6,   /* bytes behind the last record, or behind the head without tests; figure: the offset of the first (plan, read_job) */
-    CURVEPLAN_TEST_TOO_LARGE = 7,   /* a test wants more curves than there are places; figure: the lowest such test (plan, order_tests, plan_order) */
+    CURVEPLAN_TEST_TOO_LARGE = 7,   /* a test wants more curves than there are places less booked; figure: the lowest such test (plan, order_tests,
+                                       plan_order) */
     CURVEPLAN_BAD_ORDER = 8,        /* figure: the first position with a number out of range or seen before, or the first missing or surplus position, the
                                        smaller (plan_order, check_plan, write_plan) */
     CURVEPLAN_BUFFER_TOO_SMALL = 9, /* a lent list or buffer cannot take the result; figure: the entries that it needs (every call that fills one) */
     CURVEPLAN_BAD_ARGUMENT = 10,    /* a handed number; figure: 0 places (not 1 to 64), 1 curves (not 1 to 64), 2 more than 256 tests, 3 method (above 3),
-                                       4 + t: the wants of test t name a curve that the job lacks; asked in this order (write_job, order_tests; without the
-                                       method plan_order, check_plan, write_plan; curves and tests only read_plan) */
+                                       4 + t: the wants of test t name a curve that the job lacks, 260 booked (above 63); asked in this order (write_job,
+                                       order_tests; without the method plan_order, check_plan, write_plan; curves and tests only read_plan) */
     CURVEPLAN_BAD_PLAN_BYTES = 11,  /* figure: the offset of the first malformed or surplus byte; the length if a byte is owed (read_plan) */
-    CURVEPLAN_PLAN_REJECTED = 12    /* figure: the first missing or surplus position of the drops or loads, the smaller; else the first step that breaks a
+    CURVEPLAN_PLAN_REJECTED = 12,   /* figure: the first missing or surplus position of the drops or loads, the smaller; else the first step that breaks a
                                        rule of the check; else the number of tests, where the end set is not what is held (check_plan, write_plan) */
+    CURVEPLAN_TOO_MANY_BOOKED = 13  /* the booked places are not below the places; figure: the offset of their byte (plan, read_job), or 0, behind 10
+                                       (write_job, order_tests, plan_order, check_plan, write_plan) */
 };
 
 /* ---- the one call: archive libcurveplan.a */
@@ -62,8 +67,8 @@ enum curveplan_refusal {
 /*
  * Reads a job, orders its tests by the job's method, plans the drops and loads, and writes the plan's bytes to `plan`, which has room for `plan_len` bytes.
  *
- * The plan is one with the fewest loads for its order of the tests. Of the curves that may go, those whose next use is furthest are dropped, the highest among
- * equals. The plan ends with an empty drive: where something is held behind the last test, an end step drops it.
+ * No plan for the same job and order of its tests that passes the check (curveplan_check_plan) has fewer loads. Of the curves that may go, those whose next use
+ * is furthest are dropped, the highest among equals. The plan ends with an empty drive: where something is held behind the last test, an end step drops it.
  *
  * Answers
  *   below 65,536      the count of plan bytes written, at most 5,121; 0 exactly for a job without tests
@@ -90,8 +95,9 @@ static inline uint64_t curveplan_figure_48(uint64_t answer) { return answer & 0x
 
 /* The head of a job. */
 struct curveplan_job {
-    uint64_t answer; /* the number of tests, 0 to 256, or the refusal; under a refusal the four numbers are 0 */
+    uint64_t answer; /* the number of tests, 0 to 256, or the refusal; under a refusal the five numbers are 0 */
     size_t places;
+    size_t booked; /* of the places */
     size_t curves;
     size_t tests;
     size_t method;
@@ -99,42 +105,44 @@ struct curveplan_job {
 
 /*
  * Reads a job's bytes. The wants of its tests go to `wants`.
- * Refusals: in byte order of the head 1 and 2; in byte order of the records 1, 3 and 4; 6; 9 with the number of tests.
+ * Refusals: in byte order of the head 1 and 2, and at its end 13; in byte order of the records 1, 3 and 4; 6; 9 with the number of tests.
  */
 struct curveplan_job curveplan_read_job(const uint8_t *job, size_t job_len, uint64_t *wants, size_t wants_len);
 
 /*
  * Writes a job's bytes to `out`, and answers their count.
- * Refusals: 10; 9 with the count of the bytes.
+ * Refusals: 10; 13; 9 with the count of the bytes.
  */
-uint64_t curveplan_write_job(size_t places, size_t curves, size_t method, const uint64_t *wants, size_t tests, uint8_t *out, size_t out_len);
+uint64_t curveplan_write_job(size_t places, size_t booked, size_t curves, size_t method, const uint64_t *wants, size_t tests, uint8_t *out, size_t out_len);
 
 /*
  * Orders the tests: method 0 as listed, 1 reverse Cuthill-McKee, 2 spanning tree, 3 packages. The tests' numbers go to `order`; answers how many they are.
- * Refusals: 10; 7; 9 with the number of tests.
+ * Refusals: 10; 13; 7; 9 with the number of tests.
  */
-uint64_t curveplan_order_tests(size_t places, size_t curves, size_t method, const uint64_t *wants, size_t tests, uint16_t *order, size_t order_len);
+uint64_t curveplan_order_tests(size_t places, size_t booked, size_t curves, size_t method, const uint64_t *wants, size_t tests, uint16_t *order,
+                               size_t order_len);
 
 /*
  * Plans an order of the tests. The drops and loads of each step go to `drops` and `loads`, and the end set to `*end`; answers the load count. No plan for this
- * order that ends with an empty drive has fewer loads.
- * Refusals: 10; 8; 7; 9 with the number of tests.
+ * order that passes the check (curveplan_check_plan) has fewer loads.
+ * Refusals: 10; 13; 8; 7; 9 with the number of tests.
  */
-uint64_t curveplan_plan_order(size_t places, size_t curves, const uint64_t *wants, size_t tests, const uint16_t *order, size_t order_len, uint64_t *drops,
-                              size_t drops_len, uint64_t *loads, size_t loads_len, uint64_t *end);
+uint64_t curveplan_plan_order(size_t places, size_t booked, size_t curves, const uint64_t *wants, size_t tests, const uint16_t *order, size_t order_len,
+                              uint64_t *drops, size_t drops_len, uint64_t *loads, size_t loads_len, uint64_t *end);
 
 /*
- * Checks a plan from anywhere, with its end set, and answers its load count.
- * Refusals: 10; 8; 12.
+ * Checks a plan from anywhere, with its end set, and answers its load count: at most places less booked are held while a test runs, among them its wants, and
+ * the end set is what is held behind the last test.
+ * Refusals: 10; 13; 8; 12.
  */
-uint64_t curveplan_check_plan(size_t places, size_t curves, const uint64_t *wants, size_t tests, const uint16_t *order, size_t order_len,
+uint64_t curveplan_check_plan(size_t places, size_t booked, size_t curves, const uint64_t *wants, size_t tests, const uint16_t *order, size_t order_len,
                               const uint64_t *drops, size_t drops_len, const uint64_t *loads, size_t loads_len, uint64_t end);
 
 /*
  * Writes a plan that passes the check to `out` as plan bytes, and answers their count. An end set of 0 has no bytes.
- * Refusals: 10; 8; 12; 9 with the count of the bytes.
+ * Refusals: 10; 13; 8; 12; 9 with the count of the bytes.
  */
-uint64_t curveplan_write_plan(size_t places, size_t curves, const uint64_t *wants, size_t tests, const uint16_t *order, size_t order_len,
+uint64_t curveplan_write_plan(size_t places, size_t booked, size_t curves, const uint64_t *wants, size_t tests, const uint16_t *order, size_t order_len,
                               const uint64_t *drops, size_t drops_len, const uint64_t *loads, size_t loads_len, uint64_t end, uint8_t *out, size_t out_len);
 
 /*
@@ -158,15 +166,15 @@ struct curveplan_part {
 struct curveplan_part curveplan_step_bytes(size_t curves, size_t tests, const uint8_t *plan, size_t plan_len, size_t position);
 
 /*
- * Writes the sheet of a job to `out`, and answers how many bytes it has: test count, places and method, a line for each step, the end step's among them, and
- * the load count. A job that is refused has the sheet `refused N at F`, which is no refusal of this call.
+ * Writes the sheet of a job to `out`, and answers how many bytes it has: test count, places less booked and method, a line for each step, the end step's
+ * among them, and the load count. A job that is refused has the sheet `refused N at F`, which is no refusal of this call.
  * Refusals: 9 with the count of the bytes.
  */
 uint64_t curveplan_sheet(const uint8_t *job, size_t job_len, uint8_t *out, size_t out_len);
 
 /*
- * Writes the audit of a plan for a job to `out`, and answers how many bytes it has: the plan's loads, the fewest for the same order of the tests, and by how
- * many the plan can be shortened. A job that is refused has the audit `refused N at F`, and a plan that is refused has `plan refused N at F`; neither is a
+ * Writes the audit of a plan for a job to `out`, and answers how many bytes it has: the plan's loads, the fewest of any plan for the same order of the tests
+ * that passes the check, and by how many the plan can be shortened. A job that is refused has the audit `refused N at F`, and a plan that is refused has `plan refused N at F`; neither is a
  * refusal of this call.
  * Refusals: 9 with the count of the bytes.
  */

@@ -13,17 +13,17 @@ extern "C" {
 
 /* ---- examinations: 0 where everything is passed, else the refusal, to be taken apart by curveplan_number_48 and curveplan_figure_48 */
 
-/* 10, of places, curves and wants: what planning, checking and writing a plan ask first. */
-uint64_t curveplan_examine(size_t places, size_t curves, const uint64_t *wants, size_t tests);
+/* 10 and 13, of places, booked places, curves and wants: what planning, checking and writing a plan ask first. */
+uint64_t curveplan_examine(size_t places, size_t booked, size_t curves, const uint64_t *wants, size_t tests);
 
-/* 10, of places, curves, method and wants: what ordering and writing a job ask first. */
-uint64_t curveplan_examine_by(size_t places, size_t curves, size_t method, const uint64_t *wants, size_t tests);
+/* 10 and 13, of places, booked places, curves, method and wants: what ordering and writing a job ask first. */
+uint64_t curveplan_examine_by(size_t places, size_t booked, size_t curves, size_t method, const uint64_t *wants, size_t tests);
 
 /* 10, of curves and a number of tests: what reading a plan asks first. */
 uint64_t curveplan_examine_counts(size_t curves, size_t tests);
 
-/* 7: a test that wants more curves than there are places. */
-uint64_t curveplan_examine_sizes(size_t places, const uint64_t *wants, size_t tests);
+/* 7: a test that wants more curves than the drive can hold, places less booked. */
+uint64_t curveplan_examine_sizes(size_t capacity, const uint64_t *wants, size_t tests);
 
 /* ---- a set in bytes: a group map, then a byte for each of its groups; bit j of the map stands for curves 8j to 8j + 7 */
 
@@ -70,8 +70,8 @@ void curveplan_reverse(uint16_t *tests, size_t len);
 /* 0, 1, .. to the beginning of `order`. Nothing changes where there are more than 256 tests, or more than `order_len`. */
 void curveplan_listed_order(size_t tests, uint16_t *order, size_t order_len);
 
-/* The order of method 3 to the beginning of `order`. Nothing changes where there are more than 256 tests, or more than `order_len`. */
-void curveplan_package_order(size_t places, const uint64_t *wants, size_t tests, uint16_t *order, size_t order_len);
+/* The order of method 3 to the beginning of `order`, by places less booked. Nothing changes where there are more than 256 tests, or more than `order_len`. */
+void curveplan_package_order(size_t capacity, const uint64_t *wants, size_t tests, uint16_t *order, size_t order_len);
 
 #ifdef __cplusplus
 }

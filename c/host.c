@@ -41,6 +41,10 @@ int main(void)
     static const uint8_t unknown_curve[] = {0x06, 0x04, 0x01, 0x00, 0x01, 0x10};
     static const uint8_t surplus[] = {0x04, 0x01, 0x00, 0x00, 0x00};
     static const uint8_t empty_list_surplus[] = {0x00, 0xff};
+    static const uint8_t booked_a[] = {0x17, 0x03, 0x04, 0x04, 0x00, 0x01, 0x01, 0x03, 0x01, 0x06, 0x01, 0x03, 0x01, 0x08};
+    static const uint8_t booked_three_curves[] = {0x15, 0x03, 0x01, 0x00, 0x01, 0x01, 0x07};
+    static const uint8_t all_booked[] = {0x15, 0x03, 0x01, 0x00, 0x03, 0x01, 0x07};
+    static const uint8_t bad_booked[] = {0x10, 0x40};
     static const char *method[] = {"method 1", "method 2", "method 3"};
 
     plan("job A", a, sizeof a, CURVEPLAN_PLAN_BYTES);
@@ -64,5 +68,9 @@ int main(void)
     plan("a byte behind the last record", surplus, sizeof surplus, CURVEPLAN_PLAN_BYTES);
     plan("a byte behind an empty list", empty_list_surplus, sizeof empty_list_surplus, CURVEPLAN_PLAN_BYTES);
     plan("three curves, two places", three_curves, sizeof three_curves, CURVEPLAN_PLAN_BYTES);
+    plan("job A, one of three places booked", booked_a, sizeof booked_a, CURVEPLAN_PLAN_BYTES);
+    plan("three curves, one of three places booked", booked_three_curves, sizeof booked_three_curves, CURVEPLAN_PLAN_BYTES);
+    plan("all of three places booked", all_booked, sizeof all_booked, CURVEPLAN_PLAN_BYTES);
+    plan("booked places out of range", bad_booked, sizeof bad_booked, CURVEPLAN_PLAN_BYTES);
     return 0;
 }

@@ -1,6 +1,6 @@
 /*
  * A host that goes step by step: reads job A of document 01, orders, plans, checks, writes and reads bytes, fetches steps, and prints audits and a sheet. Then
- * it goes through a job with an empty list.
+ * it goes through a job with an empty list, and through job A in a drive with a booked place.
  */
 #include <stdio.h>
 #include <string.h>
@@ -9,12 +9,13 @@
 #include "curveplan_parts.h"
 
 #define PLACES 2
+#define BOOKED 0
 #define CURVES 4
 #define TESTS 4
 
 static const uint8_t job_a[] = {0x07, 0x02, 0x04, 0x04, 0x00, 0x01, 0x03, 0x01, 0x06, 0x01, 0x03, 0x01, 0x08};
 
-/* What a plan is read into. */
+/* What a plan is made in or read into. */
 struct lists {
     uint16_t order[TESTS];
     uint64_t drops[TESTS];
@@ -31,6 +32,16 @@ static void print_curves(uint64_t set)
     for (; set != 0; set = curveplan_without_lowest(set)) {
         printf(" %u", (unsigned)curveplan_lowest(set));
     }
+}
+
+/* The tests in the order of a method. */
+static void print_order(size_t method, const uint16_t *order)
+{
+    printf("method %u:", (unsigned)method);
+    for (unsigned i = 0; i < TESTS; i++) {
+        printf(" %u", order[i]);
+    }
+    printf("\n");
 }
 
 /* The steps, and the end step if something is held at the end. */
@@ -101,9 +112,9 @@ static void print_refusals_of_lists(const uint64_t *wants, const uint16_t *order
     uint64_t answer;
     mark(&lent, sizeof lent);
     print_answer("a byte of the job missing", curveplan_read_job(job_a, sizeof job_a - 1, lent.drops, TESTS).answer, "tests");
-    answer = curveplan_plan_order(PLACES, CURVES, wants, TESTS, twice, TESTS, lent.drops, TESTS, lent.loads, TESTS, &lent.end);
+    answer = curveplan_plan_order(PLACES, BOOKED, CURVES, wants, TESTS, twice, TESTS, lent.drops, TESTS, lent.loads, TESTS, &lent.end);
     print_answer("a test twice in the order", answer, "loads");
-    answer = curveplan_plan_order(PLACES, CURVES, wants, TESTS, order, TESTS, lent.drops, TESTS, lent.loads, TESTS - 1, &lent.end);
+    answer = curveplan_plan_order(PLACES, BOOKED, CURVES, wants, TESTS, order, TESTS, lent.drops, TESTS, lent.loads, TESTS - 1, &lent.end);
     print_answer("planned with an entry of the loads missing", answer, "loads");
     answer = curveplan_read_plan(CURVES, TESTS, plan, plan_len - 1, lent.order, TESTS, lent.drops, TESTS, lent.loads, TESTS, &lent.end);
     print_answer("a byte of the plan missing", answer, "steps");
@@ -121,18 +132,18 @@ static void print_refusals_of_plans(const uint64_t *wants, const uint16_t *order
     uint8_t bytes[CURVEPLAN_PLAN_BYTES];
     uint64_t answer;
     mark(bytes, sizeof bytes);
-    answer = curveplan_write_plan(PLACES, CURVES, wants, TESTS, order, TESTS, drops, TESTS, loads, TESTS, end, bytes, plan_len - 1);
+    answer = curveplan_write_plan(PLACES, BOOKED, CURVES, wants, TESTS, order, TESTS, drops, TESTS, loads, TESTS, end, bytes, plan_len - 1);
     print_answer("a byte of room missing", answer, "bytes");
-    answer = curveplan_write_plan(PLACES, CURVES, wants, TESTS, order, TESTS, drops, TESTS, loads, TESTS, short_end, bytes, sizeof bytes);
+    answer = curveplan_write_plan(PLACES, BOOKED, CURVES, wants, TESTS, order, TESTS, drops, TESTS, loads, TESTS, short_end, bytes, sizeof bytes);
     print_answer("written with a curve missing in the end set", answer, "bytes");
     print_change(bytes, sizeof bytes);
-    answer = curveplan_check_plan(PLACES, CURVES, wants, TESTS, order, TESTS, drops, TESTS, loads, TESTS, short_end);
+    answer = curveplan_check_plan(PLACES, BOOKED, CURVES, wants, TESTS, order, TESTS, drops, TESTS, loads, TESTS, short_end);
     print_answer("checked with a curve missing in the end set", answer, "loads");
-    answer = curveplan_check_plan(PLACES, CURVES, wants, TESTS, order, TESTS, drops, TESTS, loads, TESTS, 0);
+    answer = curveplan_check_plan(PLACES, BOOKED, CURVES, wants, TESTS, order, TESTS, drops, TESTS, loads, TESTS, 0);
     print_answer("checked without an end set", answer, "loads");
-    answer = curveplan_check_plan(PLACES, CURVES, wants, TESTS, order, TESTS, drops, TESTS, loads, TESTS, foreign_end);
+    answer = curveplan_check_plan(PLACES, BOOKED, CURVES, wants, TESTS, order, TESTS, drops, TESTS, loads, TESTS, foreign_end);
     print_answer("checked with an unknown curve in the end set", answer, "loads");
-    answer = curveplan_check_plan(PLACES, CURVES, wants, TESTS, order, TESTS, drops, TESTS, fewer_loads, TESTS, end);
+    answer = curveplan_check_plan(PLACES, BOOKED, CURVES, wants, TESTS, order, TESTS, drops, TESTS, fewer_loads, TESTS, end);
     print_answer("no loads in step 1", answer, "loads");
 }
 
@@ -150,17 +161,17 @@ static void print_empty_list(void)
     mark(&lent, sizeof lent);
 
     struct curveplan_job head = curveplan_read_job(empty_list, sizeof empty_list, wants, TESTS);
-    size_t places = head.places, curves = head.curves;
+    size_t places = head.places, booked = head.booked, curves = head.curves;
     printf("empty list: %u tests, %u places, %u curves, method %u\n", (unsigned)head.tests, (unsigned)places, (unsigned)curves, (unsigned)head.method);
-    answer = curveplan_write_job(places, curves, head.method, wants, 0, job, sizeof job);
+    answer = curveplan_write_job(places, booked, curves, head.method, wants, 0, job, sizeof job);
     print_answer("written back", answer, memcmp(job, empty_list, sizeof job) == 0 ? "byte, the same" : "byte, another");
     for (unsigned method = 0; method <= 3; method++) {
-        print_answer(methods[method], curveplan_order_tests(places, curves, method, wants, 0, lent.order, TESTS), "tests");
+        print_answer(methods[method], curveplan_order_tests(places, booked, curves, method, wants, 0, lent.order, TESTS), "tests");
     }
-    answer = curveplan_plan_order(places, curves, wants, 0, lent.order, 0, lent.drops, TESTS, lent.loads, TESTS, &lent.end);
+    answer = curveplan_plan_order(places, booked, curves, wants, 0, lent.order, 0, lent.drops, TESTS, lent.loads, TESTS, &lent.end);
     print_answer("planned", answer, lent.end == 0 ? "loads, no end step" : "loads, an end step");
-    print_answer("checked", curveplan_check_plan(places, curves, wants, 0, lent.order, 0, lent.drops, 0, lent.loads, 0, lent.end), "loads");
-    answer = curveplan_write_plan(places, curves, wants, 0, lent.order, 0, lent.drops, 0, lent.loads, 0, lent.end, plan, sizeof plan);
+    print_answer("checked", curveplan_check_plan(places, booked, curves, wants, 0, lent.order, 0, lent.drops, 0, lent.loads, 0, lent.end), "loads");
+    answer = curveplan_write_plan(places, booked, curves, wants, 0, lent.order, 0, lent.drops, 0, lent.loads, 0, lent.end, plan, sizeof plan);
     print_answer("written", answer, "bytes");
     mark(&lent.end, sizeof lent.end);
     answer = curveplan_read_plan(curves, 0, plan, 0, lent.order, TESTS, lent.drops, TESTS, lent.loads, TESTS, &lent.end);
@@ -172,12 +183,54 @@ static void print_empty_list(void)
     answer = curveplan_read_plan(curves, 0, end_alone, sizeof end_alone, lent.order, 0, lent.drops, 0, lent.loads, 0, &lent.end);
     print_answer("an end step alone", answer, lent.end == 0 ? "steps, no end step" : "steps, an end step");
     print_step(curves, 0, end_alone, sizeof end_alone, 0);
-    print_answer("checked", curveplan_check_plan(places, curves, wants, 0, lent.order, 0, lent.drops, 0, lent.loads, 0, lent.end), "loads");
-    print_answer("an entry in the loads", curveplan_check_plan(places, curves, wants, 0, lent.order, 0, lent.drops, 0, lent.loads, 1, 0), "loads");
-    print_answer("an entry in the order", curveplan_check_plan(places, curves, wants, 0, lent.order, 1, lent.drops, 0, lent.loads, 0, 0), "loads");
+    print_answer("checked", curveplan_check_plan(places, booked, curves, wants, 0, lent.order, 0, lent.drops, 0, lent.loads, 0, lent.end), "loads");
+    print_answer("an entry in the loads", curveplan_check_plan(places, booked, curves, wants, 0, lent.order, 0, lent.drops, 0, lent.loads, 1, 0), "loads");
+    print_answer("an entry in the order", curveplan_check_plan(places, booked, curves, wants, 0, lent.order, 1, lent.drops, 0, lent.loads, 0, 0), "loads");
     print_change(wants, sizeof wants);
     print_change(plan, sizeof plan);
     print_change(&lent, offsetof(struct lists, end));
+}
+
+/* Job A in a drive of three places, of which one is booked: the plan is that of two places, and all three would need fewer loads. */
+static void print_booked(void)
+{
+    static const uint8_t booked_a[] = {0x17, 0x03, 0x04, 0x04, 0x00, 0x01, 0x01, 0x03, 0x01, 0x06, 0x01, 0x03, 0x01, 0x08};
+    static const size_t booked_at = 5;
+    static uint8_t text[CURVEPLAN_SHEET_BYTES];
+    uint64_t wants[TESTS], answer;
+    uint8_t job[sizeof booked_a], plan[CURVEPLAN_PLAN_BYTES];
+    struct lists own, lent;
+
+    struct curveplan_job head = curveplan_read_job(booked_a, sizeof booked_a, wants, TESTS);
+    size_t places = head.places, booked = head.booked, curves = head.curves;
+    printf("job A with a booked place: %u tests, %u places, %u booked, %u curves, method %u\n", (unsigned)head.tests, (unsigned)places, (unsigned)booked,
+           (unsigned)curves, (unsigned)head.method);
+    answer = curveplan_write_job(places, booked, curves, head.method, wants, TESTS, job, sizeof job);
+    print_answer("written back", answer, memcmp(job, booked_a, sizeof job) == 0 ? "bytes, the same" : "bytes, others");
+    curveplan_order_tests(places, booked, curves, head.method, wants, TESTS, own.order, TESTS);
+    print_order(head.method, own.order);
+    answer = curveplan_plan_order(places, booked, curves, wants, TESTS, own.order, TESTS, own.drops, TESTS, own.loads, TESTS, &own.end);
+    print_answer("planned", answer, "loads");
+    print_steps(own.order, own.drops, own.loads, own.end);
+    answer = curveplan_check_plan(places, booked, curves, wants, TESTS, own.order, TESTS, own.drops, TESTS, own.loads, TESTS, own.end);
+    print_answer("checked", answer, "loads");
+    answer = curveplan_write_plan(places, booked, curves, wants, TESTS, own.order, TESTS, own.drops, TESTS, own.loads, TESTS, own.end, plan, sizeof plan);
+    print_answer("written", answer, "bytes");
+    print_text("sheet", curveplan_sheet(booked_a, sizeof booked_a, text, sizeof text), text);
+
+    answer = curveplan_plan_order(places, 0, curves, wants, TESTS, own.order, TESTS, own.drops, TESTS, own.loads, TESTS, &own.end);
+    print_answer("planned with none booked", answer, "loads");
+    print_steps(own.order, own.drops, own.loads, own.end);
+    answer = curveplan_check_plan(places, booked, curves, wants, TESTS, own.order, TESTS, own.drops, TESTS, own.loads, TESTS, own.end);
+    print_answer("checked with one booked", answer, "loads");
+
+    mark(&lent, sizeof lent);
+    job[booked_at] = (uint8_t)places;
+    print_answer("a job with all places booked", curveplan_read_job(job, sizeof job, lent.drops, TESTS).answer, "tests");
+    answer = curveplan_plan_order(places, places, curves, wants, TESTS, own.order, TESTS, lent.drops, TESTS, lent.loads, TESTS, &lent.end);
+    print_answer("planned with all places booked", answer, "loads");
+    print_answer("ordered with 64 booked", curveplan_order_tests(places, 64, curves, head.method, wants, TESTS, lent.order, TESTS), "tests");
+    print_change(&lent, sizeof lent);
 }
 
 int main(void)
@@ -196,7 +249,7 @@ int main(void)
 
     struct curveplan_job head = curveplan_read_job(job_a, sizeof job_a, wants, TESTS);
     printf("job A: %u tests, %u places, %u curves, method %u\n", (unsigned)head.tests, (unsigned)head.places, (unsigned)head.curves, (unsigned)head.method);
-    if (head.answer != TESTS || head.places != PLACES || head.curves != CURVES) {
+    if (head.answer != TESTS || head.places != PLACES || head.booked != BOOKED || head.curves != CURVES) {
         return 1;
     }
     for (unsigned t = 0; t < TESTS; t++) {
@@ -204,22 +257,18 @@ int main(void)
         print_curves(wants[t]);
         printf("\n");
     }
-    answer = curveplan_write_job(PLACES, CURVES, head.method, wants, TESTS, job, sizeof job);
+    answer = curveplan_write_job(PLACES, BOOKED, CURVES, head.method, wants, TESTS, job, sizeof job);
     print_answer("written back", answer, memcmp(job, job_a, sizeof job) == 0 ? "bytes, the same" : "bytes, others");
 
     for (unsigned method = 0; method <= 3; method++) {
-        curveplan_order_tests(PLACES, CURVES, method, wants, TESTS, by_method, TESTS);
-        printf("method %u:", method);
-        for (unsigned i = 0; i < TESTS; i++) {
-            printf(" %u", by_method[i]);
-        }
-        printf("\n");
+        curveplan_order_tests(PLACES, BOOKED, CURVES, method, wants, TESTS, by_method, TESTS);
+        print_order(method, by_method);
     }
 
-    print_answer("order 0 3 1 2 planned", curveplan_plan_order(PLACES, CURVES, wants, TESTS, order, TESTS, drops, TESTS, loads, TESTS, &end), "loads");
+    print_answer("order 0 3 1 2 planned", curveplan_plan_order(PLACES, BOOKED, CURVES, wants, TESTS, order, TESTS, drops, TESTS, loads, TESTS, &end), "loads");
     print_steps(order, drops, loads, end);
-    print_answer("checked", curveplan_check_plan(PLACES, CURVES, wants, TESTS, order, TESTS, drops, TESTS, loads, TESTS, end), "loads");
-    answer = curveplan_write_plan(PLACES, CURVES, wants, TESTS, order, TESTS, drops, TESTS, loads, TESTS, end, plan, sizeof plan);
+    print_answer("checked", curveplan_check_plan(PLACES, BOOKED, CURVES, wants, TESTS, order, TESTS, drops, TESTS, loads, TESTS, end), "loads");
+    answer = curveplan_write_plan(PLACES, BOOKED, CURVES, wants, TESTS, order, TESTS, drops, TESTS, loads, TESTS, end, plan, sizeof plan);
     print_answer("written", answer, "bytes");
     size_t plan_len = (size_t)answer;
 
@@ -233,10 +282,10 @@ int main(void)
     }
     print_text("audit", curveplan_audit(job_a, sizeof job_a, plan, plan_len, text, sizeof text), text);
 
-    answer = curveplan_check_plan(PLACES, CURVES, wants, TESTS, order, TESTS, worse_drops, TESTS, worse_loads, TESTS, worse_end);
+    answer = curveplan_check_plan(PLACES, BOOKED, CURVES, wants, TESTS, order, TESTS, worse_drops, TESTS, worse_loads, TESTS, worse_end);
     print_answer("a worse plan for the same order", answer, "loads");
     print_steps(order, worse_drops, worse_loads, worse_end);
-    answer = curveplan_write_plan(PLACES, CURVES, wants, TESTS, order, TESTS, worse_drops, TESTS, worse_loads, TESTS, worse_end, worse, sizeof worse);
+    answer = curveplan_write_plan(PLACES, BOOKED, CURVES, wants, TESTS, order, TESTS, worse_drops, TESTS, worse_loads, TESTS, worse_end, worse, sizeof worse);
     print_text("audit", curveplan_audit(job_a, sizeof job_a, worse, (size_t)answer, text, sizeof text), text);
 
     print_text("sheet", curveplan_sheet(job_a, sizeof job_a, text, sizeof text), text);
@@ -244,5 +293,6 @@ int main(void)
     print_refusals_of_lists(wants, order, plan, plan_len);
     print_refusals_of_plans(wants, order, drops, loads, end, plan_len);
     print_empty_list();
+    print_booked();
     return 0;
 }

@@ -1,9 +1,10 @@
 /*
- * Compares the C program with the library's call on random, damaged, boundary and two-fault jobs, on empty lists, on jobs with many curves of equal next use,
- * and on jobs of method 1 with large degrees: the answer, and every byte of the plan's buffer. Fails on the first difference, on a refusal that the call does
- * not have, and if some refusal, some method's success, an empty list planned without room or refused for bytes behind it, a plan of a job with many equal
- * next uses, a kind of degrees, an end with nothing held, with some places taken or with a full drive, or the longest plan never came up. The same jobs in
- * every run.
+ * Compares the C program with the library's call on random, damaged, boundary and two-fault jobs, with booked places and without, on empty lists, on jobs with
+ * many curves of equal next use, and on jobs of method 1 with large degrees: the answer, and every byte of the plan's buffer. Fails on the first difference, on
+ * a refusal that the call does not have, and if one of these never came up: some refusal, some method's success, an empty list planned without room or refused
+ * for bytes behind it, a plan of a job with many equal next uses, a kind of degrees, an end with nothing held, with some places taken or with a full drive, the
+ * longest job, the longest plan; with booked places some method's success, a plan of each method, an order and a refusal 7 that would be others if none were
+ * booked, one place left, the places absent, as many booked as places, more, and 13 before or behind another fault. The same jobs in every run.
  */
 #include <stdio.h>
 #include <string.h>
@@ -21,6 +22,10 @@
 #define FILL 0xa5
 #define MOST_TESTS 256
 #define LARGEST_DEGREE (255 * 64)
+
+/* The call's refusals; 5 is withdrawn. */
+static const unsigned REFUSALS[] = {1, 2, 3, 4, 6, 7, 9, 13};
+#define MOST_REFUSAL 13
 
 static uint64_t state = 20261116;
 
@@ -89,11 +94,16 @@ static void put_record(struct bytes *job, uint64_t set)
     }
 }
 
-static void put_head(struct bytes *job, unsigned places, unsigned curves, unsigned tests, unsigned method)
+/* A drive's places, and how many of these are booked. */
+struct drive {
+    unsigned places, booked;
+};
+
+static void put_head(struct bytes *job, struct drive drive, unsigned curves, unsigned tests, unsigned method)
 {
-    put(job, (places != 8) | (curves != 64) << 1 | (tests != 0) << 2 | (method != 0) << 3);
-    if (places != 8) {
-        put(job, places);
+    put(job, (drive.places != 8) | (curves != 64) << 1 | (tests != 0) << 2 | (method != 0) << 3 | (drive.booked != 0) << 4);
+    if (drive.places != 8) {
+        put(job, drive.places);
     }
     if (curves != 64) {
         put(job, curves);
@@ -105,22 +115,50 @@ static void put_head(struct bytes *job, unsigned places, unsigned curves, unsign
     if (method != 0) {
         put(job, method);
     }
+    if (drive.booked != 0) {
+        put(job, drive.booked);
+    }
 }
 
-/* A job as it should be, but for a test that may want too much. */
+/* A drive with so many places that are not booked: none is, one, any number, or all that there can be. */
+static struct drive some_drive(unsigned capacity)
+{
+    unsigned most = 64 - capacity, booked;
+    switch (most == 0 ? 0 : below(8)) {
+    case 4:
+    case 5:
+        booked = 1;
+        break;
+    case 6:
+        booked = between(1, most);
+        break;
+    case 7:
+        booked = most;
+        break;
+    default:
+        booked = 0;
+    }
+    return (struct drive){capacity + booked, booked};
+}
+
+/* A job as it should be, but for a test that may want too much, and booked places that may not be fewer than the places. */
 static void random_job(struct bytes *job, int large)
 {
     unsigned tests = large ? PICK(200, 254, 255, 256, 256, 256, 256, 65, 64, 129) : PICK(0, 1, 2, 3, 4, 5, 8, 15, 16, 17, 30, 63, 64);
     unsigned curves = large ? PICK(64, 64, 64, 63, 40, 9, 1) : between(1, 64);
-    unsigned places = large ? PICK(1, 2, 7, 8, 8, 16, 32, 33, 48, 63, 64) : PICK(1, 2, 3, 4, 5, 8, 8, 12, 20, 40, 64);
-    unsigned most = places < curves ? places : curves;
-    unsigned kind = below(8);
+    unsigned capacity = large ? PICK(1, 2, 7, 8, 8, 16, 32, 33, 48, 63, 64) : PICK(1, 2, 3, 4, 5, 8, 8, 12, 20, 40, 64);
+    unsigned most = capacity < curves ? capacity : curves;
+    unsigned kind = below(8), method = below(4);
+    struct drive drive = some_drive(capacity);
+    if (drive.places < 64 && below(16) == 0) {
+        drive.booked = below(2) ? drive.places : between(drive.places, 63);
+    }
     uint64_t families[4];
     for (unsigned i = 0; i < 4; i++) {
         families[i] = some_curves(curves, most);
     }
     job->length = 0;
-    put_head(job, places, curves, tests, below(4));
+    put_head(job, drive, curves, tests, method);
     for (unsigned t = 0; t < tests; t++) {
         uint64_t set;
         switch (kind) {
@@ -163,7 +201,7 @@ static void tied_job(struct bytes *job)
 {
     unsigned tests = PICK(2, 3, 4, 5, 8, 9, 17, 30, 64, 65, 256);
     unsigned curves = PICK(64, 64, 64, 64, 63, 57, 40, 33, 20, 9, 4, 2);
-    unsigned number = between(2, 4), in_turn = below(2);
+    unsigned number = between(2, 4), in_turn = below(2), method = below(4);
     unsigned sizes[4] = {0}, largest = 0;
     uint64_t parts[4] = {0};
     for (unsigned k = 0; k < curves; k++) {
@@ -173,7 +211,7 @@ static void tied_job(struct bytes *job)
         largest = sizes[i] > largest ? sizes[i] : largest;
     }
     job->length = 0;
-    put_head(job, largest < curves ? between(largest, curves - 1) : largest, curves, tests, below(4));
+    put_head(job, some_drive(largest < curves ? between(largest, curves - 1) : largest), curves, tests, method);
     for (unsigned t = 0; t < tests; t++) {
         uint64_t set = parts[in_turn ? t % number : below(number)];
         /* seldom less than the whole part */
@@ -228,7 +266,7 @@ static void dense_job(struct bytes *job, const uint64_t *wants, unsigned tests)
         widest = size > widest ? size : widest;
     }
     job->length = 0;
-    put_head(job, between(widest, 64), 64, tests, 1);
+    put_head(job, some_drive(between(widest, 64)), 64, tests, 1);
     for (unsigned t = 0; t < tests; t++) {
         put_record(job, wants[t]);
     }
@@ -237,11 +275,12 @@ static void dense_job(struct bytes *job, const uint64_t *wants, unsigned tests)
 /* Any map and fields on and around their bounds, and a few records. */
 static void crafted_job(struct bytes *job)
 {
-    unsigned map = below(16) | (below(8) ? 4 : 0) | (below(12) ? 0 : 16u << below(4)), tests = 0;
+    unsigned map = below(32) | (below(8) ? 4 : 0) | (below(12) ? 0 : 32u << below(3)), places = 8, tests = 0;
     job->length = 0;
     put(job, map);
     if (map & 1) {
-        put(job, PICK(1, 2, 3, 7, 9, 63, 64, 0, 8, 65, 255));
+        places = PICK(1, 2, 3, 7, 9, 63, 64, 0, 8, 65, 255);
+        put(job, places);
     }
     if (map & 2) {
         put(job, PICK(1, 2, 8, 9, 20, 62, 63, 0, 64, 65, 255));
@@ -253,6 +292,9 @@ static void crafted_job(struct bytes *job)
     }
     if (map & 8) {
         put(job, PICK(1, 1, 2, 2, 3, 3, 0, 4, 255));
+    }
+    if (map & 16) {
+        put(job, PICK(1, 1, 1, 2, 3, 6, 7, 8, 62, 63, 0, 64, 65, 255, places - 1, places - 1, places, places + 1));
     }
     for (unsigned t = 0; t < tests && t < 300; t++) {
         unsigned groups = below(6) ? PICK(0, 1, 1, 1, 3) : below(256);
@@ -340,19 +382,101 @@ static unsigned end_size(const uint8_t *plan, size_t length)
     return size;
 }
 
+/* ---- booked places */
+
+/* What the head of a job says. */
+struct head {
+    struct drive drive;
+    unsigned method;
+    size_t booked_at; /* where the booked places are or would be */
+};
+
+static struct head head_of(const struct bytes *job)
+{
+    unsigned map = job->at[0];
+    struct head head = {{8, 0}, 0, 1};
+    if (map & 1) {
+        head.drive.places = job->at[head.booked_at++];
+    }
+    head.booked_at += (map >> 1 & 1) + 2 * (map >> 2 & 1);
+    if (map & 8) {
+        head.method = job->at[head.booked_at++];
+    }
+    if (map & 16) {
+        head.drive.booked = job->at[head.booked_at];
+    }
+    return head;
+}
+
+/* What the C program answers if none are booked: without the byte and its bit. */
+static uint64_t answer_unbooked(const struct bytes *job, const struct head *head, size_t room)
+{
+    static struct bytes other;
+    static uint8_t plan[PLAN_ROOM];
+    size_t at = head->booked_at;
+    other.length = job->length - 1;
+    memcpy(other.at, job->at, at);
+    memcpy(other.at + at, job->at + at + 1, other.length - at);
+    other.at[0] &= 15;
+    return fast_plan(other.at, other.length, plan, room);
+}
+
+/* Planned with booked places, by method; of these, ordered as now, planned otherwise by all places; ordered otherwise; one place left; places absent. */
+static unsigned long booked[4], planned_by_places[4], ordered_by_places, one_left, places_absent;
+/* Refused with 7, but not so if none were booked. */
+static unsigned long too_wide_if_booked;
+/* Refused with 13: as many are booked as there are places, or more; by the answer if none were booked, 0 for a plan. */
+static unsigned long all_booked, more_booked, behind_13[MOST_REFUSAL + 1];
+static const unsigned BEHIND_13[] = {1, 3, 4, 6, 7, 9};
+/* Refused with 2, while the booked places are not below the places. */
+static unsigned long before_13;
+
+/* Counts a job with booked places that is planned. Its order, and the plan of its own order, are made by all places too. */
+static void count_booked(const struct bytes *job, const struct head *head, const uint8_t *plan, size_t length)
+{
+    struct fast_job read;
+    uint8_t order[FAST_TESTS], by_places[FAST_TESTS], bytes[FAST_BYTES];
+    fast_read(job->at, job->length, &read);
+    one_left += read.capacity == 1;
+    places_absent += (job->at[0] & 1) == 0;
+    fast_order(&read, order);
+    read.capacity = head->drive.places;
+    fast_order(&read, by_places);
+    ordered_by_places += memcmp(order, by_places, read.tests) != 0;
+    booked[head->method]++;
+    planned_by_places[head->method] += fast_steps(&read, order, bytes) != length || memcmp(plan, bytes, length) != 0;
+}
+
+/* Counts a job with booked places that is refused. */
+static void count_booked_refused(const struct bytes *job, uint64_t answer, size_t room)
+{
+    struct head head = head_of(job);
+    unsigned number = curveplan_number_16(answer);
+    if (head.booked_at >= job->length) {
+        return;
+    }
+    if (number == CURVEPLAN_BAD_HEADER) {
+        before_13 += head.drive.booked >= head.drive.places;
+    }
+    if (number == CURVEPLAN_TEST_TOO_LARGE) {
+        too_wide_if_booked += answer_unbooked(job, &head, room) != answer;
+    }
+    if (number == CURVEPLAN_TOO_MANY_BOOKED) {
+        all_booked += head.drive.booked == head.drive.places;
+        more_booked += head.drive.booked > head.drive.places;
+        behind_13[curveplan_number_16(answer_unbooked(job, &head, room))]++;
+    }
+}
+
 /* ---- comparing */
 
 enum ending { NOTHING, SOME, FULL };
-
-/* The call's refusals; 5 is withdrawn. */
-static const unsigned REFUSALS[] = {1, 2, 3, 4, 6, 7, 9};
-#define MOST_REFUSAL 9
 
 /* Of all calls, of those with an empty list, and of the others. */
 static unsigned long compared;
 static unsigned long empty, empty_without_room, empty_with_surplus;
 static unsigned long refused[MOST_REFUSAL + 1], planned[4], ended[3];
-static size_t longest;
+static size_t longest, longest_job;
 
 /* Whether the call answers so: a count of bytes, or one of its refusals. */
 static int is_answer(uint64_t answer)
@@ -380,11 +504,15 @@ static void count_empty(uint64_t answer, size_t room)
 /* Counts a job that is planned, by its method and by what is held at the end. */
 static void count_planned(const struct bytes *job, const uint8_t *plan, size_t length)
 {
-    unsigned map = job->at[0], fields = (map & 1) + (map >> 1 & 1) + 2 * (map >> 2 & 1);
-    unsigned places = map & 1 ? job->at[1] : 8, size = end_size(plan, length);
-    planned[map & 8 ? job->at[1 + fields] : 0]++;
-    ended[size == 0 ? NOTHING : size == places ? FULL : SOME]++;
+    struct head head = head_of(job);
+    unsigned capacity = head.drive.places - head.drive.booked, size = end_size(plan, length);
+    planned[head.method]++;
+    ended[size == 0 ? NOTHING : size == capacity ? FULL : SOME]++;
     longest = length > longest ? length : longest;
+    longest_job = job->length > longest_job ? job->length : longest_job;
+    if (head.drive.booked != 0) {
+        count_booked(job, &head, plan, length);
+    }
 }
 
 static unsigned long all_planned(void)
@@ -407,6 +535,9 @@ static int differs(const struct bytes *job, size_t room)
             count_planned(job, ours, (size_t)fast);
         } else {
             refused[curveplan_number_16(fast)]++;
+            if (job->length != 0 && job->at[0] & 16) {
+                count_booked_refused(job, fast, room);
+            }
         }
         return 0;
     }
@@ -461,7 +592,8 @@ static int any_differs(const struct bytes *job)
 #define LOWER 0x0f0f0f0f0f0f0f0f /* four of each group */
 
 struct known {
-    unsigned places, tests;
+    struct drive drive;
+    unsigned tests;
     unsigned methods;   /* by each method below this one */
     uint64_t even, odd; /* what the tests want in turn */
     size_t length;      /* of the plan */
@@ -469,23 +601,31 @@ struct known {
 
 static const struct known KNOWN[] = {
     /* Nothing is held at the end: two bytes for each step. */
-    {8, 1, 4, 0, 0, 2},
-    {64, 256, 4, 0, 0, 256 * 2},
+    {{8, 0}, 1, 4, 0, 0, 2},
+    {{64, 0}, 256, 4, 0, 0, 256 * 2},
+    {{64, 63}, 256, 4, 0, 0, 256 * 2},
     /* One place is taken at the end, of eight and of one. */
-    {8, 1, 4, LAST, 0, 4 + 3},
-    {1, 1, 4, LAST, 0, 4 + 3},
-    /* All 64 places are taken from step 0 on. */
-    {64, 1, 4, ALL, 0, 11 + 10},
-    {64, 256, 4, ALL, ALL, 11 + 255 * 2 + 10},
+    {{8, 0}, 1, 4, LAST, 0, 4 + 3},
+    {{1, 0}, 1, 4, LAST, 0, 4 + 3},
+    {{8, 7}, 1, 4, LAST, 0, 4 + 3},
+    {{64, 63}, 1, 4, LAST, 0, 4 + 3},
+    /* All 64 places are taken from step 0 on, or all 63 of them. */
+    {{64, 0}, 1, 4, ALL, 0, 11 + 10},
+    {{64, 0}, 256, 4, ALL, ALL, 11 + 255 * 2 + 10},
+    {{64, 1}, 256, 4, ALL - 1, ALL - 1, 11 + 255 * 2 + 10},
     /* As listed, each step drops what the one before has loaded: one curve, or half of all curves. */
-    {1, 256, 1, FIRST, LAST, 4 + 255 * 6 + 3},
-    {32, 256, 1, LOWER, ~LOWER, LONGEST_PLAN},
+    {{1, 0}, 256, 1, FIRST, LAST, 4 + 255 * 6 + 3},
+    {{2, 1}, 256, 1, FIRST, LAST, 4 + 255 * 6 + 3},
+    {{64, 63}, 256, 1, FIRST, LAST, 4 + 255 * 6 + 3},
+    {{32, 0}, 256, 1, LOWER, ~LOWER, LONGEST_PLAN},
+    {{33, 1}, 256, 1, LOWER, ~LOWER, LONGEST_PLAN},
+    {{64, 32}, 256, 1, LOWER, ~LOWER, LONGEST_PLAN},
 };
 
 static void known_job(struct bytes *job, const struct known *known, unsigned method)
 {
     job->length = 0;
-    put_head(job, known->places, 64, known->tests, method);
+    put_head(job, known->drive, 64, known->tests, method);
     for (unsigned t = 0; t < known->tests; t++) {
         put_record(job, t % 2 == 0 ? known->even : known->odd);
     }
@@ -517,33 +657,167 @@ static int some_known_differs(struct bytes *job)
     return 0;
 }
 
-/* ---- empty lists */
+/* ---- the longest job, and jobs with booked places whose answers are known */
+
+static uint64_t refusal(unsigned number, size_t figure)
+{
+    return (uint64_t)number * 65536 + figure;
+}
 
 static int answers_otherwise(const struct bytes *job, uint64_t answer)
 {
     uint8_t plan[CURVEPLAN_PLAN_BYTES];
     uint64_t fast = fast_plan(job->at, job->length, plan, sizeof plan);
     if (fast != answer) {
-        printf("an empty list: the C program answers %llu, not %llu\n", (unsigned long long)fast, (unsigned long long)answer);
+        printf("a job of %zu bytes, the first %02x: the C program answers %llu, not %llu\n", job->length, job->at[0], (unsigned long long)fast,
+               (unsigned long long)answer);
         return 1;
     }
     return differs(job, 0) || differs(job, CURVEPLAN_PLAN_BYTES);
 }
 
-/* Every head without a tests field, by itself and with bytes behind it. */
+/*
+ * All fields, and eight groups in each record: half of the curves, and the others, in turn. Each method but 0 puts the tests that want the same behind each
+ * other, so that two steps have loads, and one of them drops; in a drive with all 64 places none would.
+ */
+static int longest_differs(struct bytes *job)
+{
+    for (unsigned method = 1; method < 4; method++) {
+        job->length = 0;
+        put_head(job, (struct drive){64, 32}, 63, MOST_TESTS, method);
+        size_t booked_at = job->length - 1;
+        for (unsigned t = 0; t < MOST_TESTS; t++) {
+            put_record(job, t % 2 == 0 ? LOWER : ~LOWER & ~LAST);
+        }
+        if (every_room_differs(job, 11 + 127 * 2 + 20 + 127 * 2 + 10)) {
+            return 1;
+        }
+        put(job, 0);
+        if (answers_otherwise(job, refusal(6, CURVEPLAN_JOB_BYTES))) {
+            return 1;
+        }
+        job->length -= 2;
+        if (answers_otherwise(job, refusal(1, CURVEPLAN_JOB_BYTES - 1))) {
+            return 1;
+        }
+        /* one place too few for test 0 */
+        job->length++;
+        job->at[booked_at] = 33;
+        if (answers_otherwise(job, refusal(7, 0))) {
+            return 1;
+        }
+    }
+    return 0;
+}
+
+/* A job, and its answer by the papers. */
+struct settled {
+    size_t length;
+    uint8_t at[10];
+    unsigned number, figure; /* of the refusal; 0 and the count of plan bytes where there is none */
+};
+
+#define JOB(...) sizeof((const uint8_t[]){__VA_ARGS__}), {__VA_ARGS__}
+
+static const struct settled SETTLED[] = {
+    /* The byte is owed; it is at its absent value, or out of range, which comes before 13. */
+    {JOB(0x10), 1, 1},
+    {JOB(0x11, 0x02), 1, 2},
+    {JOB(0x1d, 0x02, 0x01, 0x00, 0x01), 1, 5},
+    {JOB(0x10, 0x00), 2, 1},
+    {JOB(0x10, 0x40), 2, 1},
+    {JOB(0x11, 0x40, 0x40), 2, 2},
+    {JOB(0x10, 0xff), 2, 1},
+    /* One less than the places, as many, more. */
+    {JOB(0x10, 0x07), 0, 0},
+    {JOB(0x10, 0x08), 13, 1},
+    {JOB(0x10, 0x09), 13, 1},
+    {JOB(0x10, 0x3f), 13, 1},
+    {JOB(0x11, 0x01, 0x01), 13, 2},
+    {JOB(0x11, 0x02, 0x01), 0, 0},
+    {JOB(0x11, 0x02, 0x02), 13, 2},
+    {JOB(0x11, 0x3f, 0x3e), 0, 0},
+    {JOB(0x11, 0x3f, 0x3f), 13, 2},
+    {JOB(0x11, 0x40, 0x3f), 0, 0},
+    /* A fault of the map or of another field, and 13. */
+    {JOB(0x30, 0x08), 2, 0},
+    {JOB(0x50, 0x08), 2, 0},
+    {JOB(0x90, 0x08), 2, 0},
+    {JOB(0x11, 0x00, 0x01), 2, 1},
+    {JOB(0x11, 0x08, 0x08), 2, 1},
+    {JOB(0x12, 0x00, 0x08), 2, 1},
+    {JOB(0x12, 0x40, 0x08), 2, 1},
+    {JOB(0x14, 0x00, 0x00, 0x08), 2, 1},
+    {JOB(0x14, 0x01, 0x01, 0x08), 2, 1},
+    {JOB(0x18, 0x00, 0x08), 2, 1},
+    {JOB(0x18, 0x04, 0x08), 2, 1},
+    {JOB(0x1f, 0x02, 0x04, 0x01, 0x00, 0x04, 0x02), 2, 5},
+    /* 13, and a fault of the records or behind them; then that fault by itself. */
+    {JOB(0x14, 0x01, 0x00, 0x08), 13, 3},
+    {JOB(0x14, 0x01, 0x00, 0x07), 1, 4},
+    {JOB(0x14, 0x01, 0x00, 0x08, 0x01), 13, 3},
+    {JOB(0x14, 0x01, 0x00, 0x07, 0x01), 1, 5},
+    {JOB(0x14, 0x01, 0x00, 0x08, 0x01, 0x00), 13, 3},
+    {JOB(0x14, 0x01, 0x00, 0x07, 0x01, 0x00), 3, 5},
+    {JOB(0x16, 0x04, 0x01, 0x00, 0x08, 0x01, 0x10), 13, 4},
+    {JOB(0x16, 0x04, 0x01, 0x00, 0x07, 0x01, 0x10), 4, 6},
+    {JOB(0x14, 0x01, 0x00, 0x08, 0x00, 0x00), 13, 3},
+    {JOB(0x14, 0x01, 0x00, 0x07, 0x00, 0x00), 6, 5},
+    {JOB(0x10, 0x08, 0x00), 13, 1},
+    {JOB(0x10, 0x07, 0x00), 6, 2},
+    /* Three curves: none, too many and one of three places booked, then one of four. */
+    {JOB(0x05, 0x03, 0x01, 0x00, 0x01, 0x07), 0, 4 + 3},
+    {JOB(0x15, 0x03, 0x01, 0x00, 0x03, 0x01, 0x07), 13, 4},
+    {JOB(0x15, 0x03, 0x01, 0x00, 0x01, 0x01, 0x07), 7, 0},
+    {JOB(0x15, 0x04, 0x01, 0x00, 0x01, 0x01, 0x07), 0, 4 + 3},
+    /* The second of two tests is too wide for seven places, and fits eight. */
+    {JOB(0x14, 0x02, 0x00, 0x01, 0x01, 0x7f, 0x01, 0xff), 7, 1},
+    {JOB(0x15, 0x09, 0x02, 0x00, 0x01, 0x01, 0x7f, 0x01, 0xff), 0, 4 + 4 + 3},
+};
+
+static int some_settled_differs(struct bytes *job)
+{
+    for (size_t i = 0; i < sizeof SETTLED / sizeof *SETTLED; i++) {
+        job->length = 0;
+        for (size_t b = 0; b < SETTLED[i].length; b++) {
+            put(job, SETTLED[i].at[b]);
+        }
+        if (answers_otherwise(job, refusal(SETTLED[i].number, SETTLED[i].figure))) {
+            return 1;
+        }
+    }
+    return 0;
+}
+
+/* ---- empty lists */
+
+/* A head without a tests field, by itself and with bytes behind it. */
+static int empty_differs(struct bytes *job, struct drive drive, unsigned curves, unsigned method)
+{
+    job->length = 0;
+    put_head(job, drive, curves, 0, method);
+    int too_many = drive.booked >= drive.places;
+    uint64_t by_itself = too_many ? refusal(13, job->length - 1) : 0, with_surplus = too_many ? by_itself : refusal(6, job->length);
+    if (answers_otherwise(job, by_itself)) {
+        return 1;
+    }
+    for (unsigned bytes = PICK(1, 1, 2, 9, 40); bytes > 0; bytes--) {
+        put(job, PICK(0, 1, 255, below(256)));
+    }
+    return answers_otherwise(job, with_surplus);
+}
+
+/* Every such head with none booked, and every number of places and of booked places. */
 static int some_empty_differs(struct bytes *job)
 {
     for (unsigned i = 0; i < 64 * 64 * 4; i++) {
-        job->length = 0;
-        put_head(job, 1 + i % 64, 1 + i / 64 % 64, 0, i / (64 * 64));
-        uint64_t surplus = (uint64_t)CURVEPLAN_TRAILING_BYTES * 65536 + job->length;
-        if (answers_otherwise(job, 0)) {
+        if (empty_differs(job, (struct drive){1 + i % 64, 0}, 1 + i / 64 % 64, i / (64 * 64))) {
             return 1;
         }
-        for (unsigned bytes = PICK(1, 1, 2, 9, 40); bytes > 0; bytes--) {
-            put(job, PICK(0, 1, 255, below(256)));
-        }
-        if (answers_otherwise(job, surplus)) {
+    }
+    for (unsigned i = 0; i < 64 * 63; i++) {
+        unsigned curves = between(1, 64), method = below(4);
+        if (empty_differs(job, (struct drive){1 + i % 64, 1 + i / 64}, curves, method)) {
             return 1;
         }
     }
@@ -652,10 +926,38 @@ static int some_dense_differs(struct bytes *job)
     return 0;
 }
 
+/* What is counted of booked places; whether something of it never came up. */
+static int print_booked(void)
+{
+    int missing = 0;
+    printf("; with booked places planned by method");
+    for (unsigned method = 0; method < 4; method++) {
+        printf(" %u: %lu", method, booked[method]);
+        missing |= booked[method] == 0;
+    }
+    printf(", of these with another plan if none were booked");
+    for (unsigned method = 0; method < 4; method++) {
+        printf(" %u: %lu", method, planned_by_places[method]);
+        missing |= planned_by_places[method] == 0;
+    }
+    printf(", with another order: %lu, with one place left: %lu, with places absent: %lu", ordered_by_places, one_left, places_absent);
+    missing |= ordered_by_places == 0 || one_left == 0 || places_absent == 0;
+    printf("; refused 7, and not so if none were booked: %lu", too_wide_if_booked);
+    missing |= too_wide_if_booked == 0;
+    printf("; refused 13 with as many booked as places: %lu, with more: %lu, and if none were booked planned: %lu", all_booked, more_booked, behind_13[0]);
+    missing |= all_booked == 0 || more_booked == 0 || behind_13[0] == 0;
+    for (size_t i = 0; i < sizeof BEHIND_13 / sizeof *BEHIND_13; i++) {
+        printf(", refused %u: %lu", BEHIND_13[i], behind_13[BEHIND_13[i]]);
+        missing |= behind_13[BEHIND_13[i]] == 0;
+    }
+    printf("; refused 2 with booked places not below the places: %lu", before_13);
+    return missing || before_13 == 0;
+}
+
 int main(void)
 {
     static struct bytes job;
-    if (some_known_differs(&job) || some_empty_differs(&job)) {
+    if (some_known_differs(&job) || longest_differs(&job) || some_settled_differs(&job) || some_empty_differs(&job)) {
         return 1;
     }
     for (unsigned i = 0; i < SMALL_JOBS + LARGE_JOBS; i++) {
@@ -711,8 +1013,11 @@ int main(void)
         printf(" %u: %lu", REFUSALS[i], refused[REFUSALS[i]]);
         missing |= refused[REFUSALS[i]] == 0;
     }
-    printf("; held at the end nothing: %lu, some: %lu, a full drive: %lu; longest plan %zu", ended[NOTHING], ended[SOME], ended[FULL], longest);
-    missing |= ended[NOTHING] == 0 || ended[SOME] == 0 || ended[FULL] == 0 || longest != LONGEST_PLAN;
+    printf("; held at the end nothing: %lu, some: %lu, a full drive: %lu", ended[NOTHING], ended[SOME], ended[FULL]);
+    missing |= ended[NOTHING] == 0 || ended[SOME] == 0 || ended[FULL] == 0;
+    printf("; longest job %zu, longest plan %zu", longest_job, longest);
+    missing |= longest_job != CURVEPLAN_JOB_BYTES || longest != LONGEST_PLAN;
+    missing |= print_booked();
     printf("\n");
     if (missing) {
         printf("fast_c: some outcome never came up\n");

@@ -14,8 +14,8 @@ uint64_t fast_plan(const uint8_t *job, size_t job_len, uint8_t *plan, size_t pla
 #define FAST_BYTES (20 * FAST_TESTS + 16) /* of a plan: 20 for each step, 10 for the end step, 6 to spare; a set is written by nine stores, whatever it holds */
 
 struct fast_job {
-    unsigned places;
-    unsigned tests; /* 0 to FAST_TESTS */
+    unsigned capacity; /* the places less those booked */
+    unsigned tests;    /* 0 to FAST_TESTS */
     unsigned method;
     uint64_t wants[FAST_TESTS]; /* zero behind the last test, up to a multiple of 64 */
     uint8_t sizes[FAST_TESTS];  /* how many curves each test wants */

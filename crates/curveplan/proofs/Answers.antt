@@ -34,18 +34,22 @@ use Rattle.curveplan.proofs.Composed.{bytesOf, call-written, call-too-l
 use Rattle.job_bytes.proofs.ReadRefuses.{ByReading, read-refuses}
 
 -- a test that wants more curves than there are places, or none
-sizes : (places : ℕ) (wants : List ℕ) → (wantsFit places wants ≡ done tt) ⊎ ((t : ℕ) × (t < length wants) × (wantsFit places wants ≡ refused 7 t))
+sizes : (capacity : ℕ) (wants : List ℕ) → (wantsFit capacity wants ≡ done tt) ⊎ ((t : ℕ) × (t < length wants) × (wantsFit capacity wants ≡ refused 7 t))
 unfolding wantsFit
-sizes places wants = go (each-examines (λ w. leb (size w) places) 7 0 wants)
+sizes capacity wants = go (each-examines (λ w. leb (size w) capacity) 7 0 wants)
   where
-    go : Examines (Fails (λ w. leb (size w) places) wants) 7 0 (each (λ w. leb (size w) places) 7 0 wants)
-        → (each (λ w. leb (size w) places) 7 0 wants ≡ done tt) ⊎ ((t : ℕ) × (t < length wants) × (each (λ w. leb (size w) places) 7 0 wants ≡ refused 7 t))
+    go : Examines (Fails (λ w. leb (size w) capacity) wants) 7 0 (each (λ w. leb (size w) capacity) 7 0 wants)
+        → (each (λ w. leb (size w) capacity) 7 0 wants ≡ done tt) ⊎ ((t : ℕ) × (t < length wants) × (each (λ w. leb (size w) capacity) 7 0 wants ≡ refused 7 t))
     go (faultless e none) = inl e
     go (faulty t e first) = inr (t, first .0 .0, e ∙ ap (refused 7) (zero-add t))
 
 -- 5, 8, 10, 11 and 12 never come out ..
 abbrev pub CallNumber : ℕ → Type 0
-CallNumber k = ((1 ≤ k) × (k ≤ 7) × (k ≡ 5 → ⊥)) ⊎ (k ≡ 9)
+CallNumber k = ((1 ≤ k) × (k ≤ 7) × (k ≡ 5 → ⊥)) ⊎ (k ≡ 9) ⊎ (k ≡ 13)
+
+of-reading : (k i : ℕ) → ByReading k i → CallNumber k
+of-reading k i (inl n) = inl (n .0, omega (arith, n .1), n .2)
+of-reading k i (inr n) = inr (inr n)
 
 -- .. and a figure takes no more than 16 bits
 abbrev pub CallRefusal : ℕ → ℕ → Type 0
@@ -61,15 +65,14 @@ module _ (bs : List ℕ) (all : Bytes bs) (lent : ℕ) where
       by-size j e (inl f) =
           rw (call-written bs j all e f lent)
           (refuses-both CallRefusal (room lent (length (bytesOf j))) (done (bytesOf j))
-          (unfold room in refuses-demand CallRefusal _ 9 (length (bytesOf j)) (inr refl, passed-length _ _ _ _ (checked j (read-exact bs j all e) f))) tt)
+          (unfold room in refuses-demand CallRefusal _ 9 (length (bytesOf j)) (inr (inl refl), passed-length _ _ _ _ (checked j (read-exact bs j all e) f))) tt)
       by-size j e (inr x) =
           let r : ReadJob j = read-exact bs j all e in
           rw (call-too-large bs j all e 7 (x .0) (x .2) lent) (inl (omega arith, omega arith, λ e. omega arith), omega (arith, x .1, r .is-job .tests-bound))
 
       go : (o : Outcome Request) → readBytes bs ≡ o → Refuses CallRefusal (jobToPlan bs lent)
       go (refused k i) e =
-          let n = refuses ByReading (readBytes bs) k i (read-refuses bs) e in
-          rw (call-unread bs k i e lent) (inl (n .0, omega (arith, n .1), n .2), omega (arith, figure-short bs k i e .0))
+          rw (call-unread bs k i e lent) (of-reading k i (refuses ByReading (readBytes bs) k i (read-refuses bs) e), omega (arith, figure-short bs k i e .0))
       go (done j) e = by-size j e (sizes (capacity (j .head .rig)) (j .wants))
 
   -- a plan takes no more than 5,121 bytes
@@ -100,7 +103,8 @@ module _ (bs : List ℕ) (all : Bytes bs) (lent : ℕ) where
     where
       told : (k i : ℕ) → CallNumber k → i ≤ 5121 → (65536 ≤ k * 65536 + i) × ((k * 65536 + i) / 65536 ≡ k) × ((k * 65536 + i) % 65536 ≡ i)
       told k i (inl b) l = (omega (arith, b .0), omega arith, omega arith)
-      told k i (inr b) l = (omega (arith, b), omega arith, omega arith)
+      told k i (inr (inl b)) l = (omega (arith, b), omega arith, omega arith)
+      told k i (inr (inr b)) l = (omega (arith, b), omega arith, omega arith)
 
   -- THE BYTES WRITTEN read back to a plan that passes the check, for the method's order, and no plan for that order that passes has fewer loads
   pub call-planned : (plan : List ℕ) → jobToPlan bs lent ≡ done plan → WrittenPlan bs plan
@@ -162,10 +166,11 @@ module _ (bs old : List ℕ) (x : Counted) (given : countOutcome x ≡ mapped le
   answers-refusal r e = rw (refusal r e) refl
 
   -- it fits in 64 bits
-  pub refusal-bounds : Bytes bs → (r : Refusal) → x ≡ Counted.Refused r → (number r ≤ 9) × (figure r ≤ 5121)
+  pub refusal-bounds : Bytes bs → (r : Refusal) → x ≡ Counted.Refused r → (number r ≤ 13) × (figure r ≤ 5121)
   refusal-bounds all r e = let b =
       refuses CallRefusal (jobToPlan bs (length old)) (number r) (figure r) (call-refuses bs all (length old)) (refusal r e) in (below (b .0), b .1)
     where
-      below : {k : ℕ} → CallNumber k → k ≤ 9
+      below : {k : ℕ} → CallNumber k → k ≤ 13
       below (inl b) = omega (arith, b .1)
-      below (inr b) = omega (arith, b)
+      below (inr (inl b)) = omega (arith, b)
+      below (inr (inr b)) = omega (arith, b)

@@ -10,6 +10,7 @@ use Rattle.planning.proofs.Demand3.{demand3}
 use Rattle.plan_bytes.proofs.PlanRoundTrip.{plan-back, plan-read}
 use Rattle.curveplan.specs.Library.{Library}
 use Rattle.curveplan.proofs.Answers.{call-tells, call-planned, call-none}
+use Rattle.curveplan.proofs.Booked.{booked-ordered, booked-planned, booked-checked}
 
 pub library : Library
 library =
@@ -22,6 +23,9 @@ library =
       withdrawn = withdrawn;
       degree-most = degree-most;
       degree-reached = degree-reached;
+      booked-ordered = λ method j below few. booked-ordered j below few method;
+      booked-planned = booked-planned;
+      booked-checked = booked-checked;
       job-back = job-back;
       job-read = job-read;
       plan-back = plan-back;

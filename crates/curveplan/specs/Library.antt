@@ -7,17 +7,18 @@ use lib.ListN.{length, getD, replicate}
 use Rattle.bitset.specs.Set.{below}
 use Rattle.job.specs.declared.Refusal.{Refusal}
 use Rattle.job.specs.Refusal.{done, refused, number}
-use Rattle.job.specs.Words.{Job, capacity, IsJob, IsOrder}
+use Rattle.job.specs.Words.{Job, jobOf, capacity, IsJob, IsOrder}
 use Rattle.job.specs.Handed.{jobKnownBy}
 use Rattle.job.specs.Order.{orderKnown}
 use Rattle.job_bytes.specs.SetBytes.{Bytes}
 use Rattle.job_bytes.specs.JobBytes.{Request, jobIn, request, readBytes, writeJob}
 use Rattle.packages.specs.Tests.{wantsOf}
 use Rattle.ordering.specs.Methods.{degree, orderBy}
+use Rattle.ordering.specs.Ordering.{ordering}
 use Rattle.drive.specs.Steps.{curveCount, loadCount}
 use Rattle.drive.specs.Plan.{furthest, furthestLowest, planFrom}
 use Rattle.planning.specs.Plan.{Plan, SetLists}
-use Rattle.planning.specs.Planning.{planAnswer, planLists, checking}
+use Rattle.planning.specs.Planning.{planning, planAnswer, planLists, checking}
 use Rattle.planning.specs.Demand3.{Demand3}
 use Rattle.plan_bytes.specs.PlanBytes.{Contents, testsOf, planIn, planSteps, writePlan}
 use Rattle.curveplan.specs.Call.{jobToPlan, numberOf}
@@ -36,13 +37,17 @@ pub record WrittenPlan (bs plan : List ℕ) : Type 0 where
       → checking (jobIn request) (orderBy (request .head .method) (capacity (request .head .rig)) (request .wants)) other ≡ done m
       → count ≤ curveCount (other .loads)
 
+-- the same list for a drive that has only the places that are not booked
+abbrev pub unbooked : Job → Job
+unbooked j = jobOf (record { places = capacity (j .rig); booked = 0; curves = j .rig .curves }) (j .wants)
+
 -- what the library promises
 pub record Library : Type 0 where
-  -- "Each refusal has exactly the condition shown": 10 is not given exactly for a job and a known method, 8 exactly for an order of its tests
+  -- "Each refusal has exactly the condition shown": 10 and 13 are not given exactly for a job and a known method, 8 exactly for an order of its tests
   pub jobs : (method : ℕ) (j : Job) → jobKnownBy method j ≡ done tt ↔ (IsJob j × (method ≤ 3))
   pub orders : (n : ℕ) (order : List ℕ) → orderKnown n order ≡ done tt ↔ IsOrder n order
   -- each method's order names each test exactly once
-  pub complete : (method places : ℕ) (wants : List ℕ) → IsOrder (length wants) (orderBy method places wants)
+  pub complete : (method capacity : ℕ) (wants : List ℕ) → IsOrder (length wants) (orderBy method capacity wants)
   -- DEMAND 3, of what planning answers and leaves in the lists lent to it: for every job, every order and all lists
   pub demand-3 : (j : Job) (order : List ℕ) (lent : SetLists) → Demand3 j order (planAnswer j order lent) (planLists j order lent)
   -- 02, wish 2: "Load counts are proved the same under either tie rule": with ties to the lowest curve, as in 01, our plan would have as many loads, for every
@@ -56,6 +61,14 @@ pub record Library : Type 0 where
   pub degree-most : (sets : ℕ) (wants : List ℕ) (t : ℕ) → length wants ≤ 256 → t < length wants → wantsOf wants t < 2 ^ (64 * sets)
       → degree wants t ≤ 255 * (64 * sets)
   pub degree-reached : (sets : ℕ) → degree (replicate 256 (below (64 * sets))) 0 ≡ 255 * (64 * sets)
+  -- 02, wish 5: "Wherever 01 says places, in methods, plan, check and refusal 7, .. it now means places less booked": with fewer booked than places, of which a
+  -- drive has at most 64, all is ordered, planned and checked, and refused, as for a drive that has only the others
+  pub booked-ordered : (method : ℕ) (j : Job) → j .rig .booked < j .rig .places → j .rig .places ≤ 64 → (lent : ℕ)
+      → ordering method j lent ≡ ordering method (unbooked j) lent
+  pub booked-planned : (j : Job) → j .rig .booked < j .rig .places → j .rig .places ≤ 64 → (order : List ℕ) (lent : ℕ)
+      → planning j order lent ≡ planning (unbooked j) order lent
+  pub booked-checked : (j : Job) → j .rig .booked < j .rig .places → j .rig .places ≤ 64 → (order : List ℕ) (p : Plan)
+      → checking j order p ≡ checking (unbooked j) order p
   -- writing and reading undo each other: a job ..
   pub job-back : (method : ℕ) (j : Job) (lent : ℕ) (bytes : List ℕ) → writeJob method j lent ≡ done bytes → readBytes bytes ≡ done (request method j)
   pub job-read : (bs : List ℕ) (q : Request) → Bytes bs → readBytes bs ≡ done q → writeJob (q .head .method) (jobIn q) (length bs) ≡ done bs

@@ -5,12 +5,12 @@ use Rattle.bitset.specs.Set.{inside}
 use Rattle.job.specs.Refusal.{readOutcome, countOutcome, _>>=_, _>>_, mapped, demand, room, overwritten, leaves}
 use Rattle.lists.specs.Choice.{keep, choose, bestOf}
 use Rattle.job.specs.Handed.{between, listed, each, placesKnown, curvesKnown, testsKnown, methodKnown, wantsKnown, wantsFit, numbersKnown}
-use Rattle.job.specs.Handed.{jobKnownBy, countsKnown}
+use Rattle.job.specs.Handed.{bookedBelow, bookedKnown, jobKnownBy, countsKnown}
 use Rattle.job.specs.Order.{orderFrom}
 use Rattle.job.specs.Calls.{orderingKnown, checkingKnown, planningKnown}
 use Rattle.job_bytes.specs.SetBytes.{groupOf, stands, groupBytes, groupMap, setBytes, byteAt, readGroup, readGroups}
-use Rattle.job_bytes.specs.JobBytes.{fields, readNumber, readField, readFields, readHead, readRecord, readRecords, atEnd, readBytes, readJob, readJobAnswer}
-use Rattle.job_bytes.specs.JobBytes.{readJobWants, numberBytes, headBytes, recordBytes, jobBytes, writeJob, writeJobAnswer, writeJobBuffer}
+use Rattle.job_bytes.specs.JobBytes.{fields, readNumber, readField, readFields, headFields, readHead, readRecord, readRecords, atEnd, readBytes, readJob}
+use Rattle.job_bytes.specs.JobBytes.{readJobAnswer, readJobWants, numberBytes, headBytes, recordBytes, jobBytes, writeJob, writeJobAnswer, writeJobBuffer}
 use Rattle.packages.specs.Tests.{upTo}
 use Rattle.packages.specs.Packages.{flat, bestPair, without, joined, onPair, curvesOf, joinAll, try, pickTry, _orMore_, longer, runFrom, flipped, packages}
 use Rattle.ordering.specs.Methods.{weight, weights, degree, appended, grown, bestUnlisted, orElse, neighbour, nextOf, cuthillMcKee, reverseCuthillMcKee}
@@ -32,9 +32,9 @@ use Rattle.curveplan.specs.Call.{written, jobToPlan, numberOf, callAnswer, call
 
 unfoldable pub rules : Unit {0}
 unfolding ones readOutcome countOutcome _>>=_ _>>_ mapped demand room overwritten leaves keep choose bestOf between inside listed each placesKnown
-    curvesKnown testsKnown methodKnown wantsKnown wantsFit numbersKnown jobKnownBy countsKnown orderingKnown checkingKnown planningKnown groupOf stands
-    groupBytes groupMap setBytes byteAt readGroup readGroups fields readNumber readField readFields readHead readRecord readRecords atEnd readBytes readJob
-    readJobAnswer readJobWants numberBytes zipWith flatten headBytes recordBytes jobBytes writeJob writeJobAnswer writeJobBuffer weight weights degree
+    curvesKnown testsKnown methodKnown wantsKnown wantsFit numbersKnown bookedBelow bookedKnown jobKnownBy countsKnown orderingKnown checkingKnown planningKnown groupOf
+    stands groupBytes groupMap setBytes byteAt readGroup readGroups fields readNumber readField readFields headFields readHead readRecord readRecords
+    atEnd readBytes readJob readJobAnswer readJobWants numberBytes zipWith flatten headBytes recordBytes jobBytes writeJob writeJobAnswer writeJobBuffer weight weights degree
     upTo appended grown bestUnlisted orElse neighbour nextOf cuthillMcKee reverseCuthillMcKee reach spanningTree flat bestPair without joined onPair
     curvesOf joinAll try pickTry _orMore_ longer runFrom flipped packages orderBy ordering orderAnswer orderList orderFrom heldAfter moves curveCount
     orBreaks keeps checkFrom later useBy nextUse further chosenBy furthest andThen victims dropsFor planFrom steps inOrder ourPlan planning

@@ -1,5 +1,7 @@
 -- The examples of document 01, on the written rules.
 --     Starred  THE STARRED EXAMPLES
 --     Others   the other examples, and examples that tell readings apart
+--     Booked   examples of 02, wish 5
 pub mod Starred
 pub mod Others
+pub mod Booked

@@ -10,9 +10,9 @@ use Rattle.planning.specs.Plan.{SetLists, setLists, CountEnd}
 use Rattle.planning.specs.Planning.{planAnswer, planLists}
 use Rattle.curveplan.specs.Call.{jobToPlan}
 
--- a job of places, curves and wants
+-- a job of places, none of them booked, curves and wants
 abbrev pub job : ℕ → ℕ → List ℕ → Job
-job places curves wants = jobOf (record { places = places; curves = curves }) wants
+job places curves wants = jobOf (record { places = places; booked = 0; curves = curves }) wants
 
 -- job A: its bytes, its wants, and its plan bytes
 abbrev pub a-bytes : List ℕ

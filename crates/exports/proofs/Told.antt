@@ -1,6 +1,7 @@
 -- WHAT C IS ANSWERED TELLS THE OUTCOME, of each function of `curveplan.h` that answers a count or a refusal, whatever it is handed: no count and no figure
 -- reaches 2^48.
 use mathlib.Core.Path.{_≡_, refl, ap, _∙_, subst}
+use mathlib.Core.Logic.{_⊎_, inl, inr}
 use mathlib.Core.Bool.{not, _&&_}
 use mathlib.Core.List.{List, [], _∷_, _++_}
 use Prim.Native.Nat.{ℕ, _+_, _/_, _%_, _^_, _≤_, _<_, min}
@@ -9,20 +10,18 @@ use borrow.Author.Tests.{ltb-true}
 use lib.Dec.{ltb}
 use lib.ListN.{length, length-append}
 use Rattle.job.specs.declared.Head.{Head}
-use Rattle.job.specs.declared.Rig.{Rig}
 use Rattle.job.specs.Refusal.{Outcome, done, refused, _>>_, mapped, demand, room}
 use Rattle.job.specs.Words.{Job, capacity}
-use Rattle.job.specs.Handed.{listed, placesKnown, curvesKnown, testsKnown, methodKnown, wantsKnown, wantsFit, numbersKnown, jobKnownBy}
-use Rattle.job.specs.Handed.{countsKnown, allCurves}
+use Rattle.job.specs.Handed.{listed, curvesKnown, testsKnown, wantsFit, jobKnownBy, countsKnown, allCurves}
 use Rattle.job.specs.Order.{orderFrom}
 use Rattle.job.specs.Calls.{orderingKnown, checkingKnown, planningKnown}
 use Rattle.job.proofs.Laws.{both, demand-true, both-done, bind-done, mapped-done, done-same, done-both, done-room}
-use Rattle.job.proofs.Examination.{known-bounds}
 use Rattle.job.proofs.JobExact.{job-by-exact}
-use Rattle.job.proofs.Refuses.{Refuses, refuses, refuses-demand, refuses-both, refuses-bind, refuses-mapped, refuses-each}
+use Rattle.job.proofs.Refuses.{Refuses, refuses, refuses-more, refuses-demand, refuses-both, refuses-then, refuses-bind, refuses-mapped, refuses-each}
+use Rattle.job.proofs.Refuses.{HandedRefusal, job-by-refuses}
 use Rattle.job_bytes.specs.JobBytes.{Request, request, readBytes, readJob, readJobAnswer, jobBytes, writeJob, writeJobAnswer}
 use Rattle.job_bytes.proofs.JobBounds.{Bounded, read, read-bounded, figure-short, written-short}
-use Rattle.job_bytes.proofs.ReadRefuses.{ByReading, read-refuses}
+use Rattle.job_bytes.proofs.ReadRefuses.{ByReading, number-between, read-refuses}
 use Rattle.job_bytes.proofs.SetRoundTrip.{Bytes}
 use Rattle.ordering.specs.Methods.{orderBy}
 use Rattle.ordering.specs.Ordering.{ordering, orderAnswer}
@@ -68,12 +67,6 @@ told o few r =
 
 -- ---- the examinations
 
--- what is asked later is asked behind what was passed
-then : {A : Type 0} (a : Outcome (Unit {0})) (b : Outcome A) → Refuses Figures a → (a ≡ done tt → Refuses Figures b) → Refuses Figures (_>>_ a b)
-unfolding _>>_
-then (done tt) b p q = q refl
-then (refused k i) b p q = p
-
 asked : {A : Type 0} (lent needed : ℕ) (b : Outcome A) → needed < 2 ^ 48 → Refuses Figures b → Refuses Figures (_>>_ (room lent needed) b)
 unfolding room
 asked lent needed b l q = refuses-both Figures _ b (refuses-demand Figures _ 9 needed (omega arith, l)) q
@@ -83,37 +76,27 @@ unfolding countsKnown curvesKnown testsKnown
 counts-told curves tests =
     refuses-both Figures _ _ (refuses-demand Figures _ 10 1 (omega arith, omega arith)) (refuses-demand Figures _ 10 2 (omega arith, omega arith))
 
-numbers-told : (rig : Rig) (tests : ℕ) → Refuses Figures (numbersKnown rig tests)
-unfolding numbersKnown placesKnown curvesKnown testsKnown
-numbers-told rig tests =
-    refuses-both Figures _ _ (refuses-demand Figures _ 10 0 (omega arith, omega arith))
-    (refuses-both Figures _ _ (refuses-demand Figures _ 10 1 (omega arith, omega arith)) (refuses-demand Figures _ 10 2 (omega arith, omega arith)))
-
-wants-told : (curves : ℕ) (wants : List ℕ) → length wants ≤ 256 → Refuses Figures (wantsKnown curves wants)
-unfolding wantsKnown
-wants-told curves wants l = refuses-each Figures _ 10 4 wants (λ t h. (omega arith, omega arith))
-
-fit-told : (places : ℕ) (wants : List ℕ) → length wants ≤ 256 → Refuses Figures (wantsFit places wants)
+fit-told : (capacity : ℕ) (wants : List ℕ) → length wants ≤ 256 → Refuses Figures (wantsFit capacity wants)
 unfolding wantsFit
-fit-told places wants l = refuses-each Figures _ 7 0 wants (λ t h. (omega arith, omega arith))
+fit-told capacity wants l = refuses-each Figures _ 7 0 wants (λ t h. (omega arith, omega arith))
 
 module _ (method : ℕ) (j : Job) where
   few : jobKnownBy method j ≡ done tt → length (j .wants) ≤ 256
   few e = job-by-exact j method .0 e .0 .tests-bound
 
   job-told : Refuses Figures (jobKnownBy method j)
-  unfolding jobKnownBy methodKnown
-  job-told =
-      then _ _ (numbers-told (j .rig) (length (j .wants)))
-      (λ e. refuses-both Figures _ _ (refuses-demand Figures _ 10 3 (omega arith, omega arith))
-      (wants-told (j .rig .curves) (j .wants) (known-bounds (j .rig) (length (j .wants)) e .1)))
+  job-told = refuses-more HandedRefusal Figures (jobKnownBy method j) small (job-by-refuses method j)
+    where
+      small : (k i : ℕ) → HandedRefusal k i → Figures k i
+      small k i (inl n) = (omega (arith, n .0), omega (arith, n .1))
+      small k i (inr n) = (omega (arith, n .0), omega (arith, n .1))
 
 -- 8 names one of the positions, or the one behind them
 order-told : (n : ℕ) (before rest : List ℕ) → n ≤ 256 → length before ≤ n → Refuses Figures (orderFrom n before rest)
 unfolding orderFrom
 order-told n before [] l m = refuses-demand Figures _ 8 (length before) (omega arith, omega arith)
 order-told n before (t ∷ ts) l m =
-    then (demand (ltb (length before) n && ltb t n && not (listed before t)) 8 (length before)) _
+    refuses-then Figures (demand (ltb (length before) n && ltb t n && not (listed before t)) 8 (length before)) _
     (refuses-demand Figures _ 8 (length before) (omega arith, omega arith))
     (λ e.
     let a = both (ltb (length before) n && ltb t n) (not (listed before t)) (demand-true _ 8 (length before) e) in
@@ -142,7 +125,7 @@ module _ (bs old : List ℕ) where
     where
       go : (o : Outcome Request) → readBytes bs ≡ o → Refuses Figures o
       go (done j) e = tt
-      go (refused k i) e = (refuses ByReading (readBytes bs) k i (read-refuses bs) e .0, omega (arith, figure-short bs k i e .0))
+      go (refused k i) e = (number-between k i (refuses ByReading (readBytes bs) k i (read-refuses bs) e) .0, omega (arith, figure-short bs k i e .0))
 
   pub read-job-told : Told (mapped (λ h. h .tests) (readJobAnswer bs old))
   unfolding readJobAnswer readJob
@@ -161,16 +144,16 @@ module _ (bs old : List ℕ) where
 module _ (j : Job) where
   ordering-told : (method : ℕ) → Refuses Figures (orderingKnown method j)
   unfolding orderingKnown
-  ordering-told method = then _ _ (job-told method j) (λ e. fit-told (capacity (j .rig)) (j .wants) (few method j e))
+  ordering-told method = refuses-then Figures _ _ (job-told method j) (λ e. fit-told (capacity (j .rig)) (j .wants) (few method j e))
 
   module _ (order : List ℕ) where
     checking-told : Refuses Figures (checkingKnown j order)
     unfolding checkingKnown
-    checking-told = then _ _ (job-told 0 j) (λ e. order-told (length (j .wants)) [] order (few 0 j e) (omega arith))
+    checking-told = refuses-then Figures _ _ (job-told 0 j) (λ e. order-told (length (j .wants)) [] order (few 0 j e) (omega arith))
 
     planning-told : Refuses Figures (planningKnown j order)
     unfolding planningKnown
-    planning-told = then _ _ checking-told (λ e. fit-told (capacity (j .rig)) (j .wants) (known-exact j order e .0 .tests-bound))
+    planning-told = refuses-then Figures _ _ checking-told (λ e. fit-told (capacity (j .rig)) (j .wants) (known-exact j order e .0 .tests-bound))
 
 module _ (method : ℕ) (j : Job) (old : List ℕ) where
   pub write-job-told : Told (writeJobAnswer method j old)
@@ -184,12 +167,14 @@ module _ (method : ℕ) (j : Job) (old : List ℕ) where
       bytes : List ℕ
       bytes = jobBytes (request method j)
 
-      short : jobKnownBy method j ≡ done tt → length bytes ≤ 2310
+      short : jobKnownBy method j ≡ done tt → length bytes ≤ 2311
       short e = written-short method j (length bytes) bytes
           (unfold writeJob in (done-both _ _ e ∙ done-both _ _ (done-room (length bytes) (length bytes) (omega arith))))
 
       writing : Refuses Figures (writeJob method j (length old))
-      writing = unfold writeJob in then _ _ (job-told method j) (λ e. asked (length old) (length bytes) (done bytes) (omega (arith, short e)) tt)
+      writing =
+          unfold writeJob in
+          refuses-then Figures _ _ (job-told method j) (λ e. asked (length old) (length bytes) (done bytes) (omega (arith, short e)) tt)
 
   pub order-tests-told : Told (orderAnswer method j old)
   unfolding orderAnswer orderingKnown ordering
@@ -204,7 +189,7 @@ module _ (method : ℕ) (j : Job) (old : List ℕ) where
 
       refusing : Refuses Figures (ordering method j (length old))
       refusing =
-          unfold ordering room in then _ _ (ordering-told j method)
+          unfold ordering room in refuses-then Figures _ _ (ordering-told j method)
           (λ e. let l = few method j (both-done (jobKnownBy method j) _ tt e .0) in
           refuses-bind Figures _ _ (refuses-demand Figures _ 9 (length (j .wants)) (omega arith, omega arith)) (λ _ e. tt))
 
@@ -217,7 +202,7 @@ module _ (j : Job) (order : List ℕ) (p : Plan) where
   check-refuses : Refuses Figures (checking j order p)
   unfolding checking setsKnown endKnown
   check-refuses =
-      then _ _ (checking-told j order)
+      refuses-then Figures _ _ (checking-told j order)
       (λ e. let l = known-exact j order e .0 .tests-bound in
       refuses-both Figures _ _ (refuses-demand Figures _ 12 (min (min (length (p .drops)) (length (p .loads))) (length (j .wants))) (omega arith, omega arith))
       (refuses-both Figures _ _ (steps-told (capacity (j .rig)) (allCurves (j .rig .curves)) (planMoves j order p)
@@ -244,7 +229,7 @@ module _ (j : Job) (order : List ℕ) (lent : SetLists) where
       (λ n e. let x = mapped-done (λ (a : CountEnd). a .count) (planAnswer j order lent) n e in
       omega (arith, few-loads j order _ (x .0 .count) (demand3 j order lent .passes (x .0) (x .1)), x .2))
       (refuses-mapped Figures _ _ (unfold planAnswer planning room in refuses-mapped Figures _ _
-      (then _ _ (planning-told j order)
+      (refuses-then Figures _ _ (planning-told j order)
       (λ e. let l = known-exact j order (planning-parts j order e .0) .0 .tests-bound in
       refuses-bind Figures _ _ (refuses-demand Figures _ 9 (length (j .wants)) (omega arith, omega arith)) (λ _ e. tt)))))
 
@@ -282,7 +267,7 @@ module _ (curves tests : ℕ) (bs order : List ℕ) (lent : SetLists) where
       steps-end c = record { count = length (c .steps); end = c .end }
 
       steps-refuse : Refuses Figures (planSteps curves tests bs)
-      steps-refuse = unfold planSteps in then _ _ (counts-told curves tests) (λ e. bytes-told (counts-bounds curves tests e .1))
+      steps-refuse = unfold planSteps in refuses-then Figures _ _ (counts-told curves tests) (λ e. bytes-told (counts-bounds curves tests e .1))
 
 -- ---- texts
 

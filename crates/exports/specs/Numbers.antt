@@ -3,15 +3,19 @@ use mathlib.Core.List.{List}
 use Prim.Native.Nat.{ℕ, _+_, _*_, _%_, _^_, min}
 use lib.ListN.{drop}
 use Rattle.job.specs.declared.Head.{Head}
+use Rattle.job.specs.declared.Rig.{Rig}
 use Rattle.job.specs.Refusal.{Outcome, done, refused, mapped}
 use Rattle.job.specs.Words.{Job, jobOf}
 use Rattle.job_bytes.specs.SetBytes.{readGroup}
 use Rattle.planning.specs.Plan.{CountEnd}
 use Rattle.exports.specs.declared.JobHead.{JobHead}
 
--- the job of numbers that are handed over one by one
-abbrev pub job : ℕ → ℕ → List ℕ → Job
-job places curves wants = jobOf (record { places = places; curves = curves }) wants
+-- the rig and the job of numbers that are handed over one by one
+abbrev pub rigOf : ℕ → ℕ → ℕ → Rig
+rigOf places booked curves = record { places = places; booked = booked; curves = curves }
+
+abbrev pub job : ℕ → ℕ → ℕ → List ℕ → Job
+job places booked curves wants = jobOf (rigOf places booked curves) wants
 
 -- an outcome as one number: a count is itself, a refusal its number × 2^48 plus its figure (modulo 2^48, which none of `curveplan.h` reaches: `Told`).
 -- Document 01's own rule, × 65,536, is that of the one call (`curveplan`, `numberOf`); a sheet can have more bytes than that.
@@ -31,10 +35,18 @@ countOf o = mapped (λ a. a .count) o
 abbrev pub endOf : Outcome CountEnd → Outcome ℕ
 endOf o = mapped (λ a. a .end) o
 
--- a job's head, answered with its number of tests; under a refusal its four numbers are 0
+-- a job's head, answered with its number of tests; under a refusal its five numbers are 0
 unfoldable pub headOf : Outcome Head → JobHead
-headOf (done h) = record { answer = numbered (done (h .tests)); places = h .rig .places; curves = h .rig .curves; tests = h .tests; method = h .method }
-headOf (refused k i) = record { answer = numbered (refused k i); places = 0; curves = 0; tests = 0; method = 0 }
+headOf (done h) =
+    record {
+      answer = numbered (done (h .tests));
+      places = h .rig .places;
+      booked = h .rig .booked;
+      curves = h .rig .curves;
+      tests = h .tests;
+      method = h .method;
+    }
+headOf (refused k i) = record { answer = numbered (refused k i); places = 0; booked = 0; curves = 0; tests = 0; method = 0 }
 
 -- one group byte of a set, at an offset of some bytes: 1 where it is owed, 2 where it is zero, 3 where it names a curve that the job lacks
 unfoldable pub groupAt : List ℕ → ℕ → ℕ → ℕ → Outcome ℕ

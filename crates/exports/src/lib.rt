@@ -29,7 +29,7 @@ ghost use Rattle.planning.specs.Planning.{checking, planAnswer, planLists};
 ghost use Rattle.plan_bytes.specs.PlanBytes.{writePlanAnswer, writePlanBuffer, readPlanAnswer, readPlanOrder, readPlanLists, stepPart};
 ghost use Rattle.report.specs.Report.{sheetAnswer, sheetBuffer};
 ghost use Rattle.report.specs.Audit.{auditAnswer, auditBuffer};
-ghost use Rattle.exports.specs.Numbers.{job, numbered, passing, countOf, endOf, headOf, groupAt, leavesOne};
+ghost use Rattle.exports.specs.Numbers.{rigOf, job, numbered, passing, countOf, endOf, headOf, groupAt, leavesOne};
 
 // ---- outcomes as numbers
 
@@ -86,11 +86,12 @@ fn truth(b: bool) -> u64
 
 // ---- jobs, orders, plans, texts
 
-// What reading a job answers: its number of tests or the refusal, and the four numbers of its head.
+// What reading a job answers: its number of tests or the refusal, and the five numbers of its head.
 #[repr(C)]
 pub struct JobHead {
     pub answer: u64,
     pub places: usize,
+    pub booked: usize,
     pub curves: usize,
     pub tests: usize,
     pub method: usize,
@@ -103,6 +104,7 @@ fn head_of(r: JobRead) -> JobHead
         JobRead::Read(h) => JobHead {
             answer: h.tests as u64,
             places: h.rig.places,
+            booked: h.rig.booked,
             curves: h.rig.curves,
             tests: h.tests,
             method: h.method,
@@ -110,6 +112,7 @@ fn head_of(r: JobRead) -> JobHead
         JobRead::Refused(r) => JobHead {
             answer: refusal(r),
             places: 0,
+            booked: 0,
             curves: 0,
             tests: 0,
             method: 0,
@@ -125,37 +128,51 @@ pub extern "C" fn curveplan_read_job(job: &[u8], wants: &mut [u64]) -> JobHead
     head_of(job_bytes::read_job(job, wants))
 }
 
+// The rig of numbers that are handed over one by one.
+fn rig(places: usize, booked: usize, curves: usize) -> Rig
+    ensures { λ r. ⌜ r ≡ rigOf places booked curves ⌝ }
+{
+    Rig {
+        places,
+        booked,
+        curves,
+    }
+}
+
 #[no_mangle]
 pub extern "C" fn curveplan_write_job(
     places: usize,
+    booked: usize,
     curves: usize,
     method: usize,
     wants: &[u64],
     out: &mut [u8],
 ) -> u64
-    ensures answer { λ r. ⌜ r ≡ numbered (writeJobAnswer method (job places curves (was wants)) (was out)) ⌝ }
-    ensures bytes { λ _. ⌜ after out ≡ writeJobBuffer method (job places curves (was wants)) (was out) ⌝ }
+    ensures answer { λ r. ⌜ r ≡ numbered (writeJobAnswer method (job places booked curves (was wants)) (was out)) ⌝ }
+    ensures bytes { λ _. ⌜ after out ≡ writeJobBuffer method (job places booked curves (was wants)) (was out) ⌝ }
 {
-    counted(job_bytes::write_job(Rig { places, curves }, method, wants, out))
+    counted(job_bytes::write_job(rig(places, booked, curves), method, wants, out))
 }
 
 #[no_mangle]
 pub extern "C" fn curveplan_order_tests(
     places: usize,
+    booked: usize,
     curves: usize,
     method: usize,
     wants: &[u64],
     order: &mut [u16],
 ) -> u64
-    ensures answer { λ r. ⌜ r ≡ numbered (orderAnswer method (job places curves (was wants)) (was order)) ⌝ }
-    ensures order { λ _. ⌜ after order ≡ orderList method (job places curves (was wants)) (was order) ⌝ }
+    ensures answer { λ r. ⌜ r ≡ numbered (orderAnswer method (job places booked curves (was wants)) (was order)) ⌝ }
+    ensures order { λ _. ⌜ after order ≡ orderList method (job places booked curves (was wants)) (was order) ⌝ }
 {
-    counted(ordering::order_tests(Rig { places, curves }, method, wants, order))
+    counted(ordering::order_tests(rig(places, booked, curves), method, wants, order))
 }
 
 #[no_mangle]
 pub extern "C" fn curveplan_plan_order(
     places: usize,
+    booked: usize,
     curves: usize,
     wants: &[u64],
     order: &[u16],
@@ -163,13 +180,14 @@ pub extern "C" fn curveplan_plan_order(
     loads: &mut [u64],
     end: &mut u64,
 ) -> u64
-    ensures answer { λ r. ⌜ r ≡ numbered (countOf (planAnswer (job places curves (was wants)) (was order) (setLists (was drops) (was loads)))) ⌝ }
-    ensures lists { λ _. ⌜ setLists (after drops) (after loads) ≡ planLists (job places curves (was wants)) (was order) (setLists (was drops) (was loads)) ⌝ }
+    ensures answer { λ r. ⌜ r ≡ numbered (countOf (planAnswer (job places booked curves (was wants)) (was order) (setLists (was drops) (was loads)))) ⌝ }
+    ensures lists { λ _. ⌜ setLists (after drops) (after loads)
+        ≡ planLists (job places booked curves (was wants)) (was order) (setLists (was drops) (was loads)) ⌝ }
     ensures end { λ _. ⌜ after end
-        ≡ leavesOne (endOf (planAnswer (job places curves (was wants)) (was order) (setLists (was drops) (was loads)))) (was end) ⌝ }
+        ≡ leavesOne (endOf (planAnswer (job places booked curves (was wants)) (was order) (setLists (was drops) (was loads)))) (was end) ⌝ }
 {
     with_end(
-        planning::plan(Rig { places, curves }, wants, order, drops, loads),
+        planning::plan(rig(places, booked, curves), wants, order, drops, loads),
         end,
     )
 }
@@ -177,6 +195,7 @@ pub extern "C" fn curveplan_plan_order(
 #[no_mangle]
 pub extern "C" fn curveplan_check_plan(
     places: usize,
+    booked: usize,
     curves: usize,
     wants: &[u64],
     order: &[u16],
@@ -184,14 +203,15 @@ pub extern "C" fn curveplan_check_plan(
     loads: &[u64],
     end: u64,
 ) -> u64
-    ensures { λ r. ⌜ r ≡ numbered (checking (job places curves (was wants)) (was order) (planOf (was drops) (was loads) end)) ⌝ }
+    ensures { λ r. ⌜ r ≡ numbered (checking (job places booked curves (was wants)) (was order) (planOf (was drops) (was loads) end)) ⌝ }
 {
-    counted(planning::check_plan(Rig { places, curves }, wants, order, drops, loads, end))
+    counted(planning::check_plan(rig(places, booked, curves), wants, order, drops, loads, end))
 }
 
 #[no_mangle]
 pub extern "C" fn curveplan_write_plan(
     places: usize,
+    booked: usize,
     curves: usize,
     wants: &[u64],
     order: &[u16],
@@ -200,10 +220,18 @@ pub extern "C" fn curveplan_write_plan(
     end: u64,
     out: &mut [u8],
 ) -> u64
-    ensures answer { λ r. ⌜ r ≡ numbered (writePlanAnswer (job places curves (was wants)) (was order) (planOf (was drops) (was loads) end) (was out)) ⌝ }
-    ensures bytes { λ _. ⌜ after out ≡ writePlanBuffer (job places curves (was wants)) (was order) (planOf (was drops) (was loads) end) (was out) ⌝ }
+    ensures answer { λ r. ⌜ r ≡ numbered (writePlanAnswer (job places booked curves (was wants)) (was order) (planOf (was drops) (was loads) end) (was out)) ⌝ }
+    ensures bytes { λ _. ⌜ after out ≡ writePlanBuffer (job places booked curves (was wants)) (was order) (planOf (was drops) (was loads) end) (was out) ⌝ }
 {
-    counted(plan_bytes::write_plan(Rig { places, curves }, wants, order, drops, loads, end, out))
+    counted(plan_bytes::write_plan(
+        rig(places, booked, curves),
+        wants,
+        order,
+        drops,
+        loads,
+        end,
+        out,
+    ))
 }
 
 #[no_mangle]
@@ -260,22 +288,28 @@ pub extern "C" fn curveplan_audit(job: &[u8], plan: &[u8], out: &mut [u8]) -> u6
 // ---- the examinations
 
 #[no_mangle]
-pub extern "C" fn curveplan_examine(places: usize, curves: usize, wants: &[u64]) -> u64
-    ensures { λ r. ⌜ r ≡ passing (jobKnown (job places curves (was wants))) ⌝ }
+pub extern "C" fn curveplan_examine(
+    places: usize,
+    booked: usize,
+    curves: usize,
+    wants: &[u64],
+) -> u64
+    ensures { λ r. ⌜ r ≡ passing (jobKnown (job places booked curves (was wants))) ⌝ }
 {
-    examined(job::examine_job(Rig { places, curves }, 0, wants))
+    examined(job::examine_job(rig(places, booked, curves), 0, wants))
 }
 
 #[no_mangle]
 pub extern "C" fn curveplan_examine_by(
     places: usize,
+    booked: usize,
     curves: usize,
     method: usize,
     wants: &[u64],
 ) -> u64
-    ensures { λ r. ⌜ r ≡ passing (jobKnownBy method (job places curves (was wants))) ⌝ }
+    ensures { λ r. ⌜ r ≡ passing (jobKnownBy method (job places booked curves (was wants))) ⌝ }
 {
-    examined(job::examine_job(Rig { places, curves }, method, wants))
+    examined(job::examine_job(rig(places, booked, curves), method, wants))
 }
 
 #[no_mangle]
@@ -286,10 +320,10 @@ pub extern "C" fn curveplan_examine_counts(curves: usize, tests: usize) -> u64
 }
 
 #[no_mangle]
-pub extern "C" fn curveplan_examine_sizes(places: usize, wants: &[u64]) -> u64
-    ensures { λ r. ⌜ r ≡ passing (wantsFit places (was wants)) ⌝ }
+pub extern "C" fn curveplan_examine_sizes(capacity: usize, wants: &[u64]) -> u64
+    ensures { λ r. ⌜ r ≡ passing (wantsFit capacity (was wants)) ⌝ }
 {
-    examined(job::examine_sizes(places, wants))
+    examined(job::examine_sizes(capacity, wants))
 }
 
 // ---- sets in bytes
@@ -428,8 +462,8 @@ pub extern "C" fn curveplan_listed_order(tests: usize, order: &mut [u16])
 }
 
 #[no_mangle]
-pub extern "C" fn curveplan_package_order(places: usize, wants: &[u64], order: &mut [u16])
-    ensures { λ _. ⌜ after order ≡ entered (packages places (was wants)) (was order) ⌝ }
+pub extern "C" fn curveplan_package_order(capacity: usize, wants: &[u64], order: &mut [u16])
+    ensures { λ _. ⌜ after order ≡ entered (packages capacity (was wants)) (was order) ⌝ }
 {
-    packages::package_order(places, wants, order);
+    packages::package_order(capacity, wants, order);
 }

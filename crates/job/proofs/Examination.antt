@@ -1,5 +1,5 @@
 -- The examination of handed numbers, test by test: which refusal the tests so far come to.
-use mathlib.Core.Path.{_≡_, refl, sym, _∙_}
+use mathlib.Core.Path.{_≡_, refl, sym, ap, _∙_}
 use mathlib.Core.Bool.{true, false}
 use Prim.Native.Nat.{ℕ, _≤_, _<_}
 use lib.Dec.{leb}
@@ -10,8 +10,9 @@ use Rattle.job.specs.declared.Examined.{Examined}
 use Rattle.job.specs.Refusal.{Outcome, done, refused, number, figure, examinedOutcome, _>>_, demand}
 use Rattle.job.specs.declared.Rig.{Rig}
 use Rattle.job.specs.Words.{Job}
-use Rattle.job.specs.Handed.{between, placesKnown, curvesKnown, testsKnown, methodKnown, wantsKnown, numbersKnown, jobKnownBy, countsKnown}
-use Rattle.job.proofs.Laws.{both, both-done, demand-true, demand-done}
+use Rattle.job.specs.Handed.{between, placesKnown, curvesKnown, testsKnown, methodKnown, wantsKnown, numbersKnown, bookedKnown, jobKnownBy}
+use Rattle.job.specs.Handed.{countsKnown}
+use Rattle.job.proofs.Laws.{both, both-done, done-both, both-assoc, demand-true, demand-done}
 
 -- a sequence whose first part is refused
 pub refused-both : {A B : Type 0} (a : Outcome A) (b : Outcome B) (k i : ℕ) → a ≡ refused k i → _>>_ a b ≡ refused k i
@@ -59,6 +60,17 @@ module _ (curves tests : ℕ) where
 
 -- ---- the whole, by its parts
 module _ (method : ℕ) (job : Job) where
+  -- all that is asked before the booked places
+  abbrev pub beforeBooked : Outcome (Unit {0})
+  beforeBooked = _>>_ (numbersKnown (job .rig) (length (job .wants))) (_>>_ (methodKnown method) (wantsKnown (job .rig .curves) (job .wants)))
+
+  pub by-parts : jobKnownBy method job ≡ _>>_ beforeBooked (bookedKnown (job .rig))
+  unfolding jobKnownBy
+  by-parts =
+      ap (_>>_ (numbersKnown (job .rig) (length (job .wants)))) (both-assoc (methodKnown method) (wantsKnown (job .rig .curves) (job .wants))
+      (bookedKnown (job .rig)))
+      ∙ both-assoc (numbersKnown (job .rig) (length (job .wants))) _ (bookedKnown (job .rig))
+
   pub by-refused : (k i : ℕ) → numbersKnown (job .rig) (length (job .wants)) ≡ refused k i → jobKnownBy method job ≡ refused k i
   unfolding jobKnownBy
   by-refused k i e = refused-both _ _ k i e
@@ -68,9 +80,16 @@ module _ (method : ℕ) (job : Job) where
     unfolding jobKnownBy methodKnown demand _>>_
     by-method h = rw (e, lt-leb method 3 h) refl
 
-    pub by-rest : method ≤ 3 → jobKnownBy method job ≡ wantsKnown (job .rig .curves) (job .wants)
-    unfolding jobKnownBy methodKnown demand _>>_
-    by-rest h = rw (e, le-leb method 3 h) refl
+    module _ (h : method ≤ 3) where
+      by-rest : jobKnownBy method job ≡ _>>_ (wantsKnown (job .rig .curves) (job .wants)) (bookedKnown (job .rig))
+      unfolding jobKnownBy methodKnown demand _>>_
+      by-rest = rw (e, le-leb method 3 h) refl
+
+      pub by-wants : (k i : ℕ) → wantsKnown (job .rig .curves) (job .wants) ≡ refused k i → jobKnownBy method job ≡ refused k i
+      by-wants k i w = by-rest ∙ refused-both _ _ k i w
+
+      pub by-booked : wantsKnown (job .rig .curves) (job .wants) ≡ done tt → jobKnownBy method job ≡ bookedKnown (job .rig)
+      by-booked w = by-rest ∙ done-both _ _ w
 
 -- ---- an examination that a function answered
 pub examined-refused : (e : Examined) (r : Refusal) (o : Outcome (Unit {0})) → e ≡ Examined.Refused r → examinedOutcome e ≡ o

@@ -5,15 +5,16 @@ use mathlib.Core.Bool.{true}
 use Prim.Native.Nat.{ℕ, _^_, _≤_, _<_}
 use native.Mathlib.Omega.{arith}
 use native.Mathlib.Nat.{mod-eq-of-lt, mod-lt}
-use lib.Dec.{leb}
+use lib.Dec.{leb, ltb}
 use lib.Pow.{pow-pos}
 use lib.Bits.{and-mask}
 use lib.ListN.{length, getD}
-use borrow.Author.Tests.{leb-true, le-leb, eqb-true, eq-eqb}
+use borrow.Author.Tests.{leb-true, le-leb, ltb-true, lt-ltb, eqb-true, eq-eqb}
 use Rattle.bitset.specs.Set.{_∖_, inside}
-use Rattle.job.specs.Refusal.{done}
+use Rattle.job.specs.Refusal.{done, demand}
 use Rattle.job.specs.Handed.{between, allCurves, placesKnown, curvesKnown, testsKnown, methodKnown, wantsKnown, numbersKnown, jobKnown}
-use Rattle.job.specs.Handed.{jobKnownBy, countsKnown}
+use Rattle.job.specs.Handed.{bookedBelow, bookedKnown, jobKnownBy, countsKnown}
+use Rattle.job.specs.declared.Rig.{Rig}
 use Rattle.job.specs.Words.{Job, IsJob}
 use Rattle.job.proofs.Laws.{both, and, demand-true, demand-done, both-done, done-both, each-true, true-each}
 
@@ -28,15 +29,26 @@ unfolding inside
 inside-below c w e = omega (arith, and-mask w c, eqb-true (w ∖ allCurves c) 0 e, mod-lt w (pow-pos c))
 
 -- ---- what passes the examination
+
+pub places-done : (places : ℕ) → 1 ≤ places → places ≤ 64 → placesKnown places ≡ done tt
+unfolding placesKnown between
+places-done places some few = demand-done _ 10 0 (and _ _ (le-leb 1 places some) (le-leb places 64 few))
+
+pub places-known : (places : ℕ) → placesKnown places ≡ done tt → (1 ≤ places) × (places ≤ 64)
+unfolding placesKnown between
+places-known places e = let p = both (leb 1 places) (leb places 64) (demand-true _ 10 0 e) in (leb-true 1 places (p .0), leb-true places 64 (p .1))
+
+pub booked-done : (rig : Rig) → rig .booked < rig .places → rig .places ≤ 64 → bookedKnown rig ≡ done tt
+unfolding bookedKnown bookedBelow
+booked-done rig below few =
+    done-both _ _ (demand-done _ 10 260 (le-leb (rig .booked) 63 (omega arith)))
+    ∙ demand-done _ 13 0 (lt-ltb (rig .booked) (rig .places) below)
+
 module _ (j : Job) where
   abbrev n : ℕ
   n = length (j .wants)
 
   module _ (is : IsJob j) where
-    places-done : placesKnown (j .rig .places) ≡ done tt
-    unfolding placesKnown between
-    places-done = demand-done _ 10 0 (and _ _ (le-leb 1 _ (is .places-bounds .0)) (le-leb _ 64 (is .places-bounds .1)))
-
     curves-done : curvesKnown (j .rig .curves) ≡ done tt
     unfolding curvesKnown between
     curves-done = demand-done _ 10 1 (and _ _ (le-leb 1 _ (is .curves-bounds .0)) (le-leb _ 64 (is .curves-bounds .1)))
@@ -52,22 +64,26 @@ module _ (j : Job) where
 
     numbers-done : numbersKnown (j .rig) n ≡ done tt
     unfolding numbersKnown
-    numbers-done = done-both _ _ places-done ∙ done-both _ _ curves-done ∙ tests-done
+    numbers-done = done-both _ _ (places-done _ (is .places-bounds .0) (is .places-bounds .1)) ∙ done-both _ _ curves-done ∙ tests-done
 
     -- its counts are in range for plan bytes too
     pub job-counts : countsKnown (j .rig .curves) n ≡ done tt
     unfolding countsKnown
     job-counts = done-both _ _ curves-done ∙ tests-done
 
-  is-job : numbersKnown (j .rig) n ≡ done tt → wantsKnown (j .rig .curves) (j .wants) ≡ done tt → IsJob j
-  unfolding numbersKnown placesKnown curvesKnown testsKnown wantsKnown between
-  is-job e w =
+  booked-lt : bookedKnown (j .rig) ≡ done tt → j .rig .booked < j .rig .places
+  unfolding bookedKnown bookedBelow
+  booked-lt e = ltb-true (j .rig .booked) (j .rig .places) (demand-true _ 13 0 (both-done (demand (leb (j .rig .booked) 63) 10 260) _ tt e .1))
+
+  is-job : numbersKnown (j .rig) n ≡ done tt → wantsKnown (j .rig .curves) (j .wants) ≡ done tt → bookedKnown (j .rig) ≡ done tt → IsJob j
+  unfolding numbersKnown curvesKnown testsKnown wantsKnown between
+  is-job e w k =
       let a = both-done (placesKnown (j .rig .places)) _ tt e in
       let b = both-done (curvesKnown (j .rig .curves)) _ tt (a .1) in
-      let p = both (leb 1 (j .rig .places)) (leb (j .rig .places) 64) (demand-true _ 10 0 (a .0)) in
       let q = both (leb 1 (j .rig .curves)) (leb (j .rig .curves) 64) (demand-true _ 10 1 (b .0)) in
       record {
-        places-bounds = (leb-true 1 _ (p .0), leb-true _ 64 (p .1));
+        places-bounds = places-known (j .rig .places) (a .0);
+        booked-bound = booked-lt k;
         curves-bounds = (leb-true 1 _ (q .0), leb-true _ 64 (q .1));
         tests-bound = leb-true n 256 (demand-true _ 10 2 (b .1));
         own-curves = λ t l. inside-below (j .rig .curves) (getD (j .wants) t 0) (each-true (λ v. inside v (allCurves (j .rig .curves))) 10 4 (j .wants) w t l);
@@ -88,8 +104,10 @@ module _ (j : Job) where
       λ e.
           let a = both-done (numbersKnown (j .rig) n) _ tt e in
           let m = both-done (methodKnown method) _ tt (a .1) in
-          (is-job (a .0) (m .1), method-le (m .0)),
-      λ x. done-both _ _ (numbers-done (x .0)) ∙ done-both _ _ (method-done (x .1)) ∙ wants-done (x .0),
+          let w = both-done (wantsKnown (j .rig .curves) (j .wants)) _ tt (m .1) in
+          (is-job (a .0) (w .0) (w .1), method-le (m .0)),
+      λ x. done-both _ _ (numbers-done (x .0)) ∙ done-both _ _ (method-done (x .1)) ∙ done-both _ _ (wants-done (x .0))
+          ∙ booked-done (j .rig) (x .0 .booked-bound) (x .0 .places-bounds .1),
     )
 
   pub job-exact : jobKnown j ≡ done tt ↔ IsJob j

@@ -1,5 +1,6 @@
 -- Laws of outcomes: what a sequence that is done, or refused, says of its parts.
 use mathlib.Core.Path.{_≡_, refl, sym, _∙_, subst}
+use mathlib.Core.Logic.{_⊎_, inl, inr}
 use mathlib.Core.Bool.{Bool, true, false}
 use mathlib.Core.List.{List, [], _∷_}
 use Prim.Native.Nat.{ℕ, zero, suc, _+_, _≤_, _<_}
@@ -64,6 +65,24 @@ bind-done (refused k i) f b e = absurd (refused≢done e)
 pub done-both : {B : Type 0} (a : Outcome (Unit {0})) (r : Outcome B) → a ≡ done tt → _>>_ a r ≡ r
 unfolding _>>_
 done-both a r e = rw e refl
+
+pub both-assoc : {A : Type 0} (a b : Outcome (Unit {0})) (c : Outcome A) → _>>_ a (_>>_ b c) ≡ _>>_ (_>>_ a b) c
+unfolding _>>_
+both-assoc (done tt) b c = refl
+both-assoc (refused k i) b c = refl
+
+-- a sequence that is refused: its first part is, or the rest
+pub refused-split : {A B : Type 0} (a : Outcome A) (b : Outcome B) (k i : ℕ) → _>>_ a b ≡ refused k i
+    → (a ≡ refused k i) ⊎ ((x : A) × (a ≡ done x) × (b ≡ refused k i))
+unfolding _>>_
+refused-split (done x) b k i e = inr (x, refl, e)
+refused-split (refused l j) b k i e = inl cc
+
+-- a test that was refused
+pub demand-false : (t : Bool) (k i l j : ℕ) → demand t k i ≡ refused l j → (t ≡ false) × (k ≡ l) × (i ≡ j)
+unfolding demand
+demand-false true k i l j e = absurd (refused≢done (sym e))
+demand-false false k i l j e = (refl, cc, cc)
 
 -- ---- `each`
 

@@ -4,6 +4,7 @@
 --     Refuses       which refusals can come out
 --     Orders        counting in lists of tests
 --     JobExact      what passes the examination is a job, and a job passes
+--     BookedExact   of the booked places: exactly when 10 at 260, and 13, are given
 --     Faults        a refusal names the first position with a fault
 --     Marks         flags of the tests that were met
 --     OrderTurns    one turn of the examination of an order
@@ -14,6 +15,7 @@ pub mod Examination
 pub mod Refuses
 pub mod Orders
 pub mod JobExact
+pub mod BookedExact
 pub mod Faults
 pub mod Marks
 pub mod OrderTurns

@@ -1,6 +1,7 @@
 -- Which refusals can come out: a property of the number and the figure that every refusal of an outcome has.
 -- 5 is the number of none.
 use mathlib.Core.Path.{_≡_, refl}
+use mathlib.Core.Logic.{_⊎_, inl, inr}
 use mathlib.Core.Bool.{Bool, true, false}
 use mathlib.Core.List.{List, [], _∷_}
 use Prim.Native.Nat.{ℕ, suc, _+_, _≤_, _<_}
@@ -10,7 +11,9 @@ use Rattle.job.specs.declared.Refusal.{Refusal}
 use Rattle.job.specs.Refusal.{Outcome, done, refused, number, _>>=_, _>>_, mapped, demand}
 use Rattle.job.specs.declared.Rig.{Rig}
 use Rattle.job.specs.Words.{Job}
-use Rattle.job.specs.Handed.{each, placesKnown, curvesKnown, testsKnown, methodKnown, wantsKnown, numbersKnown, jobKnownBy}
+use Rattle.job.specs.Handed.{each, placesKnown, curvesKnown, testsKnown, methodKnown, wantsKnown, numbersKnown, bookedBelow, bookedKnown}
+use Rattle.job.specs.Handed.{jobKnownBy}
+use Rattle.job.proofs.Examination.{known-bounds, beforeBooked, by-parts}
 
 abbrev pub Refuses : {A : Type 0} → (ℕ → ℕ → Type 0) → Outcome A → Type 0
 Refuses P (done a) = Unit {0}
@@ -18,6 +21,11 @@ Refuses P (refused k i) = P k i
 
 pub refuses : {A : Type 0} (P : ℕ → ℕ → Type 0) (o : Outcome A) (k i : ℕ) → Refuses P o → o ≡ refused k i → P k i
 refuses P o k i r e = rw e at r
+
+-- and what follows from the property
+pub refuses-more : {A : Type 0} (P Q : ℕ → ℕ → Type 0) (o : Outcome A) → ((k i : ℕ) → P k i → Q k i) → Refuses P o → Refuses Q o
+refuses-more P Q (done a) f p = tt
+refuses-more P Q (refused k i) f p = f k i p
 
 module _ (P : ℕ → ℕ → Type 0) where
   pub refuses-demand : (t : Bool) (k i : ℕ) → P k i → Refuses P (demand t k i)
@@ -29,6 +37,12 @@ module _ (P : ℕ → ℕ → Type 0) where
   unfolding _>>_
   refuses-both (done a) b p q = q
   refuses-both (refused k i) b p q = p
+
+  -- what is asked later is asked behind what was passed
+  pub refuses-then : {A : Type 0} (a : Outcome (Unit {0})) (b : Outcome A) → Refuses P a → (a ≡ done tt → Refuses P b) → Refuses P (_>>_ a b)
+  unfolding _>>_
+  refuses-then (done tt) b p q = q refl
+  refuses-then (refused k i) b p q = p
 
   pub refuses-bind : {A B : Type 0} (a : Outcome A) (f : A → Outcome B) → Refuses P a → ((x : A) → a ≡ done x → Refuses P (f x)) → Refuses P (_>>=_ a f)
   unfolding _>>=_
@@ -49,8 +63,8 @@ module _ (P : ℕ → ℕ → Type 0) where
       refuses-both (demand (ok x) k i) (each ok k (suc i) xs) (refuses-demand (ok x) k i (rw z at (p 0 (omega arith))))
       (refuses-each ok k (suc i) xs (λ t l. let n : i + suc t ≡ suc i + t = omega arith in rw n at (p (suc t) (omega arith))))
 
--- ---- the numbers of the table: 1 to 12, without 5
-pub in-table : (r : Refusal) → (1 ≤ number r) × (number r ≤ 12) × (number r ≡ 5 → ⊥)
+-- ---- the numbers of the table: 1 to 13, without 5
+pub in-table : (r : Refusal) → (1 ≤ number r) × (number r ≤ 13) × (number r ≡ 5 → ⊥)
 in-table (Refusal.Truncated i) = (omega arith, omega arith, λ e. omega arith)
 in-table (Refusal.BadHeader i) = (omega arith, omega arith, λ e. omega arith)
 in-table (Refusal.EmptyGroup i) = (omega arith, omega arith, λ e. omega arith)
@@ -62,27 +76,47 @@ in-table (Refusal.BufferTooSmall i) = (omega arith, omega arith, λ e. omega ari
 in-table (Refusal.BadArgument i) = (omega arith, omega arith, λ e. omega arith)
 in-table (Refusal.BadPlanBytes i) = (omega arith, omega arith, λ e. omega arith)
 in-table (Refusal.PlanRejected i) = (omega arith, omega arith, λ e. omega arith)
+in-table (Refusal.TooManyBooked i) = (omega arith, omega arith, λ e. omega arith)
 
 -- 02, wish 3: "Refusal 5 is withdrawn and its number not used again": NO REFUSAL that a function can answer has this number
 pub withdrawn : (r : Refusal) → number r ≡ 5 → ⊥
 withdrawn r = in-table r .2
 
--- ---- the examination refuses by 10 only
-abbrev pub HandedRefusal : ℕ → ℕ → Type 0
-HandedRefusal k i = k ≡ 10
+-- ---- the examination refuses by 10 and 13 only
 
-numbers-refuse : (rig : Rig) (tests : ℕ) → Refuses HandedRefusal (numbersKnown rig tests)
+-- before the booked places are asked: by 10, at a place before theirs
+abbrev pub BeforeBooked : ℕ → ℕ → Type 0
+BeforeBooked k i = (k ≡ 10) × (i < 260)
+
+numbers-refuse : (rig : Rig) (tests : ℕ) → Refuses BeforeBooked (numbersKnown rig tests)
 unfolding numbersKnown placesKnown curvesKnown testsKnown
 numbers-refuse rig tests =
-    refuses-both HandedRefusal _ _ (refuses-demand HandedRefusal _ 10 0 refl)
-    (refuses-both HandedRefusal _ _ (refuses-demand HandedRefusal _ 10 1 refl) (refuses-demand HandedRefusal _ 10 2 refl))
+    refuses-both BeforeBooked _ _ (refuses-demand BeforeBooked _ 10 0 (refl, omega arith))
+    (refuses-both BeforeBooked _ _ (refuses-demand BeforeBooked _ 10 1 (refl, omega arith)) (refuses-demand BeforeBooked _ 10 2 (refl, omega arith)))
 
-wants-refuse : (curves : ℕ) (wants : List ℕ) → Refuses HandedRefusal (wantsKnown curves wants)
+wants-refuse : (curves : ℕ) (wants : List ℕ) → length wants ≤ 256 → Refuses BeforeBooked (wantsKnown curves wants)
 unfolding wantsKnown
-wants-refuse curves wants = refuses-each HandedRefusal _ 10 4 wants (λ t l. refl)
+wants-refuse curves wants few = refuses-each BeforeBooked _ 10 4 wants (λ t l. (refl, omega arith))
+
+pub before-refuses : (method : ℕ) (j : Job) → Refuses BeforeBooked (beforeBooked method j)
+unfolding methodKnown
+before-refuses method j =
+    refuses-then BeforeBooked _ _ (numbers-refuse (j .rig) (length (j .wants)))
+    (λ e. refuses-both BeforeBooked _ _ (refuses-demand BeforeBooked _ 10 3 (refl, omega arith))
+    (wants-refuse (j .rig .curves) (j .wants) (known-bounds (j .rig) (length (j .wants)) e .1)))
+
+-- and the whole
+abbrev pub HandedRefusal : ℕ → ℕ → Type 0
+HandedRefusal k i = ((k ≡ 10) × (i ≤ 260)) ⊎ ((k ≡ 13) × (i ≡ 0))
+
+booked-refuse : (rig : Rig) → Refuses HandedRefusal (bookedKnown rig)
+unfolding bookedKnown bookedBelow
+booked-refuse rig =
+    refuses-both HandedRefusal _ _ (refuses-demand HandedRefusal _ 10 260 (inl (refl, omega arith))) (refuses-demand HandedRefusal _ 13 0 (inr (refl, refl)))
 
 pub job-by-refuses : (method : ℕ) (j : Job) → Refuses HandedRefusal (jobKnownBy method j)
-unfolding jobKnownBy methodKnown
 job-by-refuses method j =
-    refuses-both HandedRefusal _ _ (numbers-refuse (j .rig) (length (j .wants)))
-    (refuses-both HandedRefusal _ _ (refuses-demand HandedRefusal _ 10 3 refl) (wants-refuse (j .rig .curves) (j .wants)))
+    rw (by-parts method j)
+    (refuses-both HandedRefusal _ _
+    (refuses-more BeforeBooked HandedRefusal (beforeBooked method j) (λ k i n. inl (n .0, omega (arith, n .1))) (before-refuses method j))
+    (booked-refuse (j .rig)))

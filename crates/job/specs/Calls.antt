@@ -1,5 +1,5 @@
 -- What a call is handed is examined before anything is made: "Handed lists and counts: .. 10 in its own order, then for ordering 7, 9; planning 8, 7, 9;
--- writing a job 9; checking 8, 12". As far as nothing is lent: 9, and 12, which is of the plan, come behind.
+-- writing a job 9; checking 8, 12", with 02's 13 "after 10". As far as nothing is lent: 9, and 12, which is of the plan, come behind.
 use mathlib.Core.List.{List}
 use Prim.Native.Nat.{ℕ}
 use lib.ListN.{length}
@@ -8,19 +8,19 @@ use Rattle.job.specs.Words.{Job, capacity}
 use Rattle.job.specs.Handed.{testsKnown, wantsFit, jobKnownBy, jobKnown}
 use Rattle.job.specs.Order.{orderKnown}
 
--- "for ordering 7" behind 10, which the method belongs to
+-- "for ordering 7" behind 10, which the method belongs to, and 13
 unfoldable pub orderingKnown : ℕ → Job → Outcome (Unit {0})
 orderingKnown method j = do
   jobKnownBy method j
   wantsFit (capacity (j .rig)) (j .wants)
 
--- "checking 8" behind 10
+-- "checking 8" behind 10 and 13
 unfoldable pub checkingKnown : Job → List ℕ → Outcome (Unit {0})
 checkingKnown j order = do
   jobKnown j
   orderKnown (length (j .wants)) order
 
--- "planning 8, 7" behind 10
+-- "planning 8, 7" behind 10 and 13
 unfoldable pub planningKnown : Job → List ℕ → Outcome (Unit {0})
 planningKnown j order = do
   checkingKnown j order

@@ -1,9 +1,9 @@
--- "Handed lists and counts: .. 10 in its own order", and 7: numbers that are handed over directly are examined the same way as bytes.
+-- "Handed lists and counts: .. 10 in its own order", 13, and 7: numbers that are handed over directly are examined the same way as bytes.
 use mathlib.Core.Bool.{Bool, false, _&&_, _||_}
 use mathlib.Core.List.{List, [], _∷_}
 use Prim.Native.Nat.{ℕ, suc}
 use lib.ListN.{length}
-use lib.Dec.{leb, eqb}
+use lib.Dec.{leb, ltb, eqb}
 use Rattle.bitset.specs.Set.{size, inside, below}
 use Rattle.job.specs.declared.Rig.{Rig}
 use Rattle.job.specs.Refusal.{Outcome, done, _>>_, demand}
@@ -50,9 +50,19 @@ methodKnown method = demand (leb method 3) 10 3
 unfoldable pub wantsKnown : ℕ → List ℕ → Outcome (Unit {0})
 wantsKnown curves wants = each (λ w. inside w (allCurves curves)) 10 4 wants
 
--- 7: "a test wants more curves than places", with the lowest such test
+-- 02, wish 5: "13, booked not below places"; its figure is "the byte's offset ..
+unfoldable pub bookedBelow : Rig → ℕ → Outcome (Unit {0})
+bookedBelow rig figure = demand (ltb (rig .booked) (rig .places)) 13 figure
+
+-- .. or 0 for handed numbers after 10; a handed count above 63 is 10 with place 259 + 1 = 260": behind the last place that wants can have, 4 + 255
+unfoldable pub bookedKnown : Rig → Outcome (Unit {0})
+bookedKnown rig = do
+  demand (leb (rig .booked) 63) 10 260
+  bookedBelow rig 0
+
+-- 7: "a test wants more curves than places", with the lowest such test; `most` is what the drive can hold
 unfoldable pub wantsFit : ℕ → List ℕ → Outcome (Unit {0})
-wantsFit places wants = each (λ w. leb (size w) places) 7 0 wants
+wantsFit most wants = each (λ w. leb (size w) most) 7 0 wants
 
 -- "10 in its own order": as far as the number of tests
 unfoldable pub numbersKnown : Rig → ℕ → Outcome (Unit {0})
@@ -61,12 +71,13 @@ numbersKnown rig tests = do
   curvesKnown (rig .curves)
   testsKnown tests
 
--- of a job and a method, as ordering and writing a job are handed them
+-- of a job and a method, as ordering and writing a job are handed them; the booked places are asked last
 unfoldable pub jobKnownBy : ℕ → Job → Outcome (Unit {0})
 jobKnownBy method j = do
   numbersKnown (j .rig) (length (j .wants))
   methodKnown method
   wantsKnown (j .rig .curves) (j .wants)
+  bookedKnown (j .rig)
 
 -- of a job alone: what is refused of a job is refused whatever the known method, so 0 stands for it
 abbrev pub jobKnown : Job → Outcome (Unit {0})

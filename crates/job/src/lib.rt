@@ -4,8 +4,8 @@ ghost use Prim.Native.Nat.{_≤_};
 ghost use lib.ListN.{length};
 ghost use Rattle.lists.specs.Lent.{was};
 ghost use Rattle.job.specs.Refusal.{number, figure, examinedOutcome};
-ghost use Rattle.job.specs.Words.{jobOf};
-ghost use Rattle.job.specs.Handed.{between, numbersKnown, wantsKnown, wantsFit, jobKnownBy, countsKnown};
+ghost use Rattle.job.specs.Words.{jobOf, capacity};
+ghost use Rattle.job.specs.Handed.{between, numbersKnown, wantsKnown, wantsFit, bookedKnown, bookedBelow, jobKnownBy, countsKnown};
 ghost use Rattle.job.specs.Order.{orderKnown};
 ghost use Rattle.job.specs.Calls.{orderingKnown, checkingKnown, planningKnown, orderAloneKnown};
 
@@ -16,11 +16,14 @@ pub const MOST_CURVES: usize = 64;
 
 pub const MOST_TESTS: usize = 256;
 
+// 02, wish 5: "booked places, 1..63, absent 0".
+pub const MOST_BOOKED: usize = 63;
+
 // The methods are 0 to 3.
 pub const LAST_METHOD: usize = 3;
 
-// Why a call is refused: the rows of document 01's table in its order, each with the figure that is returned beside its number. Row 5 is withdrawn (02, wish 3).
-// The comment gives the table's own word.
+// Why a call is refused: the rows of document 01's table in its order, each with the figure that is returned beside its number, and those of 02 behind them.
+// Row 5 is withdrawn (02, wish 3). The comment gives the table's own word.
 pub enum Refusal {
     // 1, cut
     Truncated(usize),
@@ -44,6 +47,8 @@ pub enum Refusal {
     BadPlanBytes(usize),
     // 12, plan check
     PlanRejected(usize),
+    // 13, "booked not below places"
+    TooManyBooked(usize),
 }
 
 // The number of a refusal in document 01's table.
@@ -62,6 +67,7 @@ pub fn number_of(r: Refusal) -> u64
         Refusal::BadArgument(_) => 10,
         Refusal::BadPlanBytes(_) => 11,
         Refusal::PlanRejected(_) => 12,
+        Refusal::TooManyBooked(_) => 13,
     }
 }
 
@@ -81,13 +87,25 @@ pub fn figure_of(r: Refusal) -> u64
         Refusal::BadArgument(i) => i as u64,
         Refusal::BadPlanBytes(i) => i as u64,
         Refusal::PlanRejected(i) => i as u64,
+        Refusal::TooManyBooked(i) => i as u64,
     }
 }
 
-// What a rig offers a list of tests: the places of its drive, and the number of curves.
+// What a rig offers a list of tests: the places of its drive, how many of them the drive keeps for its own prefetching, and the number of curves.
 pub struct Rig {
     pub places: usize,
+    pub booked: usize,
     pub curves: usize,
+}
+
+// How many curves the drive can hold: "places less booked".
+pub fn capacity(rig: Rig) -> usize
+    ensures { λ r. ⌜ r ≡ capacity rig ⌝ }
+{
+    if rig.places < rig.booked {
+        return 0;
+    }
+    rig.places - rig.booked
 }
 
 // The numbers of a job's bytes.
@@ -115,7 +133,7 @@ pub enum Counted {
     Refused(Refusal),
 }
 
-// ---- 10
+// ---- 10 and 13
 
 // "Places in the drive 1 to 64. Curves 1 to 64".
 fn in_bounds(x: usize, most: usize) -> bool
@@ -164,7 +182,27 @@ fn examine_wants(curves: usize, wants: &[u64]) -> Examined
     Examined::Passed
 }
 
-// 10, of a job and a method: what writing a job is handed. With method 0, of a job alone.
+// 13: "booked not below places", with the figure that goes with it.
+pub fn examine_capacity(rig: Rig, figure: usize) -> Examined
+    ensures { λ r. ⌜ examinedOutcome r ≡ bookedBelow rig figure ⌝ }
+{
+    if rig.booked < rig.places {
+        return Examined::Passed;
+    }
+    Examined::Refused(Refusal::TooManyBooked(figure))
+}
+
+// Of the booked places: 10, its last, then 13.
+fn examine_booked(rig: Rig) -> Examined
+    ensures { λ r. ⌜ examinedOutcome r ≡ bookedKnown rig ⌝ }
+{
+    if MOST_BOOKED < rig.booked {
+        return Examined::Refused(Refusal::BadArgument(260));
+    }
+    examine_capacity(rig, 0)
+}
+
+// 10 and 13, of a job and a method: what writing a job is handed. With method 0, of a job alone.
 pub fn examine_job(rig: Rig, method: usize, wants: &[u64]) -> Examined
     ensures { λ r. ⌜ examinedOutcome r ≡ jobKnownBy method (jobOf rig (was wants)) ⌝ }
 {
@@ -174,23 +212,34 @@ pub fn examine_job(rig: Rig, method: usize, wants: &[u64]) -> Examined
     if LAST_METHOD < method {
         return Examined::Refused(Refusal::BadArgument(3));
     }
-    examine_wants(rig.curves, wants)
+    if let Examined::Refused(r) = examine_wants(rig.curves, wants) {
+        return Examined::Refused(r);
+    }
+    examine_booked(rig)
 }
 
 // ---- 7 and 8
 
 // 7: "a test wants more curves than places", with the lowest such test.
-pub fn examine_sizes(places: usize, wants: &[u64]) -> Examined
-    ensures { λ r. ⌜ examinedOutcome r ≡ wantsFit places (was wants) ⌝ }
+pub fn examine_sizes(most: usize, wants: &[u64]) -> Examined
+    ensures { λ r. ⌜ examinedOutcome r ≡ wantsFit most (was wants) ⌝ }
 {
     let mut t = 0;
     while t < wants.len() {
-        if places < bitset::size(wants[t]) {
+        if most < bitset::size(wants[t]) {
             return Examined::Refused(Refusal::TestTooLarge(t));
         }
         t += 1;
     }
     Examined::Passed
+}
+
+// 7, of a rig: by places less booked.
+fn examine_fit(rig: Rig, wants: &[u64]) -> Examined
+    ensures { λ r. ⌜ examinedOutcome r ≡ wantsFit (capacity rig) (was wants) ⌝ }
+{
+    let most = capacity(rig);
+    examine_sizes(most, wants)
 }
 
 // 8: "first position with a number out of range or seen before, or first missing or surplus position, the smaller".
@@ -222,17 +271,17 @@ fn examine_order(tests: usize, order: &[u16]) -> Examined
 
 // ---- what the other calls are handed
 
-// Of what ordering is handed: 10, 7.
+// Of what ordering is handed: 10, 13, 7.
 pub fn examine_ordering(rig: Rig, method: usize, wants: &[u64]) -> Examined
     ensures { λ r. ⌜ examinedOutcome r ≡ orderingKnown method (jobOf rig (was wants)) ⌝ }
 {
     if let Examined::Refused(r) = examine_job(rig, method, wants) {
         return Examined::Refused(r);
     }
-    examine_sizes(rig.places, wants)
+    examine_fit(rig, wants)
 }
 
-// Of what the plan check is handed, but for the plan: 10, 8.
+// Of what the plan check is handed, but for the plan: 10, 13, 8.
 pub fn examine_checking(rig: Rig, wants: &[u64], order: &[u16]) -> Examined
     ensures { λ r. ⌜ examinedOutcome r ≡ checkingKnown (jobOf rig (was wants)) (was order) ⌝ }
 {
@@ -242,14 +291,14 @@ pub fn examine_checking(rig: Rig, wants: &[u64], order: &[u16]) -> Examined
     examine_order(wants.len(), order)
 }
 
-// Of what planning is handed: 10, 8, 7.
+// Of what planning is handed: 10, 13, 8, 7.
 pub fn examine_planning(rig: Rig, wants: &[u64], order: &[u16]) -> Examined
     ensures { λ r. ⌜ examinedOutcome r ≡ planningKnown (jobOf rig (was wants)) (was order) ⌝ }
 {
     if let Examined::Refused(r) = examine_checking(rig, wants, order) {
         return Examined::Refused(r);
     }
-    examine_sizes(rig.places, wants)
+    examine_fit(rig, wants)
 }
 
 // Of an order alone, for as many tests as it has entries: 10, 8.

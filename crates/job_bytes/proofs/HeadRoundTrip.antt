@@ -3,7 +3,7 @@ use mathlib.Core.Path.{_≡_, refl, sym, ap, _∙_, subst}
 use mathlib.Core.Logic.{_⊎_, inl, inr}
 use mathlib.Core.Bool.{Bool, true, false, cond, not, _&&_}
 use mathlib.Core.List.{List, [], _∷_, _++_, foldr, zipWith, flatten, append-assoc, append-nil}
-use Prim.Native.Nat.{ℕ, zero, suc, _+_, _*_, _/_, _%_, _^_, _≤_, _<_}
+use Prim.Native.Nat.{ℕ, zero, suc, _+_, _-_, _*_, _/_, _%_, _^_, _≤_, _<_}
 use native.Mathlib.Omega.{arith}
 use native.Mathlib.Nat.{pow-succ'}
 use native.Mathlib.Decide.{ℕ-discrete}
@@ -13,10 +13,11 @@ use lib.ListN.{length, length-append}
 use borrow.Author.Tests.{ltb-true, leb-true, lt-ltb, le-leb, eq-eqb, ne-eqb, not-true}
 use Rattle.job.specs.declared.Head.{Head}
 use Rattle.job.specs.Refusal.{done, refused, _>>=_, _>>_, demand}
-use Rattle.job.specs.Handed.{between}
+use Rattle.job.specs.Handed.{between, bookedBelow}
 use Rattle.job_bytes.specs.declared.fields.Field.{Field}
 use Rattle.job_bytes.specs.SetBytes.{Got, got, byteAt}
-use Rattle.job_bytes.specs.JobBytes.{fields, headOf, valuesOf, readNumber, readField, readFields, readHead, numberBytes, headBytes}
+use Rattle.job_bytes.specs.JobBytes.{fields, headOf, valuesOf, readNumber, readField, readFields, headFields, readHead, numberBytes}
+use Rattle.job_bytes.specs.JobBytes.{headBytes}
 use Rattle.job.proofs.Laws.{both, done-same, refused≢done, demand-true, both-done, bind-done}
 use Rattle.job_bytes.proofs.SetRoundTrip.{Bytes}
 
@@ -59,7 +60,7 @@ held f v e =
     let b = both (leb (f .low) v) (leb v (f .high)) (a .0) in
     (leb-true (f .low) v (b .0), leb-true v (f .high) (b .1), not-true (eqb v (f .absent)) (a .1))
 
-within : (f : Field) (v low high : ℕ) → (low ≤ f .absent) × (f .absent ≤ high) → (low ≤ f .low) × (f .high ≤ high) → Has f v → (low ≤ v) × (v ≤ high)
+pub within : (f : Field) (v low high : ℕ) → (low ≤ f .absent) × (f .absent ≤ high) → (low ≤ f .low) × (f .high ≤ high) → Has f v → (low ≤ v) × (v ≤ high)
 within f v low high a r (inl e) = (omega arith, omega arith)
 within f v low high a r (inr e) = let h = held f v e in (omega arith, omega arith)
 
@@ -133,15 +134,21 @@ fields-back (f ∷ fs) (v ∷ vs) acc i rest w h =
     rw (m, d, append-assoc bs (fieldsBytes fs vs) rest, field-back f i v (fieldsBytes fs vs ++ rest) (w .0) (h .0))
     (fields-back fs vs (acc ++ (v ∷ [])) (i + length bs) rest (w .1) (h .1) ∙ rw (n, append-assoc acc (v ∷ []) vs) refl)
 
-pub head-back : (h : Head) (rest : List ℕ) → AllHave fields (valuesOf h)
+pub head-back : (h : Head) (rest : List ℕ) → AllHave fields (valuesOf h) → h .rig .booked < h .rig .places
     → readHead (headBytes (valuesOf h) ++ rest) ≡ done (got h (length (headBytes (valuesOf h))) rest)
-unfolding readHead byteAt demand _>>=_ _>>_
-head-back h rest have =
+unfolding readHead headFields bookedBelow byteAt demand _>>=_ _>>_
+head-back h rest have below =
     let n : 1 + length (fieldsBytes fields (valuesOf h)) ≡ suc (length (fieldsBytes fields (valuesOf h))) = omega arith in
-    rw (head-bytes (valuesOf h), lt-ltb _ _ (map-lt fields (valuesOf h)), fields-back fields (valuesOf h) [] 1 rest wide have, n) refl
+    rw (
+      head-bytes (valuesOf h),
+      lt-ltb _ _ (map-lt fields (valuesOf h)),
+      fields-back fields (valuesOf h) [] 1 rest wide have,
+      n,
+      lt-ltb (h .rig .booked) (h .rig .places) below,
+    ) refl
   where
     wide : Wide fields
-    wide = unfold fields in (omega arith, (omega arith, (omega arith, (omega arith, tt))))
+    wide = unfold fields in (omega arith, (omega arith, (omega arith, (omega arith, (omega arith, tt)))))
 
 -- ---- read, then written
 
@@ -214,22 +221,23 @@ same-values [] h = absurd h
 same-values (p ∷ []) h = absurd (h .1)
 same-values (p ∷ c ∷ []) h = absurd (h .1 .1)
 same-values (p ∷ c ∷ t ∷ []) h = absurd (h .1 .1 .1)
-same-values (p ∷ c ∷ t ∷ m ∷ []) h = refl
-same-values (p ∷ c ∷ t ∷ m ∷ x ∷ vs) h = absurd (h .1 .1 .1 .1)
+same-values (p ∷ c ∷ t ∷ m ∷ []) h = absurd (h .1 .1 .1 .1)
+same-values (p ∷ c ∷ t ∷ m ∷ b ∷ []) h = refl
+same-values (p ∷ c ∷ t ∷ m ∷ b ∷ x ∷ vs) h = absurd (h .1 .1 .1 .1 .1)
 
-pub record HeadRead (bs : List ℕ) (g : Got Head) : Type 0 where
+pub record TableRead (bs : List ℕ) (g : Got Head) : Type 0 where
   pub have : AllHave fields (valuesOf (g .value))
   pub exact : Bytes bs → (bs ≡ headBytes (valuesOf (g .value)) ++ g .rest) × Bytes (g .rest)
 
-pub head-read : (bs : List ℕ) (g : Got Head) → readHead bs ≡ done g → HeadRead bs g
-unfolding readHead byteAt _>>=_
-head-read [] g e = absurd (refused≢done e)
-head-read (M ∷ bs) g e =
+pub table-read : (bs : List ℕ) (g : Got Head) → headFields bs ≡ done g → TableRead bs g
+unfolding headFields byteAt _>>=_
+table-read [] g e = absurd (refused≢done e)
+table-read (M ∷ bs) g e =
     let m = both-done (demand (ltb M (2 ^ length fields)) 2 0) _ g e in
     let x = bind-done (readFields fields M [] 1 bs) _ g (m .1) in
     let r = fields-read fields M 1 [] bs (x .0) (x .1) in
     let s = same-values (r .values) (r .have) in
-    subst (HeadRead (M ∷ bs)) (done-same (x .2))
+    subst (TableRead (M ∷ bs)) (done-same (x .2))
     (rw (r .value)
     (record {
       have = rw s (r .have);
@@ -238,18 +246,33 @@ head-read (M ∷ bs) g e =
           (rw (s, head-bytes (r .values), ← (a .0)) (ap {B = List ℕ} (λ l. M ∷ l) (a .1)), a .2);
     }))
 
+-- a head that was read has passed 13
+head-parts : (bs : List ℕ) (g : Got Head) → readHead bs ≡ done g → (headFields bs ≡ done g) × (g .value .rig .booked < g .value .rig .places)
+unfolding readHead bookedBelow
+head-parts bs g e =
+    let x = bind-done (headFields bs) _ g e in
+    let h = x .0 in
+    let y = both-done (bookedBelow (h .value .rig) (h .next - 1)) (done h) g (x .2) in
+    subst (λ (h : Got Head). (headFields bs ≡ done h) × (h .value .rig .booked < h .value .rig .places)) (done-same (y .1))
+    (x .1, ltb-true (h .value .rig .booked) (h .value .rig .places) (demand-true _ 13 (h .next - 1) (y .0)))
+
+pub head-read : (bs : List ℕ) (g : Got Head) → readHead bs ≡ done g → Bytes bs → (bs ≡ headBytes (valuesOf (g .value)) ++ g .rest) × Bytes (g .rest)
+head-read bs g e = table-read bs g (head-parts bs g e .0) .exact
+
 -- the numbers of a head that was read are in range
 pub record InRange (h : Head) : Type 0 where
   pub places : (1 ≤ h .rig .places) × (h .rig .places ≤ 64)
+  pub booked : h .rig .booked < h .rig .places
   pub curves : (1 ≤ h .rig .curves) × (h .rig .curves ≤ 64)
   pub tests : h .tests ≤ 256
   pub method : h .method ≤ 3
 
-pub in-range : (h : Head) → AllHave fields (valuesOf h) → InRange h
+in-range : (h : Head) → AllHave fields (valuesOf h) → h .rig .booked < h .rig .places → InRange h
 unfolding fields
-in-range h a =
+in-range h a below =
     record {
       places = within _ (h .rig .places) 1 64 (omega arith, omega arith) (omega arith, omega arith) (a .0);
+      booked = below;
       curves = within _ (h .rig .curves) 1 64 (omega arith, omega arith) (omega arith, omega arith) (a .1 .0);
       tests = within _ (h .tests) 0 256 (omega arith, omega arith) (omega arith, omega arith) (a .1 .1 .0) .1;
       method = within _ (h .method) 0 3 (omega arith, omega arith) (omega arith, omega arith) (a .1 .1 .1 .0) .1;
@@ -259,8 +282,14 @@ pub range-in : (h : Head) → InRange h → AllHave fields (valuesOf h)
 unfolding fields
 range-in h r = (
   has _ (h .rig .places) (λ n. r .places),
-  (has _ (h .rig .curves) (λ n. r .curves), (has _ (h .tests) (λ n. (omega arith, r .tests)), (has _ (h .method) (λ n. (omega arith, r .method)), tt))),
+  (
+    has _ (h .rig .curves) (λ n. r .curves),
+    (
+      has _ (h .tests) (λ n. (omega arith, r .tests)),
+      (has _ (h .method) (λ n. (omega arith, r .method)), (has _ (h .rig .booked) (λ n. (omega arith, omega (arith, r .booked, r .places .1))), tt)),
+    ),
+  ),
 )
 
 pub head-range : (bs : List ℕ) (g : Got Head) → readHead bs ≡ done g → InRange (g .value)
-head-range bs g e = in-range (g .value) (head-read bs g e .have)
+head-range bs g e = let p = head-parts bs g e in in-range (g .value) (table-read bs g (p .0) .have) (p .1)

@@ -1,7 +1,7 @@
 -- Reading a head, step by step: what the rules come to at offset i of the whole bytes bs, by what stands there.
 use mathlib.Core.Path.{_≡_, refl, ap, _∙_, subst}
 use mathlib.Core.List.{List, [], _∷_, _++_}
-use Prim.Native.Nat.{ℕ, zero, suc, _+_, _*_, _/_, _%_, _^_, _≤_, _<_}
+use Prim.Native.Nat.{ℕ, zero, suc, _+_, _-_, _*_, _/_, _%_, _^_, _≤_, _<_}
 use native.Mathlib.Omega.{arith}
 use native.Mathlib.Decide.{decLe}
 use lib.Pow.{pow-add}
@@ -11,14 +11,15 @@ use Rattle.job.specs.declared.Head.{Head}
 use Rattle.job.specs.declared.Refusal.{Refusal}
 use Rattle.job.specs.declared.Counted.{Counted}
 use Rattle.job.specs.Refusal.{Outcome, done, refused, number, figure, countOutcome, _>>=_, _>>_, mapped, demand}
+use Rattle.job.specs.Handed.{bookedBelow}
 use Rattle.job_bytes.specs.declared.fields.Field.{Field}
 use Rattle.job_bytes.specs.SetBytes.{Got, got}
-use Rattle.job_bytes.specs.JobBytes.{fields, headOf, readNumber, readField, readFields, readHead}
+use Rattle.job_bytes.specs.JobBytes.{fields, headOf, readNumber, readField, readFields, headFields, readHead}
 use Rattle.job_bytes.proofs.HeadRoundTrip.{holds}
 use Rattle.job_bytes.proofs.Turns.{byte-there, byte-none}
 use Rattle.job_bytes.proofs.Spans.{Spans, span-done, field-span, head-span}
 
-pub rows : length fields ≡ 4
+pub rows : length fields ≡ 5
 unfolding fields
 rows = refl
 
@@ -94,19 +95,33 @@ module _ (bs : List ℕ) where
       fields-next g e = rw (row, e) refl
 
   -- ---- the head
-  pub head-none : length bs ≡ 0 → readHead bs ≡ refused 1 0
-  unfolding readHead _>>=_
+  pub head-none : length bs ≡ 0 → headFields bs ≡ refused 1 0
+  unfolding headFields _>>=_
   head-none h = rw (byte-none 1 0 0 bs (omega arith)) refl
 
   module _ (some : 0 < length bs) where
-    pub head-map : 2 ^ length fields ≤ getD bs 0 0 → readHead bs ≡ refused 2 0
-    unfolding readHead demand _>>=_ _>>_
+    pub head-map : 2 ^ length fields ≤ getD bs 0 0 → headFields bs ≡ refused 2 0
+    unfolding headFields demand _>>=_ _>>_
     head-map h = rw (byte-there 1 0 0 bs some, le-ltb (getD bs 0 0) (2 ^ length fields) h) refl
 
     pub head-fields : getD bs 0 0 < 2 ^ length fields
-        → readHead bs ≡ _>>=_ (readFields fields (getD bs 0 0) [] 1 (drop 1 bs)) (λ r. done (got (headOf (r .value)) (r .next) (r .rest)))
-    unfolding readHead demand _>>=_ _>>_
+        → headFields bs ≡ _>>=_ (readFields fields (getD bs 0 0) [] 1 (drop 1 bs)) (λ r. done (got (headOf (r .value)) (r .next) (r .rest)))
+    unfolding headFields demand _>>=_ _>>_
     head-fields h = rw (byte-there 1 0 0 bs some, lt-ltb (getD bs 0 0) (2 ^ length fields) h) refl
 
+  -- 13 behind its fields, or what they come to
+  pub head-fault : (k f : ℕ) → headFields bs ≡ refused k f → readHead bs ≡ refused k f
+  unfolding readHead _>>=_
+  head-fault k f e = rw e refl
+
+  module _ (g : Got Head) (e : headFields bs ≡ done g) where
+    pub head-booked : (k f : ℕ) → bookedBelow (g .value .rig) (g .next - 1) ≡ refused k f → readHead bs ≡ refused k f
+    unfolding readHead _>>=_ _>>_
+    head-booked k f b = rw (e, b) refl
+
+    pub head-whole : bookedBelow (g .value .rig) (g .next - 1) ≡ done tt → readHead bs ≡ done g
+    unfolding readHead _>>=_ _>>_
+    head-whole b = rw (e, b) refl
+
   pub head-within : (h : Head) (n : ℕ) → readHead bs ≡ done (got h n (drop n bs)) → n ≤ length bs
-  head-within h n e = span-done (subst (Spans 6 0 bs) e (head-span bs)) .within
+  head-within h n e = span-done (subst (Spans 7 0 bs) e (head-span bs)) .within

@@ -53,10 +53,11 @@ job-back method j lent bytes e =
     go k =
         let x = job-by-exact j method .0 k in
         let h = request method j .head in
-        let ok : InRange h = record { places = x .0 .places-bounds; curves = x .0 .curves-bounds; tests = x .0 .tests-bound; method = x .1 } in
+        let ok : InRange h =
+        record { places = x .0 .places-bounds; booked = x .0 .booked-bound; curves = x .0 .curves-bounds; tests = x .0 .tests-bound; method = x .1 } in
         let z : recordBytes (j .wants) ≡ recordBytes (j .wants) ++ [] = sym (append-nil (recordBytes (j .wants))) in
         let r = records-back (j .rig .curves) (x .0 .curves-bounds .1) (length (headBytes (valuesOf h))) [] (j .wants) [] (x .0 .own-curves) in
-        rw (head-back h (recordBytes (j .wants)) (range-in h ok), z, r) refl
+        rw (head-back h (recordBytes (j .wants)) (range-in h ok) (ok .booked), z, r) refl
 
 -- ---- read, then written
 
@@ -114,7 +115,14 @@ job-written h ws bs ok count known bytes =
     ∙ ap done same
   where
     is-job : IsJob (jobOf (h .rig) ws)
-    is-job = record { places-bounds = ok .places; curves-bounds = ok .curves; tests-bound = omega (arith, ok .tests); own-curves = known }
+    is-job =
+        record {
+          places-bounds = ok .places;
+          booked-bound = ok .booked;
+          curves-bounds = ok .curves;
+          tests-bound = omega (arith, ok .tests);
+          own-curves = known;
+        }
 
     head : _≡_ {A = Head} (record { rig = h .rig; tests = length ws; method = h .method }) h
     head i = record { rig = h .rig; tests = count i; method = h .method }
@@ -136,7 +144,7 @@ pub job-read : (bs : List ℕ) (q : Request) → Bytes bs → readBytes bs ≡ d
 unfolding readBytes
 job-read bs q all e =
     let x = bind-done (readHead bs) _ q e in
-    let H = head-read bs (x .0) (x .1) .exact all in
+    let H = head-read bs (x .0) (x .1) all in
     let h = x .0 .value in
     let y = bind-done (readRecords (h .rig .curves) (h .tests) [] (x .0 .next) (x .0 .rest)) _ q (x .2) in
     let R : RecordsRead (h .rig .curves) (h .tests) [] (x .0 .rest) (y .0) =

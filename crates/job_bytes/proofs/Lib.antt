@@ -11,9 +11,10 @@
 --     SetRoundTrip  a set that is written reads back, and the other way round
 --     HeadRoundTrip the same of a head, by induction over the table of fields
 --     JobRoundTrip  the same of a job
---     JobBounds     how long job bytes are, how large their figures, and that bytes behind the 2,311th change nothing
+--     JobBounds     how long job bytes are, how large their figures, and that bytes behind the 2,312th change nothing
 --     ReadExact     bytes that read give a job
---     ReadRefuses   reading refuses by 1 to 6 only
+--     ReadRefuses   reading refuses by 1 to 4, 6 and 13 only
+--     Booked        13 comes exactly where none of the places is left, with the offset of the booked byte
 pub mod Turns
 pub mod Encoding
 pub mod Front
@@ -29,3 +30,4 @@ pub mod JobRoundTrip
 pub mod JobBounds
 pub mod ReadExact
 pub mod ReadRefuses
+pub mod Booked

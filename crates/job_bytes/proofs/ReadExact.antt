@@ -1,4 +1,4 @@
--- Bytes that read give a job: places, curves and wants within the bounds, a known method, and as many wants as tests.
+-- Bytes that read give a job: places, booked places, curves and wants within the bounds, a known method, and as many wants as tests.
 use mathlib.Core.Path.{_≡_, sym, ap, _∙_}
 use mathlib.Core.List.{List}
 use Prim.Native.Nat.{ℕ, _≤_}

@@ -1,19 +1,32 @@
--- Reading job bytes refuses by 1 to 4 and 6 only.
-use mathlib.Core.Path.{_≡_}
+-- Reading job bytes refuses by 1 to 4, 6 and 13 only.
+use mathlib.Core.Path.{_≡_, refl}
+use mathlib.Core.Logic.{_⊎_, inl, inr}
 use mathlib.Core.List.{List, [], _∷_, _++_}
-use Prim.Native.Nat.{ℕ, zero, suc, _+_, _/_, _%_, _≤_}
+use Prim.Native.Nat.{ℕ, zero, suc, _+_, _-_, _/_, _%_, _≤_}
 use native.Mathlib.Omega.{arith}
 use Rattle.bitset.specs.Set.{_∪_, bit}
 use Rattle.job_bytes.specs.declared.fields.Field.{Field}
-use Rattle.job_bytes.specs.SetBytes.{byteAt, readGroup, readGroups}
-use Rattle.job_bytes.specs.JobBytes.{fields, readNumber, readField, readFields, readHead, readRecord, readRecords, atEnd, readBytes}
-use Rattle.job.proofs.Refuses.{Refuses, refuses-demand, refuses-both, refuses-bind}
+use Rattle.job.specs.declared.Head.{Head}
+use Rattle.job.specs.Refusal.{Outcome, done, _>>=_, _>>_}
+use Rattle.job_bytes.specs.SetBytes.{Got, byteAt, readGroup, readGroups}
+use Rattle.job_bytes.specs.JobBytes.{fields, readNumber, readField, readFields, headFields, readHead, readRecord, readRecords, atEnd}
+use Rattle.job_bytes.specs.JobBytes.{Request, readBytes}
+use Rattle.job.specs.Handed.{bookedBelow}
+use Rattle.job.proofs.Refuses.{Refuses, refuses-more, refuses-demand, refuses-both, refuses-bind}
+
+-- all but 13
+abbrev pub ByByte : ℕ → ℕ → Type 0
+ByByte k i = (1 ≤ k) × (k ≤ 6) × (k ≡ 5 → ⊥)
 
 abbrev pub ByReading : ℕ → ℕ → Type 0
-ByReading k i = (1 ≤ k) × (k ≤ 6) × (k ≡ 5 → ⊥)
+ByReading k i = ByByte k i ⊎ (k ≡ 13)
+
+pub number-between : (k i : ℕ) → ByReading k i → (1 ≤ k) × (k ≤ 13)
+number-between k i (inl n) = (n .0, omega (arith, n .1))
+number-between k i (inr n) = (omega (arith, n), omega (arith, n))
 
 abbrev P : ℕ → ℕ → Type 0
-P = ByReading
+P = ByByte
 
 byte : (k i : ℕ) (bs : List ℕ) → P k i → Refuses P (byteAt k i bs)
 unfolding byteAt
@@ -39,9 +52,9 @@ all-fields [] map values i bs = tt
 all-fields (f ∷ fs) map values i bs =
     refuses-bind P _ _ (field f (map % 2) i bs) (λ v e. all-fields fs (map / 2) (values ++ (v .value ∷ [])) (v .next) (v .rest))
 
-head : (bs : List ℕ) → Refuses P (readHead bs)
-unfolding readHead
-head bs =
+pub table : (bs : List ℕ) → Refuses P (headFields bs)
+unfolding headFields
+table bs =
     refuses-bind P (byteAt 1 0 bs) _ (byte 1 0 bs (omega arith, omega arith, λ e. omega arith))
     (λ m e. refuses-both P _ _ (refuses-demand P _ 2 0 (omega arith, omega arith, λ e. omega arith))
     (refuses-bind P _ _ (all-fields fields (m .value) [] (m .next) (m .rest)) (λ r e. tt)))
@@ -74,10 +87,22 @@ unfolding atEnd
 end i [] = tt
 end i (b ∷ bs) = (omega arith, omega arith, λ e. omega arith)
 
--- READING REFUSES BY 1 TO 4 AND 6
+-- what comes behind a head
+abbrev pub behindHead : Got Head → Outcome Request
+behindHead h =
+    _>>=_ (readRecords (h .value .rig .curves) (h .value .tests) [] (h .next) (h .rest))
+    (λ r. _>>_ (atEnd 6 (r .next) (r .rest)) (done (record { head = h .value; wants = r .value })))
+
+pub tests : (h : Got Head) → Refuses P (behindHead h)
+tests h =
+    refuses-bind P _ _ (records (h .value .rig .curves) (h .value .tests) [] (h .next) (h .rest))
+    (λ r e. refuses-both P _ _ (end (r .next) (r .rest)) tt)
+
+-- READING REFUSES BY 1 TO 4, 6 AND 13
 pub read-refuses : (bs : List ℕ) → Refuses ByReading (readBytes bs)
-unfolding readBytes
+unfolding readBytes readHead bookedBelow
 read-refuses bs =
-    refuses-bind P (readHead bs) _ (head bs)
-    (λ h e. refuses-bind P _ _ (records (h .value .rig .curves) (h .value .tests) [] (h .next) (h .rest))
-    (λ r e. refuses-both P _ _ (end (r .next) (r .rest)) tt))
+    refuses-bind ByReading (readHead bs) _
+    (refuses-bind ByReading (headFields bs) _ (refuses-more P ByReading (headFields bs) (λ k i. inl) (table bs))
+    (λ h e. refuses-both ByReading _ _ (refuses-demand ByReading _ 13 (h .next - 1) (inr refl)) tt))
+    (λ h e. refuses-more P ByReading (behindHead h) (λ k i. inl) (tests h))

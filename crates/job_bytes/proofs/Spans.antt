@@ -1,17 +1,21 @@
 -- How far a reading goes: from offset i of the whole bytes bs it takes at most w bytes and stays within them, and a refusal's figure points into that part
 -- or to its end.
-use mathlib.Core.Path.{_≡_, refl, sym, subst}
+use mathlib.Core.Path.{_≡_, refl, sym, ap, subst}
 use mathlib.Core.Bool.{Bool, true, false}
 use mathlib.Core.List.{List, [], _∷_, _++_}
-use Prim.Native.Nat.{ℕ, zero, suc, _+_, _*_, _/_, _%_, _≤_}
+use Prim.Native.Nat.{ℕ, zero, suc, _+_, _-_, _*_, _/_, _%_, _^_, _≤_}
 use native.Mathlib.Omega.{arith}
 use native.Mathlib.Decide.{decLe}
+use lib.Dec.{ltb}
 use lib.ListN.{length, getD, drop}
 use Rattle.bitset.specs.Set.{_∪_, bit}
+use Rattle.job.specs.declared.Head.{Head}
 use Rattle.job.specs.Refusal.{Outcome, done, refused, _>>=_, _>>_, demand}
+use Rattle.job.specs.Handed.{bookedBelow}
 use Rattle.job_bytes.specs.declared.fields.Field.{Field}
 use Rattle.job_bytes.specs.SetBytes.{Got, got, byteAt, readGroup, readGroups}
-use Rattle.job_bytes.specs.JobBytes.{fields, readNumber, readField, readFields, readHead, readRecord, readRecords}
+use Rattle.job_bytes.specs.JobBytes.{fields, readNumber, readField, readFields, headFields, readHead, readRecord, readRecords}
+use Rattle.job.proofs.Laws.{refused≢done, done-same, both-done, bind-done}
 use Rattle.job_bytes.proofs.Turns.{byte-there, byte-none}
 
 -- what was read ends at `next`, and `rest` is what stands behind it
@@ -101,12 +105,16 @@ module _ (bs : List ℕ) where
   fields-span [] map vs i l = span-stop i bs vs l
   fields-span (f ∷ fs) map vs i l = span-bind (f .width) (widths fs) _ (field-span f (map % 2) i l) (λ v n a m. fields-span fs (map / 2) (vs ++ (v ∷ [])) n m)
 
-  -- a head takes at most 6 bytes
-  pub head-span : Spans 6 0 bs (readHead bs)
-  unfolding readHead fields
-  head-span =
-      span-bind 1 5 _ (byte-span 1 0 (omega arith))
-      (λ map n a m. span-test _ 2 0 (omega arith) m (span-bind 5 0 _ (fields-span fields map [] n m) (λ r n a m. span-stop n bs _ m)))
+  -- a head takes at most 7 bytes
+  pub table-span : Spans 7 0 bs (headFields bs)
+  unfolding headFields fields
+  table-span =
+      span-bind 1 6 _ (byte-span 1 0 (omega arith))
+      (λ map n a m. span-test _ 2 0 (omega arith) m (span-bind 6 0 _ (fields-span fields map [] n m) (λ r n a m. span-stop n bs _ m)))
+
+  pub head-span : Spans 7 0 bs (readHead bs)
+  unfolding readHead bookedBelow
+  head-span = span-bind 7 0 _ table-span (λ h n a m. span-test _ 13 (n - 1) (omega arith) m (span-stop n bs h m))
 
   module _ (owed empty unknown curves : ℕ) where
     group-span : (d j i : ℕ) → i ≤ length bs → Spans 1 i bs (readGroup owed empty unknown curves d j i (drop i bs))
@@ -131,3 +139,13 @@ module _ (bs : List ℕ) where
   records-span curves zero wants i l = span-stop i bs wants l
   records-span curves (suc k) wants i l =
       span-longer (omega arith) (span-bind 9 (9 * k) _ (record-span curves i l) (λ r n a m. records-span curves k (wants ++ (r ∷ [])) n m))
+
+-- .. and at least its map
+pub head-some : (bs : List ℕ) (g : Got Head) → headFields bs ≡ done g → 1 ≤ g .next
+unfolding headFields byteAt _>>=_
+head-some [] g e = absurd (refused≢done e)
+head-some (M ∷ bs) g e =
+    let m = both-done (demand (ltb M (2 ^ length fields)) 2 0) _ g e in
+    let x = bind-done (readFields fields M [] 1 bs) _ g (m .1) in
+    let s = span-done (subst (Spans (widths fields) 1 (M ∷ bs)) (x .1) (fields-span (M ∷ bs) fields M [] 1 (omega arith))) in
+    omega (arith, s .after, ap (λ (g : Got Head). g .next) (done-same (x .2)))

@@ -1,13 +1,13 @@
 -- "Job bytes": the first byte is a bit map; then only the fields whose bit stands, in bit order; then one record for each test.
 use mathlib.Core.Bool.{cond, not, _&&_}
 use mathlib.Core.List.{List, [], _∷_, _++_, foldr, zipWith, flatten}
-use Prim.Native.Nat.{ℕ, zero, suc, _+_, _*_, _/_, _%_, _^_}
+use Prim.Native.Nat.{ℕ, zero, suc, _+_, _-_, _*_, _/_, _%_, _^_}
 use lib.ListN.{length, getD}
 use lib.Dec.{ltb, eqb}
 use Rattle.job.specs.declared.Head.{Head}
 use Rattle.job.specs.Refusal.{Outcome, done, refused, _>>=_, _>>_, mapped, demand, room, fitting, leaves}
 use Rattle.job.specs.Words.{Job, jobOf}
-use Rattle.job.specs.Handed.{between, jobKnownBy}
+use Rattle.job.specs.Handed.{between, bookedBelow, jobKnownBy}
 use Rattle.job_bytes.specs.declared.fields.Field.{Field}
 use Rattle.job_bytes.specs.SetBytes.{setBytes, Got, got, byteAt, readGroups}
 
@@ -28,9 +28,10 @@ request method j = record { head = record { rig = j .rig; tests = length (j .wan
 abbrev field : (width low high absent : ℕ) → Field
 field w l h a = record { width = w; low = l; high = h; absent = a }
 
--- "0 | places, 1 byte | 1..64 | 8", "1 | curves, 1 byte | 1..64 | 64", "2 | tests, 2 bytes | 1..256 | 0", "3 | method, 1 byte | 1..3 | 0"
+-- "0 | places, 1 byte | 1..64 | 8", "1 | curves, 1 byte | 1..64 | 64", "2 | tests, 2 bytes | 1..256 | 0", "3 | method, 1 byte | 1..3 | 0"; 02, wish 5: "Head bit
+-- 4 is a byte of booked places, 1..63, absent 0"
 unfoldable pub fields : List Field
-fields = field 1 1 64 8 ∷ field 1 1 64 64 ∷ field 2 1 256 0 ∷ field 1 1 3 0 ∷ []
+fields = field 1 1 64 8 ∷ field 1 1 64 64 ∷ field 2 1 256 0 ∷ field 1 1 3 0 ∷ field 1 1 63 0 ∷ []
 
 -- ---- read
 
@@ -59,19 +60,27 @@ readFields (f ∷ fs) map vs i bs = do
 
 -- the head of its fields' values, in bit order
 abbrev pub headOf : List ℕ → Head
-headOf vs = record { rig = record { places = getD vs 0 0; curves = getD vs 1 0 }; tests = getD vs 2 0; method = getD vs 3 0 }
+headOf vs = record { rig = record { places = getD vs 0 0; booked = getD vs 4 0; curves = getD vs 1 0 }; tests = getD vs 2 0; method = getD vs 3 0 }
 
 -- .. and the values of a head
 abbrev pub valuesOf : Head → List ℕ
-valuesOf h = h .rig .places ∷ h .rig .curves ∷ h .tests ∷ h .method ∷ []
+valuesOf h = h .rig .places ∷ h .rig .curves ∷ h .tests ∷ h .method ∷ h .rig .booked ∷ []
 
--- "The first byte is a bit map"; "Bits 4 to 7 are zero": those of no field
-unfoldable pub readHead : List ℕ → Outcome (Got Head)
-readHead bs = do
+-- "The first byte is a bit map"; those bits are zero that are of no field: 5 to 7
+unfoldable pub headFields : List ℕ → Outcome (Got Head)
+headFields bs = do
   map ← byteAt 1 0 bs
   demand (ltb (map .value) (2 ^ length fields)) 2 0
   r ← readFields fields (map .value) [] (map .next) (map .rest)
   done (got (headOf (r .value)) (r .next) (r .rest))
+
+-- wish 5: "13, booked not below places, with the byte's offset after its range check": it is the last byte of the head. (Where it is absent none are booked,
+-- and there is at least one place.)
+unfoldable pub readHead : List ℕ → Outcome (Got Head)
+readHead bs = do
+  h ← headFields bs
+  bookedBelow (h .value .rig) (h .next - 1)
+  done h
 
 -- "a group map, ..; No group byte is zero.": 1 where a byte is owed, 3 for a zero byte, 4 for a curve that the job lacks
 unfoldable pub readRecord : ℕ → ℕ → List ℕ → Outcome (Got ℕ)
@@ -91,7 +100,7 @@ unfoldable pub atEnd : ℕ → ℕ → List ℕ → Outcome (Unit {0})
 atEnd k i [] = done tt
 atEnd k i (b ∷ bs) = refused k i
 
--- "Job bytes: head map, each field, .. records in byte order, 6"; 02, wish 3: "A job with no tests now reads"
+-- "Job bytes: head map, each field, .. records in byte order, 6", with 13 behind the fields; 02, wish 3: "A job with no tests now reads"
 unfoldable pub readBytes : List ℕ → Outcome Request
 readBytes bs = do
   h ← readHead bs
@@ -136,7 +145,7 @@ recordBytes (w ∷ ws) = setBytes w ++ recordBytes ws
 unfoldable pub jobBytes : Request → List ℕ
 jobBytes q = headBytes (valuesOf (q .head)) ++ recordBytes (q .wants)
 
--- "writing a job 9", after 10
+-- "writing a job 9", after 10 and 13
 unfoldable pub writeJob : ℕ → Job → ℕ → Outcome (List ℕ)
 writeJob method j lent = do
   jobKnownBy method j

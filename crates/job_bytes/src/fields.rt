@@ -14,7 +14,7 @@ pub struct Field {
 }
 
 // How many there are, and how many maps they have: one bit each.
-pub const FIELDS: usize = 4;
+pub const FIELDS: usize = 5;
 
 pub const MAPS: usize = 1 << FIELDS;
 
@@ -45,6 +45,13 @@ const TABLE: [Field; FIELDS] = [
         width: 1,
         low: 1,
         high: 3,
+        absent: 0,
+    },
+    // 4: booked places (02, wish 5)
+    Field {
+        width: 1,
+        low: 1,
+        high: 63,
         absent: 0,
     },
 ];

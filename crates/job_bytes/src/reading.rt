@@ -9,7 +9,7 @@ ghost use Rattle.lists.specs.Lent.{was, after};
 ghost use Rattle.job.specs.Handed.{between};
 ghost use Rattle.job.specs.Refusal.{done, mapped, readOutcome, countOutcome};
 ghost use Rattle.job_bytes.specs.SetBytes.{Got, got};
-ghost use Rattle.job_bytes.specs.JobBytes.{fields, readNumber, readField, headOf, readHead, readRecords, readJobAnswer, readJobWants};
+ghost use Rattle.job_bytes.specs.JobBytes.{fields, readNumber, readField, headOf, headFields, readHead, readRecords, readJobAnswer, readJobWants};
 use crate::fields::FIELDS;
 use crate::fields::Field;
 use crate::fields::MAPS;
@@ -22,6 +22,7 @@ use job::Head;
 use job::JobRead;
 use job::Refusal;
 use job::Rig;
+use job::examine_capacity;
 
 // "Two-byte numbers have the low byte first": the number of so many bytes at a position.
 fn number_at(job: &[u8], at: usize, width: usize) -> usize
@@ -72,12 +73,13 @@ fn read_field(job: &[u8], at: usize, stands: usize, field: Field) -> Counted
 
 // A head of its fields' values.
 fn head_of(values: &[usize]) -> Head
-    requires { ⌜ 4 ≤ length (now values) ⌝ }
+    requires { ⌜ 5 ≤ length (now values) ⌝ }
     ensures { λ r. ⌜ r ≡ headOf (was values) ⌝ }
 {
     Head {
         rig: Rig {
             places: values[0],
+            booked: values[4],
             curves: values[1],
         },
         tests: values[2],
@@ -86,9 +88,9 @@ fn head_of(values: &[usize]) -> Head
 }
 
 // The head: "The first byte is a bit map; then only the fields whose bit stands, in bit order." Their values go to `values`; answers where the head ends.
-fn read_head(job: &[u8], values: &mut [usize]) -> Counted
+fn read_fields(job: &[u8], values: &mut [usize]) -> Counted
     requires { ⌜ length (now values) ≡ length fields ⌝ }
-    ensures { λ r. ⌜ readHead (was job) ≡ mapped (λ n. got (headOf (after values)) n (drop n (was job))) (countOutcome r) ⌝ }
+    ensures { λ r. ⌜ headFields (was job) ≡ mapped (λ n. got (headOf (after values)) n (drop n (was job))) (countOutcome r) ⌝ }
 {
     if job.len() == 0 {
         return Counted::Refused(Refusal::Truncated(0));
@@ -212,8 +214,15 @@ pub fn read_job(job: &[u8], wants: &mut [u64]) -> JobRead
     ensures lent { λ _. ⌜ after wants ≡ readJobWants (was job) (was wants) ⌝ }
 {
     let mut values = [0usize; FIELDS];
-    match read_head(job, &mut values) {
+    match read_fields(job, &mut values) {
         Counted::Refused(r) => JobRead::Refused(r),
-        Counted::Count(start) => read_tests(job, head_of(&values), start, wants),
+        Counted::Count(start) => {
+            let head = head_of(&values);
+            // 13, at the last byte of the head
+            if let Examined::Refused(r) = examine_capacity(head.rig, start - 1) {
+                return JobRead::Refused(r);
+            }
+            read_tests(job, head, start, wants)
+        }
     }
 }

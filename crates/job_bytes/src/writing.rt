@@ -104,7 +104,7 @@ pub fn write_job(rig: Rig, method: usize, wants: &[u64], out: &mut [u8]) -> Coun
     if let Examined::Refused(r) = examine_job(rig, method, wants) {
         return Counted::Refused(r);
     }
-    let values = [rig.places, rig.curves, wants.len(), method];
+    let values = [rig.places, rig.curves, wants.len(), method, rig.booked];
     let head = head_shape(&values);
     let mut bytes = [0u8; MOST_BYTES];
     put_head(&values, head.map, &mut bytes);

@@ -15,9 +15,9 @@ ghost use Rattle.ordering.specs.Ordering.{orderAnswer, orderList};
 mod growing;
 
 // The order of the method.
-fn write_order(places: usize, method: usize, wants: &[u64], order: &mut [u16])
+fn write_order(capacity: usize, method: usize, wants: &[u64], order: &mut [u16])
     requires { ⌜ (length (now wants) ≤ 256) × (length (now wants) ≤ length (now order)) ⌝ }
-    ensures { λ _. ⌜ after order ≡ overwritten (orderBy method places (was wants)) (was order) ⌝ }
+    ensures { λ _. ⌜ after order ≡ overwritten (orderBy method capacity (was wants)) (was order) ⌝ }
 {
     if method == 0 {
         packages::listed_order(wants.len(), order);
@@ -31,7 +31,7 @@ fn write_order(places: usize, method: usize, wants: &[u64], order: &mut [u16])
         growing::spanning_tree(wants, order);
         return;
     }
-    packages::package_order(places, wants, order);
+    packages::package_order(capacity, wants, order);
 }
 
 // Orders the tests: "10 in its own order, then for ordering 7, 9". Answers the number of tests, which are in the first entries of the lent list; nothing
@@ -47,6 +47,7 @@ pub fn order_tests(rig: Rig, method: usize, wants: &[u64], order: &mut [u16]) ->
     if order.len() < n {
         return Counted::Refused(Refusal::BufferTooSmall(n));
     }
-    write_order(rig.places, method, wants, order);
+    let capacity = job::capacity(rig);
+    write_order(capacity, method, wants, order);
     Counted::Count(n)
 }

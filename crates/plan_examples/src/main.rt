@@ -15,6 +15,7 @@ fn furthest_use() -> bool
     match planning::plan(
         Rig {
             places: 2,
+            booked: 0,
             curves: 64,
         },
         &wants,
@@ -38,6 +39,7 @@ fn nothing_dropped() -> bool
     match planning::plan(
         Rig {
             places: 2,
+            booked: 0,
             curves: 64,
         },
         &wants,
@@ -61,6 +63,7 @@ fn just_fits() -> bool
     match planning::plan(
         Rig {
             places: 3,
+            booked: 0,
             curves: 64,
         },
         &wants,
@@ -84,6 +87,7 @@ fn too_large() -> bool
     match planning::plan(
         Rig {
             places: 2,
+            booked: 0,
             curves: 64,
         },
         &wants,
@@ -107,6 +111,7 @@ fn repeated_test() -> bool
     match planning::plan(
         Rig {
             places: 2,
+            booked: 0,
             curves: 64,
         },
         &wants,
@@ -130,6 +135,7 @@ fn missing_test() -> bool
     match planning::plan(
         Rig {
             places: 2,
+            booked: 0,
             curves: 64,
         },
         &wants,

@@ -7,6 +7,7 @@ use lib.ListN.{length, take, length-map}
 use Rattle.job.specs.declared.Head.{Head}
 use Rattle.job.specs.declared.Refusal.{Refusal}
 use Rattle.job.specs.Refusal.{Outcome, done, refused, number, figure, _>>=_, _>>_, mapped, leaves}
+use Rattle.job.specs.Words.{capacity}
 use Rattle.job.proofs.Laws.{done-same, bind-done, mapped-done, mapped-refused, leaves-done, done-room}
 use Rattle.job_bytes.specs.JobBytes.{Request, jobIn, readBytes}
 use Rattle.job_bytes.proofs.SetRoundTrip.{Bytes}
@@ -40,7 +41,7 @@ pub record Given (bs : List ℕ) (h : Head) (m end : ℕ) (new : Lists) : Type 0
   pub head : planned .request .head ≡ h
   pub count : m ≡ curveCount (take (h .tests) (new .sets .loads))
   pub few : h .tests ≤ 256
-  pub places : h .rig .places ≤ 64
+  pub room : capacity (h .rig) ≤ 64
   pub method : h .method ≤ 3
   pub order : take (h .tests) (new .order) ≡ planned .order
   pub plan : first (h .tests) (new .sets) end ≡ planned .plan
@@ -112,7 +113,7 @@ module _ (bs : List ℕ) (all : Bytes bs) where
           head = refl;
           count = sym c ∙ ap curveCount (sym (f .loads));
           few = omega (arith, f .read .tests, f .read .is-job .tests-bound);
-          places = f .read .is-job .places-bounds .1;
+          room = omega (arith, f .read .is-job .places-bounds .1);
           method = f .read .method;
           order = f .order;
           plan = rw (f .drops, f .loads, ← d) refl;

@@ -41,7 +41,8 @@ fn order_and_plan(
         return PlanCounted::Refused(r);
     }
     // "planning 8, 7": nothing of it is left, since ordering has asked for 10 and 7, and its order names each test once
-    planning::plan_tests(head.rig.places, wants, &order[..n], drops, loads)
+    let capacity = job::capacity(head.rig);
+    planning::plan_tests(capacity, wants, &order[..n], drops, loads)
 }
 
 // Reading before that.

@@ -104,11 +104,12 @@ module _ (j : Job) (order : List ℕ) (p : Plan) where
   pub check-few : (m : ℕ) → checking j order p ≡ done m → m ≤ 64 * n
   check-few m e =
       let ok = passed m e in
+      let few : capacity (j .rig) ≤ 64 = omega (arith, ok .is-job .places-bounds .1) in
       omega (
         arith,
         check-count m e,
         all-loads ok,
-        loads-few (ok .is-job .places-bounds .1) (ok .steps),
+        loads-few few (ok .steps),
         length-moves (ws ok) (p .drops) (p .loads),
         long ok,
       )

@@ -12,7 +12,7 @@ use Rattle.job.specs.Words.{Job, capacity, IsJob, IsOrder}
 use Rattle.job.specs.Handed.{allCurves, jobKnown}
 use Rattle.job.specs.Order.{orderKnown}
 use Rattle.job.specs.Calls.{checkingKnown}
-use Rattle.job.proofs.Laws.{refused≢done, refused-same}
+use Rattle.job.proofs.Laws.{refused≢done, refused-same, refused-split}
 use Rattle.job.proofs.Faults.{First}
 use Rattle.job.proofs.Refuses.{refuses, HandedRefusal, job-by-refuses}
 use Rattle.job.proofs.OrderExact.{order-refuses}
@@ -37,13 +37,6 @@ pub record Rejected (j : Job) (order : List ℕ) (p : Plan) (i : ℕ) : Type 0 w
       × (FirstFault (capacity (j .rig)) (allCurves (j .rig .curves)) 0 (planMoves j order p) i
       ⊎ ((i ≡ length (j .wants)) × AllKept (capacity (j .rig)) (allCurves (j .rig .curves)) 0 (planMoves j order p)
       × (p .end ≡ heldAtEnd (planSets j order p) → ⊥))))
-
--- a sequence that is refused: its first part is, or the rest
-refused-split : {A B : Type 0} (a : Outcome A) (b : Outcome B) (k i : ℕ) → _>>_ a b ≡ refused k i
-    → (a ≡ refused k i) ⊎ ((x : A) × (a ≡ done x) × (b ≡ refused k i))
-unfolding _>>_
-refused-split (done x) b k i e = inr (x, refl, e)
-refused-split (refused l j) b k i e = inl cc
 
 -- steps that break a rule
 broke : (c : Checked) (i : ℕ) → checkedOutcome c ≡ refused 12 i → c ≡ Breaks i
@@ -97,8 +90,12 @@ module _ (j : Job) (order : List ℕ) (p : Plan) (i : ℕ) where
   unfolding checkingKnown
   known-refuses e = go (refused-split (jobKnown j) _ 12 i e)
     where
+      other : HandedRefusal 12 i → ⊥
+      other (inl k) = omega (arith, k .0)
+      other (inr k) = omega (arith, k .0)
+
       go : (jobKnown j ≡ refused 12 i) ⊎ ((x : Unit {0}) × (jobKnown j ≡ done x) × (orderKnown n order ≡ refused 12 i)) → ⊥
-      go (inl e) = omega (arith, refuses HandedRefusal _ 12 i (job-by-refuses 0 j) e)
+      go (inl e) = other (refuses HandedRefusal _ 12 i (job-by-refuses 0 j) e)
       go (inr x) = omega (arith, refuses (λ k i. k ≡ 8) _ 12 i (order-refuses n [] order) (x .2))
 
   by-end : (endKnown j order p ≡ refused 12 i) ⊎ ((x : Unit {0}) × (endKnown j order p ≡ done x) × (done (curveCount (p .loads)) ≡ refused 12 i))

@@ -9,7 +9,7 @@ use Rattle.job.specs.Refusal.{Outcome, done, refused, _>>=_, _>>_, mapped, dema
 use Rattle.lists.specs.Choice.{keep, choose, bestOf}
 use Rattle.job.specs.Words.{Job, jobOf}
 use Rattle.job.specs.Handed.{between, listed, each, placesKnown, curvesKnown, testsKnown, methodKnown, wantsKnown, wantsFit, numbersKnown}
-use Rattle.job.specs.Handed.{jobKnownBy}
+use Rattle.job.specs.Handed.{bookedBelow, bookedKnown, jobKnownBy}
 use Rattle.job.specs.Order.{orderFrom}
 use Rattle.job.specs.Calls.{checkingKnown, planningKnown}
 use Rattle.drive.specs.Steps.{heldAfter, dropsOf, loadsOf, moves, curveCount}
@@ -20,7 +20,7 @@ use Rattle.planning.specs.Plan.{planOf, heldAtEnd, setLists, inOrder}
 use Rattle.planning.specs.Planning.{ourPlan, planning, planAnswer, setsKnown, checkedOutcome, endKnown, checking}
 
 abbrev job : Job
-job = jobOf (record { places = 2; curves = 3 }) (1 ∷ 2 ∷ 1 ∷ [])
+job = jobOf (record { places = 2; booked = 0; curves = 3 }) (1 ∷ 2 ∷ 1 ∷ [])
 
 abbrev asListed : List ℕ
 asListed = 0 ∷ 1 ∷ 2 ∷ []
@@ -62,8 +62,8 @@ pub record OtherPlans : Type 0 where
 
 pub other-plans : OtherPlans
 unfolding ones inside _>>=_ _>>_ mapped demand room keep choose bestOf between listed each placesKnown curvesKnown testsKnown methodKnown wantsKnown
-    wantsFit numbersKnown jobKnownBy orderFrom checkingKnown planningKnown inOrder heldAfter moves curveCount orBreaks keeps checkFrom later useBy nextUse
-    further chosenBy furthest andThen victims dropsFor planFrom ourPlan planning planAnswer setsKnown checkedOutcome endKnown checking
+    wantsFit numbersKnown bookedBelow bookedKnown jobKnownBy orderFrom checkingKnown planningKnown inOrder heldAfter moves curveCount orBreaks keeps checkFrom
+    later useBy nextUse further chosenBy furthest andThen victims dropsFor planFrom ourPlan planning planAnswer setsKnown checkedOutcome endKnown checking
 other-plans =
     record {
       our-drops = refl;

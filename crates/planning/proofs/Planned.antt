@@ -43,18 +43,18 @@ module _ (r : PlanCounted) (o : Outcome CountEnd) (p : planOutcome r ≡ o) wher
 
 -- ---- without examinations
 
-module _ (places : ℕ) (wants order : List ℕ) (lent : SetLists) where
+module _ (capacity : ℕ) (wants order : List ℕ) (lent : SetLists) where
   abbrev n : ℕ
   n = length order
 
   abbrev plan : List Sets
-  plan = planFrom (furthest 64) places 0 (inOrder wants order)
+  plan = planFrom (furthest 64) capacity 0 (inOrder wants order)
 
   -- the contract of planning without examinations, for an answer and what the lent lists hold afterwards
   abbrev Tests : Outcome CountEnd → SetLists → Type 0
-  Tests answer lists = (answer ≡ testsAnswer places wants order lent) × (lists ≡ testsLists places wants order lent)
+  Tests answer lists = (answer ≡ testsAnswer capacity wants order lent) × (lists ≡ testsLists capacity wants order lent)
 
-  refused-tests : (k i : ℕ) → planTests places wants order lent ≡ refused k i → Tests (refused k i) lent
+  refused-tests : (k i : ℕ) → planTests capacity wants order lent ≡ refused k i → Tests (refused k i) lent
   unfolding testsAnswer testsLists mapped
   refused-tests k i e = (rw e refl, sym (rw (leaves-refused dropsOf _ k i (lent .drops) e, leaves-refused loadsOf _ k i (lent .loads) e) refl))
 
@@ -65,19 +65,19 @@ module _ (places : ℕ) (wants order : List ℕ) (lent : SetLists) where
     pub too-short : entries lent < n → Tests (refused 9 n) lent
     too-short h = refused-tests 9 n (unfold planTests room demand _>>=_ in (done-both _ _ (few-tests n few) ∙ rw (lt-leb n (entries lent) h) refl))
 
-    pub tests-done : n ≤ entries lent → planTests places wants order lent ≡ done plan
+    pub tests-done : n ≤ entries lent → planTests capacity wants order lent ≡ done plan
     unfolding planTests _>>=_
     tests-done h = done-both _ _ (few-tests n few) ∙ rw (done-room (entries lent) n h) refl
 
     -- what was written for steps that want ws, counted in the first entries of the loads, and held at the end
     pub planned : n ≤ entries lent → (ws : List ℕ) (count end : ℕ) (ds ls : List ℕ) → ws ≡ inOrder wants order
-        → end ≡ heldAfter 0 (planFrom (furthest 64) places 0 ws)
-        → ds ≡ sets (lent .drops) 0 (dropsOf (planFrom (furthest 64) places 0 ws)) → ls ≡ sets (lent .loads) 0 (loadsOf (planFrom (furthest 64) places 0 ws))
+        → end ≡ heldAfter 0 (planFrom (furthest 64) capacity 0 ws)
+        → ds ≡ sets (lent .drops) 0 (dropsOf (planFrom (furthest 64) capacity 0 ws)) → ls ≡ sets (lent .loads) 0 (loadsOf (planFrom (furthest 64) capacity 0 ws))
         → count ≡ curveCount (take n ls) → Tests (done (record { count = count; end = end })) (setLists ds ls)
     unfolding testsAnswer testsLists mapped
     planned h ws count end ds ls e x d l c =
         let p = tests-done h in
-        let long : length plan ≡ n = length-plan (furthest 64) places 0 (inOrder wants order) ∙ length-inOrder wants order in
+        let long : length plan ≡ n = length-plan (furthest 64) capacity 0 (inOrder wants order) ∙ length-inOrder wants order in
         let nd : length (dropsOf plan) ≡ n = length-map plan (λ s. s .drops) ∙ long in
         let nl : length (loadsOf plan) ≡ n = length-map plan (λ s. s .loads) ∙ long in
         let wd : ds ≡ overwritten (dropsOf plan) (lent .drops) = rw e at d ∙ sets-whole (dropsOf plan) (lent .drops) (omega arith) in

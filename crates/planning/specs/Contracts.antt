@@ -8,13 +8,13 @@ use Rattle.drive.specs.declared.Sets.{Sets}
 use Rattle.drive.specs.Plan.{furthest, planFrom}
 use Rattle.planning.specs.Plan.{handed, SetLists, entries, leavesPlan, CountEnd, countEnd, inOrder}
 
-module _ (places : ℕ) (wants order : List ℕ) (lent : SetLists) where
+module _ (capacity : ℕ) (wants order : List ℕ) (lent : SetLists) where
   -- 10 and 9, of the lists alone
   unfoldable pub planTests : Outcome (List Sets)
   planTests = do
     testsKnown (length order)
     _ ← room (entries lent) (length order)
-    done (planFrom (furthest 64) places 0 (inOrder wants order))
+    done (planFrom (furthest 64) capacity 0 (inOrder wants order))
 
   -- what it answers
   unfoldable pub testsAnswer : Outcome CountEnd

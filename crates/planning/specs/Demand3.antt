@@ -1,4 +1,5 @@
--- DEMAND 3, the statement, with the end sets of 02, wish 1.
+-- DEMAND 3, the statement, with the end sets of 02, wish 1, and the booked places of wish 5: "The plans compared for fewest loads all fit the reduced figure,
+-- and a job in demand 3 has fewer booked than places" (`checking` and `IsJob`).
 use mathlib.Core.Path.{_≡_}
 use mathlib.Core.Logic.{_↔_}
 use mathlib.Core.List.{List}
@@ -26,7 +27,7 @@ pub record Demand3 (j : Job) (order : List ℕ) (answer : Outcome CountEnd) (lis
   pub least : (a : CountEnd) → answer ≡ done a → (other : Plan) (m : ℕ) → checking j order other ≡ done m → a .count ≤ curveCount (other .loads)
   -- "and drops equal loads": in every plan that the check passes, ours among them, drops and end set together have as many curves as the loads
   pub balanced : (other : Plan) (m : ℕ) → checking j order other ≡ done m → curveCount (other .drops) + size (other .end) ≡ curveCount (other .loads)
-  -- for every job and every order of it, with lists long enough, a plan is missing exactly where some test wants more curves than there are places
+  -- for every job and every order of it, with lists long enough, a plan is missing exactly where some test wants more curves than there are places less booked
   pub missing : IsJob j → IsOrder (length (j .wants)) order → length (j .wants) ≤ entries lists
       → ((number : ℕ) × (figure : ℕ) × (answer ≡ refused number figure)) ↔
       ((t : ℕ) × (t < length (j .wants)) × (capacity (j .rig) < size (getD (j .wants) t 0)))

@@ -1,4 +1,4 @@
--- Planning and checking: "planning 8, 7, 9"; "checking 8, 12", after 10; with the end set of 02, wish 1.
+-- Planning and checking: "planning 8, 7, 9"; "checking 8, 12", after 10 and 13; with the end set of 02, wish 1.
 use mathlib.Core.Bool.{_&&_}
 use mathlib.Core.List.{List}
 use Prim.Native.Nat.{ℕ, min}

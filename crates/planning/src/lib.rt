@@ -67,8 +67,8 @@ fn count_curves(sets: &[u64]) -> usize
     count
 }
 
-// Whether a plan from anywhere keeps the rules: its load count, or the first fault. "checking 8, 12", after 10; 02, wish 1: "The check fails a plan whose
-// end set is not what is held, with the number of tests as its step."
+// Whether a plan from anywhere keeps the rules: its load count, or the first fault. "checking 8, 12", after 10 and 13; 02, wish 1: "The check fails a plan
+// whose end set is not what is held, with the number of tests as its step."
 pub fn check_plan(
     rig: Rig,
     wants: &[u64],
@@ -89,8 +89,9 @@ pub fn check_plan(
     let mut steps = [0u64; job::MOST_TESTS];
     in_order(wants, order, &mut steps);
     let all = bitset::below(rig.curves);
+    let capacity = job::capacity(rig);
     // "The drive is empty before step 0."
-    match drive::check_steps(rig.places, all, 0, &steps[..tests], drops, loads) {
+    match drive::check_steps(capacity, all, 0, &steps[..tests], drops, loads) {
         Checked::Breaks(i) => Counted::Refused(Refusal::PlanRejected(i)),
         Checked::Ends(held) => {
             if end != held {
@@ -104,14 +105,14 @@ pub fn check_plan(
 // Our plan for wants and an order that were examined before, into the first entries of the drops and loads lent; answers the load count and the end set. 10 for
 // more than 256 tests, and 9.
 pub fn plan_tests(
-    places: usize,
+    capacity: usize,
     wants: &[u64],
     order: &[u16],
     drops: &mut [u64],
     loads: &mut [u64],
 ) -> PlanCounted
-    ensures answer { λ r. ⌜ planOutcome r ≡ testsAnswer places (was wants) (was order) (setLists (was drops) (was loads)) ⌝ }
-    ensures lists { λ _. ⌜ setLists (after drops) (after loads) ≡ testsLists places (was wants) (was order) (setLists (was drops) (was loads)) ⌝ }
+    ensures answer { λ r. ⌜ planOutcome r ≡ testsAnswer capacity (was wants) (was order) (setLists (was drops) (was loads)) ⌝ }
+    ensures lists { λ _. ⌜ setLists (after drops) (after loads) ≡ testsLists capacity (was wants) (was order) (setLists (was drops) (was loads)) ⌝ }
 {
     let tests = order.len();
     if job::MOST_TESTS < tests {
@@ -126,11 +127,11 @@ pub fn plan_tests(
     let mut steps = [0u64; job::MOST_TESTS];
     in_order(wants, order, &mut steps);
     // "The drive is empty before step 0." Wish 1: the end step "drops all that is held".
-    let held = drive::plan_steps(places, 0, &steps[..tests], drops, loads);
+    let held = drive::plan_steps(capacity, 0, &steps[..tests], drops, loads);
     PlanCounted::Count(count_curves(&loads[..tests]), held)
 }
 
-// Our plan for one job and one order of its tests. "planning 8, 7, 9", after 10.
+// Our plan for one job and one order of its tests. "planning 8, 7, 9", after 10 and 13.
 pub fn plan(
     rig: Rig,
     wants: &[u64],
@@ -145,5 +146,6 @@ pub fn plan(
     if let Examined::Refused(r) = job::examine_planning(rig, wants, order) {
         return PlanCounted::Refused(r);
     }
-    plan_tests(rig.places, wants, order, drops, loads)
+    let capacity = job::capacity(rig);
+    plan_tests(capacity, wants, order, drops, loads)
 }

@@ -30,7 +30,7 @@ use Rattle.planning.proofs.Turns.{length-inOrder}
 use Rattle.plan_bytes.specs.PlanBytes.{Contents, testsOf, planIn, readPlanBytes, planSteps}
 use Rattle.plan_bytes.proofs.ReadPlan.{plan-count}
 use Rattle.plan_bytes.proofs.PlanBounds.{plan-figure, plan-eleven}
-use Rattle.job_bytes.proofs.ReadRefuses.{ByReading, read-refuses}
+use Rattle.job_bytes.proofs.ReadRefuses.{ByReading, number-between, read-refuses}
 use Rattle.report.specs.Report.{text, decimal, printed}
 use Rattle.report.specs.Audit.{Audit, auditSteps, auditPlan, audit, auditText, writeAudit}
 use Rattle.report.proofs.Digits.{decimal-length}
@@ -42,7 +42,7 @@ use Rattle.report.proofs.Fewest.{passed-planned, audit-says, audit-fewe
 
 -- of the job: what reading refuses by, with an offset or the input length
 abbrev pub OfJob : ℕ → ℕ → Type 0
-OfJob k i = ByReading k i × (i ≤ 2310)
+OfJob k i = ByReading k i × (i ≤ 2311)
 
 -- of the plan: 8 with a position, 11 with an offset or the input length, 12 with a step
 abbrev pub OfPlan : ℕ → ℕ → Type 0
@@ -119,7 +119,7 @@ module _ (j : Request) (r : ReadJob j) where
       (arith, steps-count c t plan ss e, length-map (ss .steps) (λ s. s .step .test), r .tests, r .is-job .tests-bound)))
       (λ m f. rw (passed-planned (jobIn j) (testsOf ss) (planIn ss) m f t (omega (arith, r .tests))) tt))
 
--- A REFUSED JOB has a number from 1 to 4, or 6 ..
+-- A REFUSED JOB has a number from 1 to 4, 6 or 13 ..
 pub audit-job-refuses : (job plan : List ℕ) → Refuses OfJob (audit job plan)
 unfolding audit
 audit-job-refuses job plan = refuses-mapped OfJob (λ j. auditPlan j plan) (readBytes job) (go (readBytes job) refl)
@@ -151,7 +151,7 @@ refusal-short k i p q =
 
 job-short : (k i : ℕ) → OfJob k i → length (auditText (refused k i)) ≤ 128
 unfolding auditText
-job-short k i r = omega (arith, refusal-short k i (omega arith) (omega arith))
+job-short k i r = omega (arith, refusal-short k i (omega (arith, number-between k i (r .0) .1)) (omega arith))
 
 plan-short : (k i : ℕ) → OfPlan k i → length (auditText (done (refused k i))) ≤ 128
 unfolding auditText text

@@ -21,16 +21,16 @@ few bs j e = of (subst (Bounded bs) e (read-bounded bs))
     of : {j : Request} → Bounded bs (done j) → j .head .tests ≤ 256
     of (read j l t) = t
 
-job-prefix : (n : ℕ) (bs : List ℕ) → 2311 ≤ n → readBytes (take n bs) ≡ readBytes bs
-job-prefix n bs l = sym (prefix-reads (take n bs)) ∙ ap readBytes (take-take 2311 n bs l) ∙ prefix-reads bs
+job-prefix : (n : ℕ) (bs : List ℕ) → 2312 ≤ n → readBytes (take n bs) ≡ readBytes bs
+job-prefix n bs l = sym (prefix-reads (take n bs)) ∙ ap readBytes (take-take 2312 n bs l) ∙ prefix-reads bs
 
--- BYTES BEHIND THE JOB'S 2,311TH never change a sheet ..
-pub sheet-prefix : (n : ℕ) (bs : List ℕ) → 2311 ≤ n → sheet (take n bs) ≡ sheet bs
+-- BYTES BEHIND THE JOB'S 2,312TH never change a sheet ..
+pub sheet-prefix : (n : ℕ) (bs : List ℕ) → 2312 ≤ n → sheet (take n bs) ≡ sheet bs
 unfolding sheet planJob
 sheet-prefix n bs l = rw (job-prefix n bs l) refl
 
 -- .. nor an audit
-pub audit-job-prefix : (n : ℕ) (job plan : List ℕ) → 2311 ≤ n → audit (take n job) plan ≡ audit job plan
+pub audit-job-prefix : (n : ℕ) (job plan : List ℕ) → 2312 ≤ n → audit (take n job) plan ≡ audit job plan
 unfolding audit
 audit-job-prefix n job plan l = rw (job-prefix n job l) refl
 
@@ -43,8 +43,8 @@ audit-plan-prefix n job plan l = go (readBytes job) refl
     go (refused k i) e = unfold mapped in refl
     go (done j) e = unfold mapped auditPlan in rw (prefix-plan (j .head .rig .curves) (j .head .tests) n plan (omega (arith, few job j e))) refl
 
-pub audit-prefix : (job plan : List ℕ) → audit (take 2311 job) (take 5131 plan) ≡ audit job plan
-audit-prefix job plan = audit-job-prefix 2311 job (take 5131 plan) (omega arith) ∙ audit-plan-prefix 5131 job plan (omega arith)
+pub audit-prefix : (job plan : List ℕ) → audit (take 2312 job) (take 5131 plan) ≡ audit job plan
+audit-prefix job plan = audit-job-prefix 2312 job (take 5131 plan) (omega arith) ∙ audit-plan-prefix 5131 job plan (omega arith)
 
 -- a buffer takes enough for f where no byte behind it changes f
 pub enough : {A : Type 0} (f : List ℕ → A) (n : ℕ) (buffer : List ℕ) → ((whole : List ℕ) → f (take (length buffer) whole) ≡ f whole) → Enough f n buffer

@@ -9,6 +9,7 @@ use lib.ListN.{length, getD, drop, length-append}
 use lib.Seq.{drop-cons}
 use Rattle.job.specs.Refusal.{refused}
 use Rattle.job.specs.declared.Head.{Head}
+use Rattle.job.specs.Words.{capacity}
 use Rattle.drive.specs.Steps.{curveCount}
 use Rattle.planning.specs.Plan.{steps}
 use Rattle.report.specs.Report.{text, decimal, setText, stepText, stepsText, endText, headText, planText, printed}
@@ -18,7 +19,7 @@ use Rattle.report.proofs.Curves.{set-length}
 
 pub head-line : (h : Head) (order drops loads : List ℕ) (end : ℕ) →
     headText (shown h order drops loads end)
-    ≡ (decimal (h .tests) ++ text " tests, ") ++ (decimal (h .rig .places) ++ text " places, method ") ++ (decimal (h .method) ++ text "\n")
+    ≡ (decimal (h .tests) ++ text " tests, ") ++ (decimal (capacity (h .rig)) ++ text " places, method ") ++ (decimal (h .method) ++ text "\n")
 unfolding headText
 head-line h order drops loads end = simp append-assoc
 
@@ -78,9 +79,10 @@ lengths₆ a b c d e f = simp length-append
 
 pub head-length : (h : Head) (order drops loads : List ℕ) (end : ℕ) →
     length (headText (shown h order drops loads end))
-    ≡ length (decimal (h .tests) ++ text " tests, ") + length (decimal (h .rig .places) ++ text " places, method ") + length (decimal (h .method) ++ text "\n")
+    ≡ length (decimal (h .tests) ++ text " tests, ") + length (decimal (capacity (h .rig)) ++ text " places, method ")
+    + length (decimal (h .method) ++ text "\n")
 head-length h order drops loads end =
-    rw (head-line h order drops loads end) (lengths₃ (decimal (h .tests) ++ text " tests, ") (decimal (h .rig .places) ++ text " places, method ")
+    rw (head-line h order drops loads end) (lengths₃ (decimal (h .tests) ++ text " tests, ") (decimal (capacity (h .rig)) ++ text " places, method ")
     (decimal (h .method) ++ text "\n"))
 
 pub step-length : (i t d l : ℕ) →
@@ -161,7 +163,7 @@ end-short k n (suc s) h =
     )
 
 -- the whole: of at most 256 steps, all of whose numbers a word holds
-pub plan-word : (h : Head) (order drops loads : List ℕ) (end : ℕ) → h .tests < 2 ^ 64 → h .rig .places < 2 ^ 64 → h .method < 2 ^ 64 → length order ≤ 256
+pub plan-word : (h : Head) (order drops loads : List ℕ) (end : ℕ) → h .tests < 2 ^ 64 → capacity (h .rig) < 2 ^ 64 → h .method < 2 ^ 64 → length order ≤ 256
     → ((j : ℕ) → j < length order → getD order j 0 < 2 ^ 64) → curveCount loads < 2 ^ 64
     → length (planText (shown h order drops loads end)) < 2 ^ 64
 unfolding text
@@ -172,10 +174,10 @@ plan-word h order drops loads end t p m n o c =
       head-length h [] [] [] 0,
       end-short 19 (h .tests) end (omega arith),
       length-append (decimal (h .tests)) (text " tests, "),
-      length-append (decimal (h .rig .places)) (text " places, method "),
+      length-append (decimal (capacity (h .rig))) (text " places, method "),
       length-append (decimal (h .method)) (text "\n"),
       decimal-word (h .tests) t,
-      decimal-word (h .rig .places) p,
+      decimal-word (capacity (h .rig)) p,
       decimal-word (h .method) m,
       loads-length (curveCount loads),
       length-append (decimal (curveCount loads)) (text "\n"),

@@ -17,7 +17,7 @@ use Rattle.job.proofs.Orders.{order-length}
 use Rattle.job.proofs.OrderExact.{own-tests}
 use Rattle.job_bytes.proofs.JobBounds.{figure-short}
 use Rattle.job_bytes.proofs.ReadExact.{ReadJob, read-exact}
-use Rattle.job_bytes.proofs.ReadRefuses.{ByReading, read-refuses}
+use Rattle.job_bytes.proofs.ReadRefuses.{ByReading, number-between, read-refuses}
 use Rattle.job_bytes.proofs.SetRoundTrip.{Bytes}
 use Rattle.ordering.proofs.Complete.{order-complete}
 use Rattle.drive.specs.Steps.{curveCount}
@@ -37,7 +37,7 @@ unfolding printed planText headText
 same-text p = refl
 
 -- a sheet of at most 256 tests: at most 408 bytes for each step, 31 for the head, 206 for the end step and 12 for the load count
-bound : (h : Head) (order drops loads : List ℕ) (end : ℕ) → h .tests < 1000 → h .rig .places < 100 → h .method < 10 → length order ≤ 256
+bound : (h : Head) (order drops loads : List ℕ) (end : ℕ) → h .tests < 1000 → capacity (h .rig) < 100 → h .method < 10 → length order ≤ 256
     → ((j : ℕ) → j < length order → getD order j 0 < 1000) → curveCount loads < 100000
     → length (planText (shown h order drops loads end)) ≤ 105000
 unfolding text
@@ -48,10 +48,10 @@ bound h order drops loads end t p m n o c =
       head-length h [] [] [] 0,
       end-short 2 (h .tests) end (omega arith),
       length-append (decimal (h .tests)) (text " tests, "),
-      length-append (decimal (h .rig .places)) (text " places, method "),
+      length-append (decimal (capacity (h .rig))) (text " places, method "),
       length-append (decimal (h .method)) (text "\n"),
       decimal-length 2 (h .tests) (omega arith),
-      decimal-length 1 (h .rig .places) (omega arith),
+      decimal-length 1 (capacity (h .rig)) (omega arith),
       decimal-length 0 (h .method) (omega arith),
       loads-length (curveCount loads),
       length-append (decimal (curveCount loads)) (text "\n"),
@@ -107,7 +107,7 @@ sheet-longest bs all = go (readBytes bs) refl
     go : (o : Outcome Request) → readBytes bs ≡ o → length (printed (planJob bs)) ≤ 105000
     go (done q) r = fits q r (wantsFit (capacity (q .head .rig)) (q .wants)) refl
     go (refused k i) r =
-        let n = refuses ByReading (readBytes bs) k i (read-refuses bs) r in
+        let n = number-between k i (refuses ByReading (readBytes bs) k i (read-refuses bs) r) in
         rw (unread bs k i r) (refusal-bound k i (omega (arith, n .1)) (omega (arith, figure-short bs k i r .0)))
 
 -- so a buffer of as many bytes takes every sheet

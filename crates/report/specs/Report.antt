@@ -56,7 +56,7 @@ unfoldable pub endText : ℕ → ℕ → List ℕ
 endText n zero = []
 endText n (suc s) = decimal n ++ text ": end drop" ++ setText (suc s) ++ text "\n"
 
--- the first line: "4 tests, 2 places, method 0"
+-- the first line: "4 tests, 2 places, method 0", where 02, wish 5, shows the places less booked
 unfoldable pub headText : Planned → List ℕ
 headText p =
     let h = p .request .head in

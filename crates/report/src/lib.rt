@@ -13,6 +13,7 @@ ghost use Rattle.report.specs.Report.{text, decimal, setText, stepText, 
 ghost use Rattle.report.specs.Report.{sheet, sheetAnswer, sheetBuffer};
 ghost use Rattle.report.specs.Contracts.{Wrote, shown, Filled};
 ghost use Rattle.job.specs.Refusal.{refused, number, figure, countOutcome, overwritten};
+ghost use Rattle.job.specs.Words.{capacity};
 ghost use Rattle.drive.specs.Steps.{curveCount};
 ghost use Rattle.planning.specs.Plan.{steps};
 
@@ -134,13 +135,14 @@ fn put_end(out: &mut [u8], at: usize, position: usize, end: u64) -> usize
     put_byte(out, to, b'\n')
 }
 
-// "test count, places and method"
+// "test count, places and method", the places less booked
 fn put_head(out: &mut [u8], at: usize, head: Head) -> usize
     requires { ⌜ at + length (headText (shown head [] [] [] 0)) < 2 ^ 64 ⌝ }
     ensures { λ r. ⌜ Wrote (was out) at (headText (shown head [] [] [] 0)) (after out) r ⌝ }
 {
+    let capacity = job::capacity(head.rig);
     let mut to = put_number(out, at, head.tests, b" tests, ");
-    to = put_number(out, to, head.rig.places, b" places, method ");
+    to = put_number(out, to, capacity, b" places, method ");
     put_number(out, to, head.method, b"\n")
 }
 
@@ -196,7 +198,7 @@ fn write_plan(
 ) -> Counted
     requires { ⌜ (length (now drops) ≡ length (now order)) × (length (now loads) ≡ length (now order)) ⌝ }
     requires { ⌜ count ≡ curveCount (now loads) ⌝ }
-    requires { ⌜ (head .tests ≤ 256) × (head .rig .places ≤ 64) × (head .method ≤ 3) × (length (now order) ≤ 256) ⌝ }
+    requires { ⌜ (head .tests ≤ 256) × (capacity (head .rig) ≤ 64) × (head .method ≤ 3) × (length (now order) ≤ 256) ⌝ }
     ensures { λ r. ⌜ Filled (planText (shown head (was order) (was drops) (was loads) end)) (was out) (countOutcome r) (after out) ⌝ }
 {
     let mut none = [0u8; 1];

@@ -2,7 +2,7 @@
 //! that does not hold them all, or holds them wrongly, would give another order.
 
 use crate::generate::{
-    all_curves, enough, job_bytes, random_set, Case, Job, FUNCTIONS, PLAN_MADE, SHEET,
+    all_curves, enough, job_bytes, random_set, with_booked, Case, Job, FUNCTIONS, PLAN_MADE, SHEET,
 };
 use crate::random::Random;
 use std::collections::BTreeSet;
@@ -145,8 +145,11 @@ pub fn job(random: &mut Random) -> Job {
         }
     };
     let widest = wants.iter().map(|want| want.count_ones() as usize).max();
+    let capacity = random.between(widest.unwrap_or(0).max(1), 64);
+    let (places, booked) = with_booked(random, capacity);
     Job {
-        places: random.between(widest.unwrap_or(0).max(1), 64),
+        places,
+        booked,
         curves,
         method: 1,
         wants,
@@ -159,6 +162,7 @@ pub fn case(function: usize, random: &mut Random) -> Option<Case> {
         "order_tests" if random.chance(1, 24) => {
             let Job {
                 places,
+                booked,
                 curves,
                 method,
                 wants,
@@ -166,6 +170,7 @@ pub fn case(function: usize, random: &mut Random) -> Option<Case> {
             let order_len = enough(random, wants.len());
             Case::OrderTests {
                 places,
+                booked,
                 curves,
                 method,
                 wants,

@@ -2,8 +2,8 @@
 //! tests, and what is faulty in such a case.
 
 use crate::generate::{
-    self, any_number, any_set, lent, with_ending, Case, Ending, Job, Size, SomePlan, ENDINGS,
-    FUNCTIONS, WILD, WILD_METHODS,
+    self, any_booked, any_number, any_set, lent, with_booked, with_ending, Case, Ending, Job, Size,
+    SomePlan, ENDINGS, FUNCTIONS, WILD, WILD_METHODS,
 };
 use crate::random::Random;
 use crate::reference;
@@ -52,17 +52,21 @@ fn gives_no_tests(job: &[u8]) -> bool {
 // ---------------------------------------------------------------------------------------------
 // Cases
 
-/// The other fields: bit, sound values and others.
+/// The other fields before the booked places: bit, sound values and others.
 const FIELDS: [(u8, &[u8], &[u8]); 3] = [
     (1, &[1, 2, 7, 9, 63, 64], &[0, 8, 65, 255]),
     (2, &[1, 2, 8, 9, 62, 63], &[0, 64, 65, 255]),
     (8, &[1, 2, 3], &[0, 4, 255]),
 ];
 
-/// Job bytes that give no tests: sound, with faulty fields, cut, with a tests field of 0, with a bit
-/// of the map that has no field, with bytes behind, or with two of these faults.
+/// Job bytes that give no tests: sound, with faulty fields, with booked places not below the places,
+/// cut, with a tests field of 0, with a bit of the map that has no field, with bytes behind, or with
+/// two of these faults.
 pub fn job_bytes(random: &mut Random) -> Vec<u8> {
-    let map = random.pick(&[0, 1, 2, 3, 8, 9, 10, 11]);
+    let mut map = random.pick(&[0, 1, 2, 3, 8, 9, 10, 11]);
+    if random.chance(1, 2) {
+        map |= 16;
+    }
     let fault = random.below(10);
     let mut bytes = vec![map];
     for (bit, sound, others) in FIELDS {
@@ -70,6 +74,17 @@ pub fn job_bytes(random: &mut Random) -> Vec<u8> {
             let faulty = fault == 5 && random.chance(2, 3);
             bytes.push(random.pick(if faulty { others } else { sound }));
         }
+    }
+    if map & 16 != 0 {
+        let places = if map & 1 != 0 { bytes[1] } else { 8 };
+        let booked = match fault {
+            5 if random.chance(1, 2) => random.pick(&[0, 64, 65, 255]),
+            4 => random.pick(&[places, places.saturating_add(1), 63]),
+            // One place has none to book.
+            _ if places > 1 => random.between(1, places as usize - 1) as u8,
+            _ => 1,
+        };
+        bytes.push(booked);
     }
     match fault {
         6 => bytes.truncate(random.between(1, bytes.len())),
@@ -81,9 +96,9 @@ pub fn job_bytes(random: &mut Random) -> Vec<u8> {
         _ => {}
     }
     if random.chance(1, 16) {
-        bytes[0] |= 1 << random.between(4, 7);
+        bytes[0] |= 1 << random.between(5, 7);
     }
-    if fault > 7 || fault > 4 && random.chance(1, 3) {
+    if fault > 7 || fault > 3 && random.chance(1, 3) {
         for _ in 0..random.between(1, 3) {
             let byte = random.byte();
             bytes.push(random.pick(&[0, 1, 4, 255, byte]));
@@ -101,10 +116,16 @@ fn number(random: &mut Random, low: usize, high: usize, absent: usize, wild: &[u
     }
 }
 
-/// Places, curves and method, faulty each for itself.
-fn numbers(random: &mut Random) -> (usize, usize, usize) {
+/// Places, booked places, curves and method, faulty each for itself. Half of the time none is booked.
+fn numbers(random: &mut Random) -> (usize, usize, usize, usize) {
+    let places = number(random, 1, 64, 8, &WILD);
+    let booked = match random.below(2) {
+        0 => 0,
+        _ => any_booked(random, places),
+    };
     (
-        number(random, 1, 64, 8, &WILD),
+        places,
+        booked,
         number(random, 1, 64, 64, &WILD),
         number(random, 0, 3, 0, &WILD_METHODS),
     )
@@ -112,8 +133,11 @@ fn numbers(random: &mut Random) -> (usize, usize, usize) {
 
 /// A job within the bounds.
 fn job(random: &mut Random) -> Job {
+    let capacity = random.between(1, 64);
+    let (places, booked) = with_booked(random, capacity);
     Job {
-        places: random.between(1, 64),
+        places,
+        booked,
         curves: random.between(1, 64),
         method: random.below(4),
         wants: vec![],
@@ -201,13 +225,15 @@ pub fn case(function: usize, random: &mut Random) -> Option<Case> {
             wants_len: any_length(random),
         },
         "write_job" => {
-            let (places, curves, method) = numbers(random);
-            let needed = match reference::write_job(places, curves, method, &[], usize::MAX) {
+            let (places, booked, curves, method) = numbers(random);
+            let written = reference::write_job(places, booked, curves, method, &[], usize::MAX);
+            let needed = match written {
                 Ok(bytes) => bytes.len(),
-                Err(_) => random.between(1, 4),
+                Err(_) => random.between(1, 5),
             };
             Case::WriteJob {
                 places,
+                booked,
                 curves,
                 method,
                 wants: vec![],
@@ -215,9 +241,10 @@ pub fn case(function: usize, random: &mut Random) -> Option<Case> {
             }
         }
         "order_tests" => {
-            let (places, curves, method) = numbers(random);
+            let (places, booked, curves, method) = numbers(random);
             Case::OrderTests {
                 places,
+                booked,
                 curves,
                 method,
                 wants: vec![],
@@ -225,9 +252,10 @@ pub fn case(function: usize, random: &mut Random) -> Option<Case> {
             }
         }
         "plan_order" => {
-            let (places, curves, _) = numbers(random);
+            let (places, booked, curves, _) = numbers(random);
             Case::PlanOrder {
                 places,
+                booked,
                 curves,
                 wants: vec![],
                 order: order(random),
@@ -236,9 +264,10 @@ pub fn case(function: usize, random: &mut Random) -> Option<Case> {
             }
         }
         "check_plan" => {
-            let (places, curves, _) = numbers(random);
+            let (places, booked, curves, _) = numbers(random);
             Case::CheckPlan {
                 places,
+                booked,
                 curves,
                 wants: vec![],
                 order: order(random),
@@ -248,9 +277,10 @@ pub fn case(function: usize, random: &mut Random) -> Option<Case> {
             }
         }
         "write_plan" => {
-            let (places, curves, _) = numbers(random);
+            let (places, booked, curves, _) = numbers(random);
             Case::WritePlan {
                 places,
+                booked,
                 curves,
                 wants: vec![],
                 order: order(random),
@@ -310,17 +340,19 @@ pub fn case(function: usize, random: &mut Random) -> Option<Case> {
             }
         }
         "examine" => {
-            let (places, curves, _) = numbers(random);
+            let (places, booked, curves, _) = numbers(random);
             Case::Examine {
                 places,
+                booked,
                 curves,
                 wants: vec![],
             }
         }
         "examine_by" => {
-            let (places, curves, method) = numbers(random);
+            let (places, booked, curves, method) = numbers(random);
             Case::ExamineBy {
                 places,
+                booked,
                 curves,
                 method,
                 wants: vec![],
@@ -331,7 +363,7 @@ pub fn case(function: usize, random: &mut Random) -> Option<Case> {
             tests: 0,
         },
         "examine_sizes" => Case::ExamineSizes {
-            places: any_number(random),
+            capacity: any_number(random),
             wants: vec![],
         },
         "reverse" => Case::Reverse { length: 0 },
@@ -340,7 +372,7 @@ pub fn case(function: usize, random: &mut Random) -> Option<Case> {
             order_len: any_length(random),
         },
         "package_order" => Case::PackageOrder {
-            places: any_number(random),
+            capacity: any_number(random),
             wants: vec![],
             order_len: any_length(random),
         },
@@ -356,13 +388,15 @@ fn outside(number: usize) -> bool {
 }
 
 /// The bytes of a job without tests: the map and the fields that do not hold their absent value.
-pub fn job_length(places: usize, curves: usize, method: usize) -> usize {
-    1 + (places != 8) as usize + (curves != 64) as usize + (method != 0) as usize
+pub fn job_length(places: usize, booked: usize, curves: usize, method: usize) -> usize {
+    let fields = [places != 8, curves != 64, method != 0, booked != 0];
+    1 + fields.iter().filter(|stands| **stands).count()
 }
 
 /// All that is faulty in a case without tests, in the sequence of the papers, so that the first is
-/// answered: 10 with its figure; 12 for entries in the drops or loads, or for an end set that is not
-/// empty; the others by their number. Faults in job bytes and what a text tells are left out.
+/// answered: 10 with its figure; 13 wherever booked is not below places; 12 for entries in the drops
+/// or loads, or for an end set that is not empty; the others by their number. Faults in job bytes and
+/// what a text tells are left out.
 pub fn faults(case: &Case) -> Vec<&'static str> {
     let mut faults = Vec::new();
     let mut note = |faulty: bool, name: &'static str| {
@@ -390,6 +424,22 @@ pub fn faults(case: &Case) -> Vec<&'static str> {
         Case::WriteJob { method, .. }
         | Case::OrderTests { method, .. }
         | Case::ExamineBy { method, .. } => note(*method > 3, "10:3"),
+        _ => {}
+    }
+    match case {
+        Case::WriteJob { places, booked, .. }
+        | Case::OrderTests { places, booked, .. }
+        | Case::PlanOrder { places, booked, .. }
+        | Case::CheckPlan { places, booked, .. }
+        | Case::WritePlan { places, booked, .. }
+        | Case::Examine { places, booked, .. }
+        | Case::ExamineBy { places, booked, .. } => {
+            note(*booked > 63, "10:260");
+            note(booked >= places, "13");
+        }
+        _ => {}
+    }
+    match case {
         Case::PlanOrder { order, .. }
         | Case::CheckPlan { order, .. }
         | Case::WritePlan { order, .. } => note(!order.is_empty(), "8"),
@@ -411,12 +461,14 @@ pub fn faults(case: &Case) -> Vec<&'static str> {
         }
         Case::WriteJob {
             places,
+            booked,
             curves,
             method,
             out_len,
             ..
         } => {
-            note(*out_len < job_length(*places, *curves, *method), "9");
+            let needed = job_length(*places, *booked, *curves, *method);
+            note(*out_len < needed, "9");
         }
         _ => {}
     }

@@ -37,14 +37,15 @@ fn job_a_reads_and_writes() {
         job,
         Job {
             places: 2,
+            booked: 0,
             curves: 4,
             tests: 4,
             method: 0,
             wants: a_wants()
         }
     );
-    assert_eq!(write_job(2, 4, 0, &a_wants(), 13).unwrap(), bytes(A));
-    assert_eq!(write_job(2, 4, 0, &a_wants(), 12), Err(no(9, 13)));
+    assert_eq!(write_job(2, 0, 4, 0, &a_wants(), 13).unwrap(), bytes(A));
+    assert_eq!(write_job(2, 0, 4, 0, &a_wants(), 12), Err(no(9, 13)));
     assert_eq!(read_job(&bytes(A), 3), Err(no(9, 4)));
 }
 
@@ -77,7 +78,7 @@ fn a_plan() -> Vec<u8> {
 #[test]
 fn job_a_by_every_method() {
     for (method, first, second) in [(1, 2, 0), (2, 0, 2), (3, 0, 2)] {
-        let job = write_job(2, 4, method, &a_wants(), 99).unwrap();
+        let job = write_job(2, 0, 4, method, &a_wants(), 99).unwrap();
         assert_eq!(
             sheet(&job),
             format!(
@@ -105,7 +106,7 @@ fn job_a_by_every_method() {
 /// The plan of document 01 still passes, and has as many loads.
 #[test]
 fn job_a_by_the_lowest_tie_rule() {
-    let lowest = plan_by(TieRule::Lowest, 2, 4, &a_wants(), &as_listed(4), 4, 4).unwrap();
+    let lowest = plan_by(TieRule::Lowest, 2, 0, 4, &a_wants(), &as_listed(4), 4, 4).unwrap();
     let written = plan_bytes(&as_listed(4), &lowest.drops, &lowest.loads, lowest.end);
     assert_eq!(written, bytes(A_OF_01));
     assert_eq!(lowest.count, 5);
@@ -136,7 +137,7 @@ fn job_a_plan_bytes() {
     assert_eq!(loads, sets(&[&[0, 1], &[2], &[0], &[3]]));
     assert_eq!(order, as_listed(4));
     assert_eq!(steps.end_set(), sets(&[&[0, 3]])[0]);
-    let check = |end: u64| check_plan(2, 4, &a_wants(), &order, &drops, &loads, end);
+    let check = |end: u64| check_plan(2, 0, 4, &a_wants(), &order, &drops, &loads, end);
     assert_eq!(check(0x09), Ok(5));
     for end in [
         0,
@@ -244,15 +245,24 @@ fn job_a_orders() {
         (2, [0, 2, 1, 3]),
         (3, [0, 2, 1, 3]),
     ] {
-        let order = order_tests(2, 4, method, &a_wants(), 4).unwrap();
+        let order = order_tests(2, 0, 4, method, &a_wants(), 4).unwrap();
         assert_eq!(order, expected);
-        let made = plan(2, 4, &a_wants(), &order, 4, 4).unwrap();
+        let made = plan(2, 0, 4, &a_wants(), &order, 4, 4).unwrap();
         assert_eq!(made.count, if method == 0 { 5 } else { 4 });
         // Test 3 runs last, with curve 3.
         assert_eq!(set_of(made.end).len(), 2);
         assert!(set_of(made.end).contains(&3));
         assert_eq!(
-            check_plan(2, 4, &a_wants(), &order, &made.drops, &made.loads, made.end),
+            check_plan(
+                2,
+                0,
+                4,
+                &a_wants(),
+                &order,
+                &made.drops,
+                &made.loads,
+                made.end
+            ),
             Ok(made.count)
         );
     }
@@ -261,7 +271,7 @@ fn job_a_orders() {
 #[test]
 fn never_used_again_goes_first() {
     let wants = sets(&[&[0], &[1], &[2], &[0]]);
-    let made = plan(2, 3, &wants, &as_listed(4), 4, 4).unwrap();
+    let made = plan(2, 0, 3, &wants, &as_listed(4), 4, 4).unwrap();
     assert_eq!(made.drops, sets(&[&[], &[], &[1], &[]]));
     assert_eq!(made.end, sets(&[&[0, 2]])[0]);
     assert_eq!(made.count, 3);
@@ -272,11 +282,11 @@ fn never_used_again_goes_first() {
 fn dropped(rule: TieRule, places: usize, wants: &[&[u8]]) -> (Vec<u64>, u64, u64) {
     let (wants, order) = (sets(wants), as_listed(wants.len()));
     let room = wants.len();
-    let made = plan_by(rule, places, 64, &wants, &order, room, room).unwrap();
+    let made = plan_by(rule, places, 0, 64, &wants, &order, room, room).unwrap();
     let (drops, loads, end) = (&made.drops, &made.loads, made.end);
-    let checked = check_plan(places, 64, &wants, &order, drops, loads, end);
+    let checked = check_plan(places, 0, 64, &wants, &order, drops, loads, end);
     assert_eq!(checked, Ok(made.count));
-    let job = write_job(places, 64, 0, &wants, 999).unwrap();
+    let job = write_job(places, 0, 64, 0, &wants, 999).unwrap();
     let plan = plan_bytes(&order, drops, loads, end);
     assert_eq!(audit(&job, &plan).unwrap().fewest, made.count);
     assert_eq!(call_bytes(&job, 999) == Ok(plan), rule == TieRule::Highest);
@@ -424,19 +434,19 @@ fn the_furthest_goes_first_then_the_highest() {
 fn ties_of_tests_and_packages_stay() {
     // No test has a neighbour, and all degrees are 0: the list is in rising order, then reversed.
     let apart = sets(&[&[0], &[1], &[2]]);
-    assert_eq!(order_tests(2, 3, 1, &apart, 3), Ok(vec![2, 1, 0]));
+    assert_eq!(order_tests(2, 0, 3, 1, &apart, 3), Ok(vec![2, 1, 0]));
     // All weights are 0, or all 1.
     let alike = sets(&[&[0], &[0], &[0]]);
     for wants in [&apart, &alike] {
-        assert_eq!(order_tests(2, 3, 2, wants, 3), Ok(vec![0, 1, 2]));
-        assert_eq!(order_tests(2, 3, 3, wants, 3), Ok(vec![0, 1, 2]));
+        assert_eq!(order_tests(2, 0, 3, 2, wants, 3), Ok(vec![0, 1, 2]));
+        assert_eq!(order_tests(2, 0, 3, 3, wants, 3), Ok(vec![0, 1, 2]));
     }
 }
 
 #[test]
 fn places_are_not_compared_with_loads_so_far() {
     let wants = sets(&[&[0, 1], &[0, 2], &[0, 2]]);
-    let made = plan(2, 3, &wants, &as_listed(3), 3, 3).unwrap();
+    let made = plan(2, 0, 3, &wants, &as_listed(3), 3, 3).unwrap();
     assert_eq!(made.drops[2], 0);
     assert_eq!(made.end, sets(&[&[0, 2]])[0]);
     assert_eq!(made.count, 3);
@@ -453,9 +463,12 @@ fn one_test_without_wants() {
         "1 tests, 8 places, method 0\n0: test 0 drop none load none\nloads 0\n"
     );
     // Nothing is held, so there is no end step, and none passes.
-    assert_eq!(plan(8, 64, &[0], &[0], 1, 1).unwrap().end, 0);
-    assert_eq!(check_plan(8, 64, &[0], &[0], &[0], &[0], 0), Ok(0));
-    assert_eq!(check_plan(8, 64, &[0], &[0], &[0], &[0], 1), Err(no(12, 1)));
+    assert_eq!(plan(8, 0, 64, &[0], &[0], 1, 1).unwrap().end, 0);
+    assert_eq!(check_plan(8, 0, 64, &[0], &[0], &[0], &[0], 0), Ok(0));
+    assert_eq!(
+        check_plan(8, 0, 64, &[0], &[0], &[0], &[0], 1),
+        Err(no(12, 1))
+    );
     assert_eq!(step_bytes(64, 1, &bytes("04 00"), 1), (2, 0));
 }
 
@@ -465,17 +478,18 @@ fn a_list_without_tests() {
     let job = bytes("00");
     let read = Job {
         places: 8,
+        booked: 0,
         curves: 64,
         tests: 0,
         method: 0,
         wants: vec![],
     };
     assert_eq!(read_job(&job, 0), Ok(read));
-    assert_eq!(write_job(8, 64, 0, &[], 1), Ok(job.clone()));
-    assert_eq!(write_job(8, 64, 0, &[], 0), Err(no(9, 1)));
+    assert_eq!(write_job(8, 0, 64, 0, &[], 1), Ok(job.clone()));
+    assert_eq!(write_job(8, 0, 64, 0, &[], 0), Err(no(9, 1)));
     for method in 0..=3 {
-        assert_eq!(order_tests(8, 64, method, &[], 0), Ok(vec![]));
-        assert_eq!(order_tests(8, 64, method, &[], 9), Ok(vec![]));
+        assert_eq!(order_tests(8, 0, 64, method, &[], 0), Ok(vec![]));
+        assert_eq!(order_tests(8, 0, 64, method, &[], 9), Ok(vec![]));
     }
     let nothing = Plan {
         drops: vec![],
@@ -484,15 +498,15 @@ fn a_list_without_tests() {
         count: 0,
     };
     for rule in [TieRule::Lowest, TieRule::Highest] {
-        let made = plan_by(rule, 8, 64, &[], &[], 0, 0);
+        let made = plan_by(rule, 8, 0, 64, &[], &[], 0, 0);
         assert_eq!(made, Ok(nothing.clone()));
     }
-    assert_eq!(plan(8, 64, &[], &[], 3, 0), Ok(nothing));
-    assert_eq!(check_plan(8, 64, &[], &[], &[], &[], 0), Ok(0));
-    assert!(passes(8, 64, &[], &[], &[], &[], 0));
-    assert_eq!(least_loads(8, 10, &[], &[]), Some(0));
-    assert_eq!(fewest_loads(8, &[], &[]), 0);
-    let written = write_plan(8, 64, &[], &[], &[], &[], 0, 0);
+    assert_eq!(plan(8, 0, 64, &[], &[], 3, 0), Ok(nothing));
+    assert_eq!(check_plan(8, 0, 64, &[], &[], &[], &[], 0), Ok(0));
+    assert!(passes(8, 0, 64, &[], &[], &[], &[], 0));
+    assert_eq!(least_loads(8, 0, 10, &[], &[]), Some(0));
+    assert_eq!(fewest_loads(8, 0, &[], &[]), 0);
+    let written = write_plan(8, 0, 64, &[], &[], &[], &[], 0, 0);
     assert_eq!(written, Ok(vec![]));
     let steps = read_plan(64, 0, &[], 0, 0, 0).unwrap();
     assert_eq!((steps.tests.len(), steps.end_set()), (0, 0));
@@ -529,7 +543,10 @@ fn heads_without_tests() {
             (read.places, read.curves, read.method),
             (places, curves, method)
         );
-        assert_eq!(write_job(places, curves, method, &[], 4), Ok(job.clone()));
+        assert_eq!(
+            write_job(places, 0, curves, method, &[], 4),
+            Ok(job.clone())
+        );
         assert_eq!(call(&job, 0), (0, vec![]));
         assert_eq!(
             sheet(&job),
@@ -589,20 +606,20 @@ fn refusals_of_lists_without_tests() {
         (8, 64, usize::MAX, 3),
     ] {
         let refused = no(10, figure);
-        assert_eq!(write_job(places, curves, method, &[], 0), Err(refused));
-        assert_eq!(order_tests(places, curves, method, &[], 0), Err(refused));
-        assert_eq!(examine_by(places, curves, method, &[]), Err(refused));
+        assert_eq!(write_job(places, 0, curves, method, &[], 0), Err(refused));
+        assert_eq!(order_tests(places, 0, curves, method, &[], 0), Err(refused));
+        assert_eq!(examine_by(places, 0, curves, method, &[]), Err(refused));
         if figure == 3 {
             continue; // the others are not handed a method
         }
-        assert_eq!(examine(places, curves, &[]), Err(refused));
+        assert_eq!(examine(places, 0, curves, &[]), Err(refused));
         // 10 goes before everything else.
         for order in [&[][..], &[0]] {
-            assert_eq!(plan(places, curves, &[], order, 0, 0), Err(refused));
+            assert_eq!(plan(places, 0, curves, &[], order, 0, 0), Err(refused));
             for list in [&[][..], &[1]] {
-                let checked = check_plan(places, curves, &[], order, list, list, 1);
+                let checked = check_plan(places, 0, curves, &[], order, list, list, 1);
                 assert_eq!(checked, Err(refused));
-                let written = write_plan(places, curves, &[], order, list, list, 1, 0);
+                let written = write_plan(places, 0, curves, &[], order, list, list, 1, 0);
                 assert_eq!(written, Err(refused));
             }
         }
@@ -615,18 +632,18 @@ fn refusals_of_lists_without_tests() {
             assert_eq!(step_bytes(curves, 0, &plan, 0), (plan.len(), 0));
         }
     }
-    assert_eq!(examine(64, 64, &[]), Ok(()));
-    assert_eq!(examine_by(64, 64, 3, &[]), Ok(()));
+    assert_eq!(examine(64, 0, 64, &[]), Ok(()));
+    assert_eq!(examine_by(64, 0, 64, 3, &[]), Ok(()));
     assert_eq!(examine_counts(1, 0), Ok(()));
     assert_eq!(examine_sizes(0, &[]), Ok(()));
     assert!(package_order(0, &[]).is_empty());
     // An order with an entry; the lists and the end set come behind it.
     for order in [&[0][..], &[1], &[u16::MAX], &[0, 0]] {
-        assert_eq!(plan(8, 64, &[], order, 0, 0), Err(no(8, 0)));
+        assert_eq!(plan(8, 0, 64, &[], order, 0, 0), Err(no(8, 0)));
         for (drops, loads, end) in [(&[][..], &[][..], 0), (&[0], &[1], 1)] {
-            let checked = check_plan(8, 64, &[], order, drops, loads, end);
+            let checked = check_plan(8, 0, 64, &[], order, drops, loads, end);
             assert_eq!(checked, Err(no(8, 0)));
-            let written = write_plan(8, 64, &[], order, drops, loads, end, 0);
+            let written = write_plan(8, 0, 64, &[], order, drops, loads, end, 0);
             assert_eq!(written, Err(no(8, 0)));
         }
     }
@@ -640,9 +657,9 @@ fn refusals_of_lists_without_tests() {
             (&[], &[1, 2]),
         ] {
             let sound = drops.is_empty() && loads.is_empty() && end == 0;
-            let checked = check_plan(8, 64, &[], &[], drops, loads, end);
+            let checked = check_plan(8, 0, 64, &[], &[], drops, loads, end);
             assert_eq!(checked, if sound { Ok(0) } else { Err(no(12, 0)) });
-            let written = write_plan(8, 64, &[], &[], drops, loads, end, 0);
+            let written = write_plan(8, 0, 64, &[], &[], drops, loads, end, 0);
             assert_eq!(written, if sound { Ok(vec![]) } else { Err(no(12, 0)) });
         }
     }
@@ -687,7 +704,7 @@ fn plan_bytes_without_tests() {
         assert_eq!((steps.tests.len(), steps.end_set()), (0, end));
         assert_eq!(step_bytes(4, 0, &plan, 0), (0, 3));
         assert_eq!(step_bytes(4, 0, &plan, 1), (3, 0));
-        assert_eq!(check_plan(8, 4, &[], &[], &[], &[], end), Err(no(12, 0)));
+        assert_eq!(check_plan(8, 0, 4, &[], &[], &[], &[], end), Err(no(12, 0)));
         let audited = audit(&job, &plan);
         assert_eq!(audit_text(&audited), "plan refused 12 at 0\n");
     }
@@ -713,25 +730,25 @@ fn fast_calls_without_tests() {
 fn nothing_is_held_where_all_was_dropped_before() {
     // A plan of two tests, the last without wants, that leaves nothing for the end.
     let (wants, order) = ([1, 0], [0, 1]);
-    let check = |end: u64| check_plan(1, 1, &wants, &order, &[0, 1], &[1, 0], end);
+    let check = |end: u64| check_plan(1, 0, 1, &wants, &order, &[0, 1], &[1, 0], end);
     assert_eq!(check(0), Ok(1));
     assert_eq!(check(1), Err(no(12, 2)));
-    let written = write_plan(1, 1, &wants, &order, &[0, 1], &[1, 0], 0, 8);
+    let written = write_plan(1, 0, 1, &wants, &order, &[0, 1], &[1, 0], 0, 8);
     assert_eq!(written, Ok(bytes("06 01 01 00 05 01 01 01")));
     // Ours keeps the curve until the end.
-    let ours = plan(1, 1, &wants, &order, 2, 2).unwrap();
+    let ours = plan(1, 0, 1, &wants, &order, 2, 2).unwrap();
     assert_eq!((ours.drops, ours.end), (vec![0, 0], 1));
 }
 
 #[test]
 fn one_test_with_three_curves() {
     let wants = sets(&[&[0, 1, 2]]);
-    assert_eq!(plan(2, 3, &wants, &[0], 1, 1), Err(no(7, 0)));
-    assert_eq!(order_tests(2, 3, 0, &wants, 1), Err(no(7, 0)));
-    let job = write_job(2, 3, 0, &wants, 99).unwrap();
+    assert_eq!(plan(2, 0, 3, &wants, &[0], 1, 1), Err(no(7, 0)));
+    assert_eq!(order_tests(2, 0, 3, 0, &wants, 1), Err(no(7, 0)));
+    let job = write_job(2, 0, 3, 0, &wants, 99).unwrap();
     assert_eq!(call(&job, 99), (7 * 65_536, vec![]));
     assert_eq!(sheet(&job), "refused 7 at 0\n");
-    let made = plan(3, 3, &wants, &[0], 1, 1).unwrap();
+    let made = plan(3, 0, 3, &wants, &[0], 1, 1).unwrap();
     assert_eq!((made.count, made.end), (3, 7));
 }
 
@@ -747,7 +764,8 @@ fn refusals_of_job_bytes() {
         ("04 01 00 00 00", 6, 4),
         ("06 04 01 00 01 10", 4, 5),
         // Not in the paper's list, but in its words.
-        ("10", 2, 0),
+        ("10", 1, 1),
+        ("20", 2, 0),
         ("80", 2, 0),
         ("02 40", 2, 1),
         ("02 00", 2, 1),
@@ -776,26 +794,32 @@ fn refusals_of_job_bytes() {
 fn refusals_of_orders() {
     let wants = [0, 0, 0];
     for order in [&[0, 1, 1][..], &[0, 1]] {
-        assert_eq!(plan(1, 1, &wants, order, 3, 3), Err(no(8, 2)));
-        assert_eq!(check_plan(1, 1, &wants, order, &[], &[], 1), Err(no(8, 2)));
+        assert_eq!(plan(1, 0, 1, &wants, order, 3, 3), Err(no(8, 2)));
+        assert_eq!(
+            check_plan(1, 0, 1, &wants, order, &[], &[], 1),
+            Err(no(8, 2))
+        );
     }
-    assert_eq!(plan(1, 1, &wants, &[0, 1, 2, 0], 3, 3), Err(no(8, 3)));
-    assert_eq!(plan(1, 1, &wants, &[0, 3, 2, 0], 3, 3), Err(no(8, 1)));
-    assert_eq!(plan(1, 1, &wants, &[], 3, 3), Err(no(8, 0)));
+    assert_eq!(plan(1, 0, 1, &wants, &[0, 1, 2, 0], 3, 3), Err(no(8, 3)));
+    assert_eq!(plan(1, 0, 1, &wants, &[0, 3, 2, 0], 3, 3), Err(no(8, 1)));
+    assert_eq!(plan(1, 0, 1, &wants, &[], 3, 3), Err(no(8, 0)));
 }
 
 #[test]
 fn refusals_of_handed_numbers() {
     let wants = vec![1u64; 257];
-    assert_eq!(order_tests(0, 0, 9, &wants, 0), Err(no(10, 0)));
-    assert_eq!(order_tests(65, 1, 0, &wants, 0), Err(no(10, 0)));
-    assert_eq!(order_tests(usize::MAX, 1, 0, &wants, 0), Err(no(10, 0)));
-    assert_eq!(order_tests(64, 65, 9, &wants, 0), Err(no(10, 1)));
-    assert_eq!(order_tests(64, 64, 9, &wants, 0), Err(no(10, 2)));
-    assert_eq!(order_tests(64, 64, 4, &wants[..256], 0), Err(no(10, 3)));
-    assert_eq!(order_tests(64, 1, 3, &[1, 0, 2, 4], 0), Err(no(10, 6)));
-    assert_eq!(order_tests(64, 1, 3, &wants[..256], 255), Err(no(9, 256)));
-    assert_eq!(write_job(1, 3, 0, &[7, 7], 0), Err(no(9, 9)));
+    assert_eq!(order_tests(0, 0, 0, 9, &wants, 0), Err(no(10, 0)));
+    assert_eq!(order_tests(65, 0, 1, 0, &wants, 0), Err(no(10, 0)));
+    assert_eq!(order_tests(usize::MAX, 0, 1, 0, &wants, 0), Err(no(10, 0)));
+    assert_eq!(order_tests(64, 0, 65, 9, &wants, 0), Err(no(10, 1)));
+    assert_eq!(order_tests(64, 0, 64, 9, &wants, 0), Err(no(10, 2)));
+    assert_eq!(order_tests(64, 0, 64, 4, &wants[..256], 0), Err(no(10, 3)));
+    assert_eq!(order_tests(64, 0, 1, 3, &[1, 0, 2, 4], 0), Err(no(10, 6)));
+    assert_eq!(
+        order_tests(64, 0, 1, 3, &wants[..256], 255),
+        Err(no(9, 256))
+    );
+    assert_eq!(write_job(1, 0, 3, 0, &[7, 7], 0), Err(no(9, 9)));
     assert_eq!(read_plan(65, 257, &[], 0, 0, 0), Err(no(10, 1)));
     assert_eq!(read_plan(64, 257, &[], 0, 0, 0), Err(no(10, 2)));
     assert_eq!(read_plan(64, 256, &[], 0, 0, 0), Err(no(11, 0)));
@@ -848,7 +872,7 @@ fn refusals_of_plan_bytes() {
 fn refusals_of_the_check() {
     let wants = sets(&[&[0], &[1]]);
     let order = [0, 1];
-    let check = |drops: &[u64], loads: &[u64]| check_plan(1, 2, &wants, &order, drops, loads, 2);
+    let check = |drops: &[u64], loads: &[u64]| check_plan(1, 0, 2, &wants, &order, drops, loads, 2);
     assert_eq!(check(&[0, 1], &[1, 2]), Ok(2));
     assert_eq!(check(&[0], &[1, 2, 3]), Err(no(12, 1)));
     assert_eq!(check(&[0, 1, 0], &[1, 2]), Err(no(12, 2)));
@@ -857,13 +881,13 @@ fn refusals_of_the_check() {
     assert_eq!(check(&[0, 0], &[1, 2]), Err(no(12, 1))); // more than the places
     assert_eq!(check(&[0, 1], &[0, 2]), Err(no(12, 0))); // wants not held
     assert_eq!(check(&[0, 1], &[1 << 2, 2]), Err(no(12, 0))); // a foreign load
-    let again = check_plan(1, 1, &[1, 1], &order, &[0, 1], &[1, 1], 1);
+    let again = check_plan(1, 0, 1, &[1, 1], &order, &[0, 1], &[1, 1], 1);
     assert_eq!(again, Ok(2)); // leaves and comes back in one step
-    let held = check_plan(1, 1, &[1, 1], &order, &[0, 0], &[1, 1], 1);
+    let held = check_plan(1, 0, 1, &[1, 1], &order, &[0, 0], &[1, 1], 1);
     assert_eq!(held, Err(no(12, 1)));
     // Another end set, alone and beside the faults above.
     let ended = |drops: &[u64], loads: &[u64], end: u64| {
-        check_plan(1, 2, &wants, &order, drops, loads, end)
+        check_plan(1, 0, 2, &wants, &order, drops, loads, end)
     };
     for end in [0, 1, 3, 4, 6, u64::MAX] {
         assert_eq!(ended(&[0, 1], &[1, 2], end), Err(no(12, 2)));
@@ -873,15 +897,15 @@ fn refusals_of_the_check() {
         assert_eq!(ended(&[2, 1], &[1, 2], end), Err(no(12, 0)));
         assert_eq!(ended(&[0, 0], &[1, 2], end), Err(no(12, 1)));
         // 12 goes before 9.
-        let written = write_plan(1, 2, &wants, &order, &[0, 1], &[1, 2], end, 0);
+        let written = write_plan(1, 0, 2, &wants, &order, &[0, 1], &[1, 2], end, 0);
         assert_eq!(written, Err(no(12, 2)));
     }
-    let written = write_plan(1, 2, &wants, &order, &[0, 1], &[1, 2], 2, 12);
+    let written = write_plan(1, 0, 2, &wants, &order, &[0, 1], &[1, 2], 2, 12);
     assert_eq!(written, Err(no(9, 13)));
     // Behind 8 and 10.
-    let order_first = check_plan(1, 2, &wants, &[0, 0], &[0, 1], &[1, 2], 9);
+    let order_first = check_plan(1, 0, 2, &wants, &[0, 0], &[0, 1], &[1, 2], 9);
     assert_eq!(order_first, Err(no(8, 1)));
-    let numbers_first = check_plan(1, 0, &wants, &[0, 0], &[0, 1], &[1, 2], 9);
+    let numbers_first = check_plan(1, 0, 0, &wants, &[0, 0], &[0, 1], &[1, 2], 9);
     assert_eq!(numbers_first, Err(no(10, 1)));
 }
 
@@ -889,20 +913,22 @@ fn refusals_of_the_check() {
 fn full_size() {
     // 256 tests, 64 curves, 64 places, every curve wanted by every test.
     let wants = vec![u64::MAX; 256];
-    let job = write_job(64, 64, 0, &wants, usize::MAX).unwrap();
+    let job = write_job(64, 0, 64, 0, &wants, usize::MAX).unwrap();
     assert_eq!(job.len(), 1 + 1 + 2 + 256 * 9);
-    let longest = write_job(63, 63, 3, &vec![u64::MAX >> 1; 256], usize::MAX).unwrap();
+    let longest = write_job(63, 0, 63, 3, &vec![u64::MAX >> 1; 256], usize::MAX).unwrap();
     assert_eq!(longest.len(), 2_310);
     assert_eq!(read_job(&longest, 256).unwrap().tests, 256);
     assert_eq!(call(&job, 5_121).0, 11 + 255 * 2 + 10);
     assert_eq!(
-        plan(64, 64, &wants, &as_listed(256), 256, 256).unwrap().end,
+        plan(64, 0, 64, &wants, &as_listed(256), 256, 256)
+            .unwrap()
+            .end,
         u64::MAX
     );
     // Half of the curves and the other half in turns, with curves of all groups in each.
     let half = 0x5555_5555_5555_5555;
     let wants: Vec<u64> = (0..256).map(|test| half << (test % 2)).collect();
-    let job = write_job(32, 64, 0, &wants, usize::MAX).unwrap();
+    let job = write_job(32, 0, 64, 0, &wants, usize::MAX).unwrap();
     let plan = call_bytes(&job, 5_121).unwrap();
     assert_eq!(plan.len(), 5_121);
     assert_eq!(call(&job, 5_120), (9 * 65_536 + 5_121, vec![]));

@@ -6,7 +6,7 @@ const BYTES: usize = 20 * TESTS + 16;
 /// A job that the C program has read.
 #[repr(C)]
 pub struct Job {
-    places: u32,
+    capacity: u32,
     tests: u32,
     method: u32,
     wants: [u64; TESTS],
@@ -35,7 +35,7 @@ impl Stages {
     pub fn new() -> Stages {
         Stages {
             job: Job {
-                places: 0,
+                capacity: 0,
                 tests: 0,
                 method: 0,
                 wants: [0; TESTS],

@@ -1,5 +1,6 @@
 //! Inputs for every function: random, on the bounds, damaged once and damaged twice.
 
+use crate::booked;
 use crate::degrees;
 use crate::empty;
 use crate::parts;
@@ -16,6 +17,7 @@ pub enum Case {
     },
     WriteJob {
         places: usize,
+        booked: usize,
         curves: usize,
         method: usize,
         wants: Vec<u64>,
@@ -23,6 +25,7 @@ pub enum Case {
     },
     OrderTests {
         places: usize,
+        booked: usize,
         curves: usize,
         method: usize,
         wants: Vec<u64>,
@@ -30,6 +33,7 @@ pub enum Case {
     },
     PlanOrder {
         places: usize,
+        booked: usize,
         curves: usize,
         wants: Vec<u64>,
         order: Vec<u16>,
@@ -38,6 +42,7 @@ pub enum Case {
     },
     CheckPlan {
         places: usize,
+        booked: usize,
         curves: usize,
         wants: Vec<u64>,
         order: Vec<u16>,
@@ -47,6 +52,7 @@ pub enum Case {
     },
     WritePlan {
         places: usize,
+        booked: usize,
         curves: usize,
         wants: Vec<u64>,
         order: Vec<u16>,
@@ -89,11 +95,13 @@ pub enum Case {
     },
     Examine {
         places: usize,
+        booked: usize,
         curves: usize,
         wants: Vec<u64>,
     },
     ExamineBy {
         places: usize,
+        booked: usize,
         curves: usize,
         method: usize,
         wants: Vec<u64>,
@@ -103,7 +111,7 @@ pub enum Case {
         tests: usize,
     },
     ExamineSizes {
-        places: usize,
+        capacity: usize,
         wants: Vec<u64>,
     },
     ReadGroup {
@@ -130,7 +138,7 @@ pub enum Case {
         order_len: usize,
     },
     PackageOrder {
-        places: usize,
+        capacity: usize,
         wants: Vec<u64>,
         order_len: usize,
     },
@@ -259,51 +267,65 @@ impl Case {
             Case::ReadJob { wants_len, .. } => number("wants_len", *wants_len),
             Case::WriteJob {
                 places,
+                booked,
                 curves,
                 method,
                 out_len,
                 ..
             } => {
                 number("places", *places);
+                number("booked", *booked);
                 number("curves", *curves);
                 number("method", *method);
                 number("out_len", *out_len);
             }
             Case::OrderTests {
                 places,
+                booked,
                 curves,
                 method,
                 order_len,
                 ..
             } => {
                 number("places", *places);
+                number("booked", *booked);
                 number("curves", *curves);
                 number("method", *method);
                 number("order_len", *order_len);
             }
             Case::PlanOrder {
                 places,
+                booked,
                 curves,
                 drops_len,
                 loads_len,
                 ..
             } => {
                 number("places", *places);
+                number("booked", *booked);
                 number("curves", *curves);
                 number("drops_len", *drops_len);
                 number("loads_len", *loads_len);
             }
-            Case::CheckPlan { places, curves, .. } => {
+            Case::CheckPlan {
+                places,
+                booked,
+                curves,
+                ..
+            } => {
                 number("places", *places);
+                number("booked", *booked);
                 number("curves", *curves);
             }
             Case::WritePlan {
                 places,
+                booked,
                 curves,
                 out_len,
                 ..
             } => {
                 number("places", *places);
+                number("booked", *booked);
                 number("curves", *curves);
                 number("out_len", *out_len);
             }
@@ -335,17 +357,25 @@ impl Case {
             Case::Sheet { out_len, .. } | Case::Audit { out_len, .. } => {
                 number("out_len", *out_len)
             }
-            Case::Examine { places, curves, .. } => {
+            Case::Examine {
+                places,
+                booked,
+                curves,
+                ..
+            } => {
                 number("places", *places);
+                number("booked", *booked);
                 number("curves", *curves);
             }
             Case::ExamineBy {
                 places,
+                booked,
                 curves,
                 method,
                 ..
             } => {
                 number("places", *places);
+                number("booked", *booked);
                 number("curves", *curves);
                 number("method", *method);
             }
@@ -353,7 +383,7 @@ impl Case {
                 number("curves", *curves);
                 number("tests", *tests);
             }
-            Case::ExamineSizes { places, .. } => number("places", *places),
+            Case::ExamineSizes { capacity, .. } => number("capacity", *capacity),
             Case::ReadGroup {
                 at, group, curves, ..
             } => {
@@ -369,9 +399,11 @@ impl Case {
                 number("order_len", *order_len);
             }
             Case::PackageOrder {
-                places, order_len, ..
+                capacity,
+                order_len,
+                ..
             } => {
-                number("places", *places);
+                number("capacity", *capacity);
                 number("order_len", *order_len);
             }
             Case::Sets { k, .. } => number("k", *k),
@@ -458,6 +490,9 @@ pub fn hex_order(list: &[u16]) -> Vec<String> {
 /// Room for every sheet: the longest has as many bytes.
 pub const SHEET: usize = 52_577;
 
+/// The longest job that reads: map, six bytes of fields, and 256 records of map and eight groups.
+pub const JOB: usize = 2_311;
+
 /// The longest plan that reads: 256 steps of map, two sets of nine bytes and test, and an end step of
 /// map and set.
 pub const PLAN_READ: usize = 5_130;
@@ -476,7 +511,7 @@ pub enum Size {
     Medium,
     /// 200 to 256 tests, mostly 256.
     Full,
-    /// On the bounds: 0, 1 or 256 tests, 1 or 64 curves, 1 or 64 places.
+    /// On the bounds: 0, 1 or 256 tests, 1 or 64 curves, 1 or 64 places less booked.
     Edge,
 }
 
@@ -494,13 +529,44 @@ pub fn size(random: &mut Random) -> Size {
     }
 }
 
-/// A job within the bounds (a test may still want more curves than places).
+/// A job within the bounds (a test may still want more curves than places less booked).
 #[derive(Clone, Debug)]
 pub struct Job {
     pub places: usize,
+    pub booked: usize,
     pub curves: usize,
     pub method: usize,
     pub wants: Vec<u64>,
+}
+
+impl Job {
+    pub fn capacity(&self) -> usize {
+        reference::less_booked(self.places, self.booked)
+    }
+
+    /// The same with none booked.
+    pub fn unbooked(&self) -> Job {
+        Job {
+            booked: 0,
+            ..self.clone()
+        }
+    }
+}
+
+/// Places, and how many of them are booked, so that this many are left: often none are booked, else
+/// one or two, any number, all that can be, or as many as make the places 8.
+pub fn with_booked(random: &mut Random, capacity: usize) -> (usize, usize) {
+    let most = 64 - capacity;
+    let booked = match random.below(16) {
+        0..=8 => 0,
+        9 | 10 => 1,
+        11 | 12 => 2,
+        13 => random.between(0, most),
+        14 => most,
+        _ => 8usize.saturating_sub(capacity),
+    };
+    let booked = booked.min(most);
+    (capacity + booked, booked)
 }
 
 /// All curves below this number.
@@ -537,7 +603,7 @@ fn some_of(random: &mut Random, set: u64) -> u64 {
 }
 
 /// One curve of a set; none of the empty set.
-fn one_of(random: &mut Random, set: u64) -> u64 {
+pub(crate) fn one_of(random: &mut Random, set: u64) -> u64 {
     let ones: Vec<u64> = (0..64).filter(|k| set >> k & 1 == 1).collect();
     if ones.is_empty() {
         0
@@ -584,7 +650,7 @@ pub fn job(random: &mut Random, size: Size) -> Job {
         };
         return tied_job(random, tests, curves);
     }
-    let (places, curves) = match size {
+    let (capacity, curves) = match size {
         Size::Tiny => match random.below(4) {
             0 => (random.between(1, 4), random.between(1, 6)),
             1 => (random.between(2, 6), random.between(4, 12)),
@@ -609,9 +675,11 @@ pub fn job(random: &mut Random, size: Size) -> Job {
         ),
     };
     let method = method_of(random, tests);
-    let wants = wants(random, tests, places, curves);
+    let wants = wants(random, tests, capacity, curves);
+    let (places, booked) = with_booked(random, capacity);
     Job {
         places,
+        booked,
         curves,
         method,
         wants,
@@ -628,7 +696,7 @@ fn method_of(random: &mut Random, tests: usize) -> usize {
 }
 
 /// A job with many ties among curves: they fall into a few blocks, a test wants one block, sometimes
-/// two or a part of one, and the places take some blocks, but not all. So the curves of a block mostly
+/// two or a part of one, and the drive takes some blocks, but not all. So the curves of a block mostly
 /// have the same next use, and only some of them have to go. The blocks take turns, or come as they
 /// like. A block has neighbouring curves or curves from anywhere. There are at least 2 curves.
 pub fn tied_job(random: &mut Random, tests: usize, curves: usize) -> Job {
@@ -643,7 +711,7 @@ pub fn tied_job(random: &mut Random, tests: usize, curves: usize) -> Job {
     }
     let widest = blocks.iter().map(|block| block.count_ones()).max();
     let widest = widest.expect("there are blocks") as usize;
-    let places = random.between(widest, (curves - 1).max(widest));
+    let capacity = random.between(widest, (curves - 1).max(widest));
     let in_turns = random.chance(1, 2);
     let mut wants = Vec::new();
     for test in 0..tests {
@@ -656,12 +724,14 @@ pub fn tied_job(random: &mut Random, tests: usize, curves: usize) -> Job {
         wants.push(match random.below(12) {
             0 => block & (random.word() | random.word()),
             1 => one_of(random, block),
-            2 if two.count_ones() as usize <= places => two,
+            2 if two.count_ones() as usize <= capacity => two,
             _ => block,
         });
     }
+    let (places, booked) = with_booked(random, capacity);
     Job {
         places,
+        booked,
         curves,
         method: method_of(random, tests),
         wants,
@@ -671,14 +741,14 @@ pub fn tied_job(random: &mut Random, tests: usize, curves: usize) -> Job {
 /// A job for method 3: two families of wide tests with curves of their own and one curve that some
 /// tests of both want. So each family becomes a package of several full ones, and the one curve
 /// tells at the end which ends of the two are joined.
-fn flipping_job(random: &mut Random) -> Job {
-    let places = random.between(3, 6);
-    let own = places + random.between(1, 3);
+pub(crate) fn flipping_job(random: &mut Random) -> Job {
+    let capacity = random.between(3, 6);
+    let own = capacity + random.between(1, 3);
     let link = 2 * own;
     let mut wants = Vec::new();
     for family in 0..2 {
         for _ in 0..random.between(2, 6) {
-            let number = random.between(2, places - 1);
+            let number = random.between(2, capacity - 1);
             let mut set = random_set(random, own, number) << (own * family);
             if random.chance(1, 3) {
                 set |= 1 << link;
@@ -687,8 +757,10 @@ fn flipping_job(random: &mut Random) -> Job {
         }
     }
     random.shuffle(&mut wants);
+    let (places, booked) = with_booked(random, capacity);
     Job {
         places,
+        booked,
         curves: link + 1,
         method: 3,
         wants,
@@ -713,20 +785,22 @@ pub fn longest_job(random: &mut Random, each: usize) -> Job {
         wants.push(set);
         last = set;
     }
+    let (places, booked) = with_booked(random, 8 * each);
     Job {
-        places: 8 * each,
+        places,
+        booked,
         curves,
         method: 0,
         wants,
     }
 }
 
-pub fn wants(random: &mut Random, tests: usize, places: usize, curves: usize) -> Vec<u64> {
-    let most = places.min(curves);
+pub fn wants(random: &mut Random, tests: usize, capacity: usize, curves: usize) -> Vec<u64> {
+    let most = capacity.min(curves);
     let all = all_curves(curves);
     let mut list = Vec::new();
     match random.below(7) {
-        // Any number of curves up to the places.
+        // Any number of curves up to the capacity.
         0 => {
             for _ in 0..tests {
                 let number = random.between(0, most);
@@ -740,7 +814,7 @@ pub fn wants(random: &mut Random, tests: usize, places: usize, curves: usize) ->
                 list.push(random_set(random, curves, number));
             }
         }
-        // Nearly as many as the places take.
+        // Nearly as many as the drive takes.
         2 => {
             for _ in 0..tests {
                 let number = random.between(most.saturating_sub(2), most);
@@ -792,9 +866,9 @@ pub fn wants(random: &mut Random, tests: usize, places: usize, curves: usize) ->
         }
     }
     if tests > 0 && random.chance(1, 12) {
-        // Perhaps wider than the places.
+        // Perhaps wider than the capacity.
         let test = random.below(tests);
-        let number = random.between(places.min(curves), curves);
+        let number = random.between(capacity.min(curves), curves);
         list[test] = random_set(random, curves, number);
     }
     if tests > 0 && random.chance(1, 40) {
@@ -807,17 +881,22 @@ pub fn wants(random: &mut Random, tests: usize, places: usize, curves: usize) ->
 // ---------------------------------------------------------------------------------------------
 // Bytes and their damage
 
+/// The job's bytes, or the refusal.
+pub(crate) fn job_written(job: &Job) -> reference::Answer<Vec<u8>> {
+    let (places, booked, curves) = (job.places, job.booked, job.curves);
+    reference::write_job(places, booked, curves, job.method, &job.wants, usize::MAX)
+}
+
 /// The job's bytes, whether or not its tests fit.
 pub fn job_bytes(job: &Job) -> Vec<u8> {
-    reference::write_job(job.places, job.curves, job.method, &job.wants, usize::MAX)
-        .expect("a job within the bounds can be written")
+    job_written(job).expect("a job within the bounds can be written")
 }
 
 /// Job bytes with any bit map and any field values, and records that may not fit them.
 fn crafted_job(random: &mut Random) -> Vec<u8> {
-    let mut map = random.below(16) as u8;
+    let mut map = random.below(32) as u8;
     if random.chance(1, 12) {
-        map |= 1 << random.between(4, 7);
+        map |= 1 << random.between(5, 7);
     }
     if random.chance(2, 3) {
         map |= 4;
@@ -826,13 +905,14 @@ fn crafted_job(random: &mut Random) -> Vec<u8> {
     let wild = random.chance(1, 3);
     let mut tests = 0;
     let mut curves = 64;
+    let mut places = 8;
     if map & 1 == 1 {
-        let value = if wild {
+        places = if wild {
             random.pick(&[0, 1, 7, 8, 9, 63, 64, 65, 255])
         } else {
             random.pick(&[1, 2, 3, 4, 16, 64])
         };
-        bytes.push(value);
+        bytes.push(places);
     }
     if map & 2 == 2 {
         let value = if wild {
@@ -857,6 +937,15 @@ fn crafted_job(random: &mut Random) -> Vec<u8> {
             random.pick(&[0, 1, 2, 3, 4, 255])
         } else {
             random.pick(&[1, 2, 3])
+        };
+        bytes.push(value);
+    }
+    if map & 16 == 16 {
+        let value = if wild {
+            random.pick(&[0, 1, 6, 7, 8, 9, 62, 63, 64, 65, 128, 255])
+        } else {
+            let below = places.saturating_sub(1).max(1);
+            random.pick(&[1, 1, 1, below, below, places])
         };
         bytes.push(value);
     }
@@ -954,7 +1043,7 @@ pub fn any_job_bytes(random: &mut Random, size: Size) -> Vec<u8> {
             let length = random.below(24);
             let mut bytes: Vec<u8> = (0..length).map(|_| random.byte()).collect();
             if let Some(first) = bytes.first_mut() {
-                *first &= 15;
+                *first &= 31;
             }
             bytes
         }
@@ -1005,42 +1094,73 @@ pub(crate) const WILD: [usize; 12] = [
 
 pub(crate) const WILD_METHODS: [usize; 7] = [4, 5, 255, 256, 1 << 16, 1 << 32, usize::MAX];
 
+/// Numbers of booked places that are out of range.
+pub(crate) const WILD_BOOKED: [usize; 14] = [
+    64,
+    64,
+    65,
+    66,
+    127,
+    128,
+    255,
+    256,
+    257,
+    1 << 32,
+    (1 << 32) + 1,
+    1 << 63,
+    usize::MAX,
+    usize::MAX,
+];
+
+/// Booked places: of these, all, one fewer or one more; 63, any, none, or out of range.
+pub(crate) fn any_booked(random: &mut Random, places: usize) -> usize {
+    match random.below(12) {
+        0..=2 => places,
+        3 | 4 => places.saturating_sub(1),
+        5 => places.saturating_add(1),
+        6 => 63,
+        7 => random.between(1, 63),
+        8 => 0,
+        _ => random.pick(&WILD_BOOKED),
+    }
+}
+
+/// A curve the job lacks in the wants of a test, or any set at all.
+pub(crate) fn spoil_wants(random: &mut Random, curves: usize, wants: &mut [u64]) {
+    if !wants.is_empty() {
+        let test = random.below(wants.len());
+        let lacking = !all_curves(curves.clamp(1, 64));
+        wants[test] = match random.below(3) {
+            0 => random.word(),
+            1 => wants[test] | some_of(random, lacking),
+            _ => wants[test] | (lacking & lacking.wrapping_neg()),
+        };
+    }
+}
+
+/// More than 256 tests.
+pub(crate) fn spoil_tests(random: &mut Random, wants: &mut Vec<u64>) {
+    let tests = random.pick(&[257, 257, 258, 300, 512]);
+    let set = wants.first().copied().unwrap_or(0);
+    wants.resize(tests.max(wants.len()), set);
+}
+
 /// Faults in what is handed over (not in the lists of orders and plans).
-fn spoil_numbers(
-    random: &mut Random,
-    places: &mut usize,
-    curves: &mut usize,
-    method: &mut usize,
-    wants: &mut Vec<u64>,
-) {
+fn spoil_numbers(random: &mut Random, job: &mut Job) {
     let faults = match random.below(16) {
         0..=11 => 0,
         12..=14 => 1,
         _ => 2,
     };
     for _ in 0..faults {
-        match random.below(8) {
-            0 => *places = random.pick(&WILD),
-            1 => *curves = random.pick(&WILD),
-            2 => *method = random.pick(&WILD_METHODS),
-            3 => {
-                let tests = random.pick(&[257, 257, 258, 300, 512]);
-                let set = wants.first().copied().unwrap_or(0);
-                wants.resize(tests.max(wants.len()), set);
-            }
-            4 => wants.clear(),
-            _ => {
-                // A curve the job lacks, or any set at all.
-                if !wants.is_empty() {
-                    let test = random.below(wants.len());
-                    let lacking = !all_curves((*curves).clamp(1, 64));
-                    wants[test] = match random.below(3) {
-                        0 => random.word(),
-                        1 => wants[test] | some_of(random, lacking),
-                        _ => wants[test] | (lacking & lacking.wrapping_neg()),
-                    };
-                }
-            }
+        match random.below(10) {
+            0 => job.places = random.pick(&WILD),
+            1 => job.curves = random.pick(&WILD),
+            2 => job.method = random.pick(&WILD_METHODS),
+            3 => spoil_tests(random, &mut job.wants),
+            4 => job.wants.clear(),
+            5 | 6 => job.booked = any_booked(random, job.places),
+            _ => spoil_wants(random, job.curves, &mut job.wants),
         }
     }
 }
@@ -1056,7 +1176,7 @@ pub fn permutation(random: &mut Random, tests: usize) -> Vec<u16> {
     order
 }
 
-fn spoil_order(random: &mut Random, order: &mut Vec<u16>, tests: usize) {
+pub(crate) fn spoil_order(random: &mut Random, order: &mut Vec<u16>, tests: usize) {
     let faults = match random.below(20) {
         0..=15 => 0,
         16..=18 => 1,
@@ -1103,7 +1223,7 @@ fn spoil_order(random: &mut Random, order: &mut Vec<u16>, tests: usize) {
 /// were not needed, and curves that leave and come back in one step.
 fn free_plan(random: &mut Random, job: &Job, order: &[u16]) -> (Vec<u64>, Vec<u64>, u64) {
     let all = all_curves(job.curves);
-    let places = job.places as u32;
+    let capacity = job.capacity() as u32;
     let mut held = 0u64;
     let mut drops = Vec::new();
     let mut loads = Vec::new();
@@ -1113,7 +1233,7 @@ fn free_plan(random: &mut Random, job: &Job, order: &[u16]) -> (Vec<u64>, Vec<u6
         // Make room.
         loop {
             let left = held & !drop;
-            if (left | want).count_ones() <= places || left & !want == 0 {
+            if (left | want).count_ones() <= capacity || left & !want == 0 {
                 break;
             }
             let candidates: Vec<u32> = (0..64).filter(|k| (left & !want) >> k & 1 == 1).collect();
@@ -1126,7 +1246,7 @@ fn free_plan(random: &mut Random, job: &Job, order: &[u16]) -> (Vec<u64>, Vec<u6
             let spare = all & !(left | load);
             let extra = some_of(random, spare);
             for k in 0..64 {
-                if extra >> k & 1 == 1 && (left | load).count_ones() < places {
+                if extra >> k & 1 == 1 && (left | load).count_ones() < capacity {
                     load |= 1 << k;
                 }
             }
@@ -1138,7 +1258,12 @@ fn free_plan(random: &mut Random, job: &Job, order: &[u16]) -> (Vec<u64>, Vec<u6
     (drops, loads, held)
 }
 
-fn spoil_plan(random: &mut Random, drops: &mut Vec<u64>, loads: &mut Vec<u64>, curves: usize) {
+pub(crate) fn spoil_plan(
+    random: &mut Random,
+    drops: &mut Vec<u64>,
+    loads: &mut Vec<u64>,
+    curves: usize,
+) {
     let faults = match random.below(10) {
         0..=4 => 0,
         5..=7 => 1,
@@ -1196,7 +1321,7 @@ fn spoil_plan(random: &mut Random, drops: &mut Vec<u64>, loads: &mut Vec<u64>, c
 }
 
 /// An end set other than this: none, all ones, with a foreign curve, one curve more or fewer, or any.
-fn spoil_end(random: &mut Random, end: &mut u64, curves: usize) {
+pub(crate) fn spoil_end(random: &mut Random, end: &mut u64, curves: usize) {
     let all = all_curves(curves);
     match random.below(8) {
         0 => *end = 0,
@@ -1231,8 +1356,11 @@ impl SomePlan {
 
 /// The plan in this order under a tie rule, if the tests fit.
 fn plan_by(rule: TieRule, job: &Job, order: &[u16]) -> Option<SomePlan> {
-    let (places, curves, room) = (job.places, job.curves, job.wants.len());
-    let plan = reference::plan_by(rule, places, curves, &job.wants, order, room, room).ok()?;
+    let (places, booked, room) = (job.places, job.booked, job.wants.len());
+    let plan = reference::plan_by(
+        rule, places, booked, job.curves, &job.wants, order, room, room,
+    )
+    .ok()?;
     Some(SomePlan {
         order: order.to_vec(),
         drops: plan.drops,
@@ -1256,6 +1384,15 @@ pub fn some_plan(random: &mut Random, job: &Job) -> SomePlan {
         drops,
         loads,
         end,
+    }
+}
+
+/// The same; at times as if none were booked, so that it may hold too much.
+pub(crate) fn fitting_or_not(random: &mut Random, job: &Job) -> SomePlan {
+    if random.chance(1, 5) {
+        some_plan(random, &job.unbooked())
+    } else {
+        some_plan(random, job)
     }
 }
 
@@ -1701,7 +1838,7 @@ fn audited(random: &mut Random, size: Size) -> (Vec<u8>, Vec<u8>, Option<Ending>
     }
     let job = job(random, size);
     let tests = job.wants.len();
-    let mut made = some_plan(random, &job);
+    let mut made = fitting_or_not(random, &job);
     if random.chance(1, 3) {
         spoil_plan(random, &mut made.drops, &mut made.loads, job.curves);
         // In bytes every step has its sets.
@@ -1862,13 +1999,7 @@ fn group_case(random: &mut Random) -> Case {
 fn spoilt_job(random: &mut Random, size: Size) -> Job {
     let mut job = job(random, size);
     for _ in 0..3 {
-        let Job {
-            places,
-            curves,
-            method,
-            wants,
-        } = &mut job;
-        spoil_numbers(random, places, curves, method, wants);
+        spoil_numbers(random, &mut job);
     }
     job
 }
@@ -1903,6 +2034,11 @@ pub fn case(seed: u64, number: u64, only: Option<usize>) -> Case {
     if let Some(case) = degrees::case(function, random) {
         return case;
     }
+    if random.chance(1, 8) {
+        if let Some(case) = booked::case(function, random) {
+            return case;
+        }
+    }
     let size = size(random);
     case_of(function, size, random)
 }
@@ -1921,83 +2057,74 @@ pub fn case_of(function: usize, size: Size, random: &mut Random) -> Case {
             }
         }
         1 => {
-            let Job {
-                mut places,
-                mut curves,
-                mut method,
-                mut wants,
-            } = job(random, size);
-            spoil_numbers(random, &mut places, &mut curves, &mut method, &mut wants);
-            let needed = match reference::write_job(places, curves, method, &wants, usize::MAX) {
+            let mut job = job(random, size);
+            spoil_numbers(random, &mut job);
+            let needed = match job_written(&job) {
                 Ok(bytes) => bytes.len(),
                 Err(_) => random.below(20),
             };
             Case::WriteJob {
-                places,
-                curves,
-                method,
-                wants,
+                places: job.places,
+                booked: job.booked,
+                curves: job.curves,
+                method: job.method,
+                wants: job.wants,
                 out_len: lent(random, needed),
             }
         }
         2 => {
-            let job = if random.chance(1, 10) {
+            let mut job = if random.chance(1, 10) {
                 flipping_job(random)
             } else {
                 job(random, size)
             };
-            let Job {
-                mut places,
-                mut curves,
-                mut method,
-                mut wants,
-            } = job;
-            spoil_numbers(random, &mut places, &mut curves, &mut method, &mut wants);
+            spoil_numbers(random, &mut job);
             let order_len = if random.chance(1, 3) {
-                lent(random, wants.len())
+                lent(random, job.wants.len())
             } else {
-                enough(random, wants.len())
+                enough(random, job.wants.len())
             };
             Case::OrderTests {
-                places,
-                curves,
-                method,
-                wants,
+                places: job.places,
+                booked: job.booked,
+                curves: job.curves,
+                method: job.method,
+                wants: job.wants,
                 order_len,
             }
         }
         3 => {
-            let Job {
-                mut places,
-                mut curves,
-                mut method,
-                mut wants,
-            } = job(random, size);
-            if large(size) && !wants.is_empty() && random.chance(1, 4) {
+            let mut job = job(random, size);
+            if large(size) && !job.wants.is_empty() && random.chance(1, 4) {
                 // All 64 curves are held at the end.
-                (places, curves) = (64, 64);
-                let test = random.below(wants.len());
-                wants[test] = u64::MAX;
+                (job.places, job.booked, job.curves) = (64, 0, 64);
+                let test = random.below(job.wants.len());
+                job.wants[test] = u64::MAX;
             }
-            let mut order = permutation(random, wants.len());
-            if random.chance(1, 8) && method != 3 {
+            let tests = job.wants.len();
+            let mut order = permutation(random, tests);
+            if random.chance(1, 8) && job.method != 3 {
+                let (places, booked, curves) = (job.places, job.booked, job.curves);
+                let wants = &job.wants;
                 if let Ok(made) =
-                    reference::order_tests(places, curves, method, &wants, wants.len())
+                    reference::order_tests(places, booked, curves, job.method, wants, tests)
                 {
                     order = made;
                 }
             }
-            spoil_numbers(random, &mut places, &mut curves, &mut method, &mut wants);
-            spoil_order(random, &mut order, wants.len());
+            spoil_numbers(random, &mut job);
+            let tests = job.wants.len();
+            spoil_order(random, &mut order, tests);
             let (drops_len, loads_len) = if random.chance(1, 3) {
-                (lent(random, wants.len()), lent(random, wants.len()))
+                (lent(random, tests), lent(random, tests))
             } else {
-                (enough(random, wants.len()), enough(random, wants.len()))
+                (enough(random, tests), enough(random, tests))
             };
             Case::PlanOrder {
-                places,
-                curves,
-                wants,
+                places: job.places,
+                booked: job.booked,
+                curves: job.curves,
+                wants: job.wants,
                 order,
                 drops_len,
                 loads_len,
@@ -2007,6 +2134,7 @@ pub fn case_of(function: usize, size: Size, random: &mut Random) -> Case {
             let (job, made) = longest_made(random);
             Case::WritePlan {
                 places: job.places,
+                booked: job.booked,
                 curves: job.curves,
                 wants: job.wants,
                 order: made.order,
@@ -2021,7 +2149,7 @@ pub fn case_of(function: usize, size: Size, random: &mut Random) -> Case {
                 longest_made(random)
             } else {
                 let job = job(random, size);
-                let made = some_plan(random, &job);
+                let made = fitting_or_not(random, &job);
                 (job, made)
             };
             let SomePlan {
@@ -2038,22 +2166,20 @@ pub fn case_of(function: usize, size: Size, random: &mut Random) -> Case {
                 spoil_end(random, &mut end, job.curves);
             }
             if random.chance(1, 4) {
-                let Job {
-                    places,
-                    curves,
-                    method,
-                    wants,
-                } = &mut job;
-                spoil_numbers(random, places, curves, method, wants);
+                spoil_numbers(random, &mut job);
             }
             if random.chance(1, 2) {
                 spoil_order(random, &mut order, job.wants.len());
             }
-            if random.chance(1, 20) {
-                job.places -= job.places.min(1);
+            // A place fewer, or one more booked.
+            match random.below(40) {
+                0 => job.places -= job.places.min(1),
+                1 => job.booked = job.booked.saturating_add(1),
+                _ => {}
             }
             let Job {
                 places,
+                booked,
                 curves,
                 wants,
                 ..
@@ -2061,6 +2187,7 @@ pub fn case_of(function: usize, size: Size, random: &mut Random) -> Case {
             if function == 4 {
                 return Case::CheckPlan {
                     places,
+                    booked,
                     curves,
                     wants,
                     order,
@@ -2072,6 +2199,7 @@ pub fn case_of(function: usize, size: Size, random: &mut Random) -> Case {
             let tests = wants.len();
             let answer = reference::write_plan(
                 places,
+                booked,
                 curves,
                 &wants,
                 &order,
@@ -2093,6 +2221,7 @@ pub fn case_of(function: usize, size: Size, random: &mut Random) -> Case {
             };
             Case::WritePlan {
                 places,
+                booked,
                 curves,
                 wants,
                 order,
@@ -2211,12 +2340,14 @@ pub fn case_of(function: usize, size: Size, random: &mut Random) -> Case {
         11 => {
             let Job {
                 places,
+                booked,
                 curves,
                 wants,
                 ..
             } = spoilt_job(random, size);
             Case::Examine {
                 places,
+                booked,
                 curves,
                 wants,
             }
@@ -2224,12 +2355,14 @@ pub fn case_of(function: usize, size: Size, random: &mut Random) -> Case {
         12 => {
             let Job {
                 places,
+                booked,
                 curves,
                 method,
                 wants,
             } = spoilt_job(random, size);
             Case::ExamineBy {
                 places,
+                booked,
                 curves,
                 method,
                 wants,
@@ -2249,9 +2382,9 @@ pub fn case_of(function: usize, size: Size, random: &mut Random) -> Case {
             Case::ExamineCounts { curves, tests }
         }
         14 => {
-            let Job {
-                places, mut wants, ..
-            } = job(random, size);
+            let job = job(random, size);
+            let mut capacity = job.capacity();
+            let mut wants = job.wants;
             // Any list is examined, however long, and any sets.
             match random.below(12) {
                 0 => wants.clear(),
@@ -2264,12 +2397,10 @@ pub fn case_of(function: usize, size: Size, random: &mut Random) -> Case {
                 }
                 _ => {}
             }
-            let places = if random.chance(1, 3) {
-                any_number(random)
-            } else {
-                places
-            };
-            Case::ExamineSizes { places, wants }
+            if random.chance(1, 3) {
+                capacity = any_number(random);
+            }
+            Case::ExamineSizes { capacity, wants }
         }
         15 => group_case(random),
         16 => Case::GroupMap {
@@ -2301,10 +2432,10 @@ pub fn case_of(function: usize, size: Size, random: &mut Random) -> Case {
             }
         }
         21 => {
-            let Job {
-                places, mut wants, ..
-            } = job(random, size);
-            // Any list is taken, however long, with any sets and any places.
+            let job = job(random, size);
+            let mut capacity = job.capacity();
+            let mut wants = job.wants;
+            // Any list is taken, however long, with any sets and any capacity.
             match random.below(12) {
                 0 => wants.clear(),
                 1 => wants.resize(random.between(257, 300), any_set(random)),
@@ -2316,14 +2447,12 @@ pub fn case_of(function: usize, size: Size, random: &mut Random) -> Case {
                 }
                 _ => {}
             }
-            let places = if random.chance(1, 6) {
-                any_number(random)
-            } else {
-                places
-            };
+            if random.chance(1, 6) {
+                capacity = any_number(random);
+            }
             let order_len = lent(random, wants.len());
             Case::PackageOrder {
-                places,
+                capacity,
                 wants,
                 order_len,
             }

@@ -1,9 +1,10 @@
 //! An independent implementation of the curve planner's papers (`reference`) and of the small public
 //! functions below it (`parts`), where its tie rule matters (`ties`), two fast implementations for the
 //! benchmark (`tuned`, and in C `fast`), random inputs (`generate`), among them lists without tests
-//! (`empty`) and lists with large degrees (`degrees`), and the library under test (`product`, only with
-//! the feature of that name).
+//! (`empty`), lists with large degrees (`degrees`) and drives with booked places (`booked`), and the
+//! library under test (`product`, only with the feature of that name).
 
+pub mod booked;
 pub mod degrees;
 pub mod empty;
 pub mod fast;
@@ -21,6 +22,8 @@ pub mod product;
 mod consistency;
 #[cfg(test)]
 mod examples;
+#[cfg(test)]
+mod fewer_places;
 #[cfg(test)]
 mod stored;
 #[cfg(test)]

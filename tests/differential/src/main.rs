@@ -8,14 +8,16 @@
 //! other functions are only counted. Ends with 1 at the first difference, with 2 if some outcome
 //! that a function can have was never reached, or something else that is counted: one of method 3's
 //! flips, one of the audit's two kinds of refusal, a kind of end set or of plan's end, a wrong end
-//! set beside another fault, a length on its bound, a kind of tie that the tie rule decides, or an
-//! outcome, a kind or two faults of a list without tests; also if a kind of degrees was reached too
-//! seldom.
+//! set beside another fault, a length on its bound, a kind of tie that the tie rule decides, an
+//! outcome, a kind or two faults of a list without tests, or of booked places a kind of byte or handed
+//! number, two faults, or a way in which the raw places would give another answer; also if a kind of
+//! degrees was reached too seldom.
 
+use differential::booked;
 use differential::degrees;
 use differential::empty;
 use differential::generate::{
-    self, Case, Ending, SetFunction, ENDINGS, FUNCTIONS, PLAN_MADE, SHEET,
+    self, Case, Ending, SetFunction, ENDINGS, FUNCTIONS, JOB, PLAN_MADE, SHEET,
 };
 use differential::parts::{self, GroupRead};
 use differential::random::{mix, Random};
@@ -40,18 +42,20 @@ use differential::product;
 #[rustfmt::skip]
 trait Subject {
     fn name(&self) -> &'static str;
-    /// The answer, and places, curves, tests and method.
-    fn read_job(&self, _job: &[u8], _wants: &mut [u64]) -> Option<(u64, [usize; 4])> { None }
-    fn write_job(&self, _places: usize, _curves: usize, _method: usize, _wants: &[u64],
-        _out: &mut [u8]) -> Option<u64> { None }
-    fn order_tests(&self, _places: usize, _curves: usize, _method: usize, _wants: &[u64],
-        _order: &mut [u16]) -> Option<u64> { None }
-    fn plan_order(&self, _places: usize, _curves: usize, _wants: &[u64], _order: &[u16],
-        _drops: &mut [u64], _loads: &mut [u64], _end: &mut u64) -> Option<u64> { None }
-    fn check_plan(&self, _places: usize, _curves: usize, _wants: &[u64], _order: &[u16],
-        _drops: &[u64], _loads: &[u64], _end: u64) -> Option<u64> { None }
-    fn write_plan(&self, _places: usize, _curves: usize, _wants: &[u64], _order: &[u16],
-        _drops: &[u64], _loads: &[u64], _end: u64, _out: &mut [u8]) -> Option<u64> { None }
+    /// The answer, and places, booked places, curves, tests and method.
+    fn read_job(&self, _job: &[u8], _wants: &mut [u64]) -> Option<(u64, [usize; 5])> { None }
+    fn write_job(&self, _places: usize, _booked: usize, _curves: usize, _method: usize,
+        _wants: &[u64], _out: &mut [u8]) -> Option<u64> { None }
+    fn order_tests(&self, _places: usize, _booked: usize, _curves: usize, _method: usize,
+        _wants: &[u64], _order: &mut [u16]) -> Option<u64> { None }
+    fn plan_order(&self, _places: usize, _booked: usize, _curves: usize, _wants: &[u64],
+        _order: &[u16], _drops: &mut [u64], _loads: &mut [u64], _end: &mut u64)
+        -> Option<u64> { None }
+    fn check_plan(&self, _places: usize, _booked: usize, _curves: usize, _wants: &[u64],
+        _order: &[u16], _drops: &[u64], _loads: &[u64], _end: u64) -> Option<u64> { None }
+    fn write_plan(&self, _places: usize, _booked: usize, _curves: usize, _wants: &[u64],
+        _order: &[u16], _drops: &[u64], _loads: &[u64], _end: u64, _out: &mut [u8])
+        -> Option<u64> { None }
     fn read_plan(&self, _curves: usize, _tests: usize, _plan: &[u8], _order: &mut [u16],
         _drops: &mut [u64], _loads: &mut [u64], _end: &mut u64) -> Option<u64> { None }
     /// Start and count.
@@ -60,11 +64,12 @@ trait Subject {
     fn call(&self, _job: &[u8], _plan: &mut [u8]) -> Option<u64> { None }
     fn sheet(&self, _job: &[u8], _out: &mut [u8]) -> Option<u64> { None }
     fn audit(&self, _job: &[u8], _plan: &[u8], _out: &mut [u8]) -> Option<u64> { None }
-    fn examine(&self, _places: usize, _curves: usize, _wants: &[u64]) -> Option<u64> { None }
-    fn examine_by(&self, _places: usize, _curves: usize, _method: usize, _wants: &[u64])
+    fn examine(&self, _places: usize, _booked: usize, _curves: usize, _wants: &[u64])
         -> Option<u64> { None }
+    fn examine_by(&self, _places: usize, _booked: usize, _curves: usize, _method: usize,
+        _wants: &[u64]) -> Option<u64> { None }
     fn examine_counts(&self, _curves: usize, _tests: usize) -> Option<u64> { None }
-    fn examine_sizes(&self, _places: usize, _wants: &[u64]) -> Option<u64> { None }
+    fn examine_sizes(&self, _capacity: usize, _wants: &[u64]) -> Option<u64> { None }
     fn read_group(&self, _rest: &[u8], _at: usize, _group: usize, _curves: usize,
         _set: &mut u64) -> Option<u64> { None }
     fn group_map(&self, _set: u64) -> Option<u64> { None }
@@ -72,7 +77,8 @@ trait Subject {
     fn put_set(&self, _set: u64, _out: &mut [u8]) -> Option<u64> { None }
     fn reverse(&self, _xs: &mut [u16]) -> Option<()> { None }
     fn listed_order(&self, _tests: usize, _order: &mut [u16]) -> Option<()> { None }
-    fn package_order(&self, _places: usize, _wants: &[u64], _order: &mut [u16]) -> Option<()> { None }
+    fn package_order(&self, _capacity: usize, _wants: &[u64], _order: &mut [u16])
+        -> Option<()> { None }
     fn sets(&self, _function: SetFunction, _a: u64, _b: u64, _k: usize) -> Option<u64> { None }
 }
 
@@ -96,29 +102,30 @@ impl Subject for Product {
     fn name(&self) -> &'static str {
         "product"
     }
-    fn read_job(&self, job: &[u8], wants: &mut [u64]) -> Option<(u64, [usize; 4])> {
+    fn read_job(&self, job: &[u8], wants: &mut [u64]) -> Option<(u64, [usize; 5])> {
         let head = product::read_job(job, wants);
-        Some((head.answer, [head.places, head.curves, head.tests, head.method]))
+        let numbers = [head.places, head.booked, head.curves, head.tests, head.method];
+        Some((head.answer, numbers))
     }
-    fn write_job(&self, places: usize, curves: usize, method: usize, wants: &[u64],
-        out: &mut [u8]) -> Option<u64> {
-        Some(product::write_job(places, curves, method, wants, out))
+    fn write_job(&self, places: usize, booked: usize, curves: usize, method: usize,
+        wants: &[u64], out: &mut [u8]) -> Option<u64> {
+        Some(product::write_job(places, booked, curves, method, wants, out))
     }
-    fn order_tests(&self, places: usize, curves: usize, method: usize, wants: &[u64],
-        order: &mut [u16]) -> Option<u64> {
-        Some(product::order_tests(places, curves, method, wants, order))
+    fn order_tests(&self, places: usize, booked: usize, curves: usize, method: usize,
+        wants: &[u64], order: &mut [u16]) -> Option<u64> {
+        Some(product::order_tests(places, booked, curves, method, wants, order))
     }
-    fn plan_order(&self, places: usize, curves: usize, wants: &[u64], order: &[u16],
-        drops: &mut [u64], loads: &mut [u64], end: &mut u64) -> Option<u64> {
-        Some(product::plan_order(places, curves, wants, order, drops, loads, end))
+    fn plan_order(&self, places: usize, booked: usize, curves: usize, wants: &[u64],
+        order: &[u16], drops: &mut [u64], loads: &mut [u64], end: &mut u64) -> Option<u64> {
+        Some(product::plan_order(places, booked, curves, wants, order, drops, loads, end))
     }
-    fn check_plan(&self, places: usize, curves: usize, wants: &[u64], order: &[u16],
-        drops: &[u64], loads: &[u64], end: u64) -> Option<u64> {
-        Some(product::check_plan(places, curves, wants, order, drops, loads, end))
+    fn check_plan(&self, places: usize, booked: usize, curves: usize, wants: &[u64],
+        order: &[u16], drops: &[u64], loads: &[u64], end: u64) -> Option<u64> {
+        Some(product::check_plan(places, booked, curves, wants, order, drops, loads, end))
     }
-    fn write_plan(&self, places: usize, curves: usize, wants: &[u64], order: &[u16],
-        drops: &[u64], loads: &[u64], end: u64, out: &mut [u8]) -> Option<u64> {
-        Some(product::write_plan(places, curves, wants, order, drops, loads, end, out))
+    fn write_plan(&self, places: usize, booked: usize, curves: usize, wants: &[u64],
+        order: &[u16], drops: &[u64], loads: &[u64], end: u64, out: &mut [u8]) -> Option<u64> {
+        Some(product::write_plan(places, booked, curves, wants, order, drops, loads, end, out))
     }
     fn read_plan(&self, curves: usize, tests: usize, plan: &[u8], order: &mut [u16],
         drops: &mut [u64], loads: &mut [u64], end: &mut u64) -> Option<u64> {
@@ -138,18 +145,19 @@ impl Subject for Product {
     fn audit(&self, job: &[u8], plan: &[u8], out: &mut [u8]) -> Option<u64> {
         Some(product::audit(job, plan, out))
     }
-    fn examine(&self, places: usize, curves: usize, wants: &[u64]) -> Option<u64> {
-        Some(product::examine(places, curves, wants))
-    }
-    fn examine_by(&self, places: usize, curves: usize, method: usize, wants: &[u64])
+    fn examine(&self, places: usize, booked: usize, curves: usize, wants: &[u64])
         -> Option<u64> {
-        Some(product::examine_by(places, curves, method, wants))
+        Some(product::examine(places, booked, curves, wants))
+    }
+    fn examine_by(&self, places: usize, booked: usize, curves: usize, method: usize,
+        wants: &[u64]) -> Option<u64> {
+        Some(product::examine_by(places, booked, curves, method, wants))
     }
     fn examine_counts(&self, curves: usize, tests: usize) -> Option<u64> {
         Some(product::examine_counts(curves, tests))
     }
-    fn examine_sizes(&self, places: usize, wants: &[u64]) -> Option<u64> {
-        Some(product::examine_sizes(places, wants))
+    fn examine_sizes(&self, capacity: usize, wants: &[u64]) -> Option<u64> {
+        Some(product::examine_sizes(capacity, wants))
     }
     fn read_group(&self, rest: &[u8], at: usize, group: usize, curves: usize,
         set: &mut u64) -> Option<u64> {
@@ -172,8 +180,8 @@ impl Subject for Product {
         product::listed_order(tests, order);
         Some(())
     }
-    fn package_order(&self, places: usize, wants: &[u64], order: &mut [u16]) -> Option<()> {
-        product::package_order(places, wants, order);
+    fn package_order(&self, capacity: usize, wants: &[u64], order: &mut [u16]) -> Option<()> {
+        product::package_order(capacity, wants, order);
         Some(())
     }
     fn sets(&self, function: SetFunction, a: u64, b: u64, k: usize) -> Option<u64> {
@@ -299,7 +307,7 @@ fn outcome<T>(answer: &Result<T, Refusal>) -> String {
 
 fn named(no: &Refusal) -> String {
     match (no.number, no.figure) {
-        (10, 0..=3) => format!("10:{}", no.figure),
+        (10, 0..=3 | 260) => format!("10:{}", no.figure),
         (10, _) => "10:4+".to_string(),
         (number, _) => number.to_string(),
     }
@@ -417,8 +425,8 @@ fn set_answer(function: SetFunction, a: u64, b: u64, k: usize) -> (u64, String) 
 
 struct Verdict {
     outcome: String,
-    /// What else was met, and how often: a table's title and a name in it.
-    notes: Vec<(&'static str, &'static str, u64)>,
+    /// What else was met.
+    notes: Vec<Note>,
     /// For each subject: not offered, alike, or the difference.
     results: Vec<Option<Result<(), String>>>,
 }
@@ -452,14 +460,24 @@ fn run(case: &Case, random: &mut Random, subjects: &[Box<dyn Subject>]) -> Verdi
         Case::ReadJob { job, wants_len } => {
             let answer = reference::read_job(job, *wants_len);
             let number = number_of(&answer, |read| read.tests as u64);
-            // Under a refusal the four numbers are 0.
+            // Under a refusal the five numbers are 0.
             let (wants, head) = match &answer {
                 Ok(read) => (
                     read.wants.clone(),
-                    [read.places, read.curves, read.tests, read.method],
+                    [
+                        read.places,
+                        read.booked,
+                        read.curves,
+                        read.tests,
+                        read.method,
+                    ],
                 ),
-                Err(_) => (vec![], [0; 4]),
+                Err(_) => (vec![], [0; 5]),
             };
+            let behind = booked::behind_13(job, *wants_len);
+            let behind = behind.iter().filter(|kind| **kind == "13+9");
+            notes.extend(behind.map(|kind| (READ_BOOKED, *kind, 1)));
+            notes.extend(kinds_of_bytes(READ_BOOKED, READ_LENGTHS, job));
             for subject in subjects {
                 let mut wants = Lent::new("wants", random, *wants_len, &wants);
                 let found = subject.read_job(job, wants.part());
@@ -470,52 +488,68 @@ fn run(case: &Case, random: &mut Random, subjects: &[Box<dyn Subject>]) -> Verdi
         }
         Case::WriteJob {
             places,
+            booked,
             curves,
             method,
             wants,
             out_len,
         } => {
-            let answer = reference::write_job(*places, *curves, *method, wants, *out_len);
+            let answer = reference::write_job(*places, *booked, *curves, *method, wants, *out_len);
             let number = number_of(&answer, |bytes| bytes.len() as u64);
             let bytes = answer.clone().unwrap_or_default();
             for subject in subjects {
                 let mut out = Lent::new("out", random, *out_len, &bytes);
-                let found = subject.write_job(*places, *curves, *method, wants, out.part());
+                let found =
+                    subject.write_job(*places, *booked, *curves, *method, wants, out.part());
                 results.push(found.map(|found| compare(number, found, &[out.difference()])));
             }
+            notes.extend(on_bound(JOBS_WRITTEN, &answer, JOB, LONGEST_JOB));
             outcome(&answer)
         }
         Case::OrderTests {
             places,
+            booked,
             curves,
             method,
             wants,
             order_len,
         } => {
-            let answer = reference::order_and_flips(*places, *curves, *method, wants, *order_len);
+            let answer =
+                reference::order_and_flips(*places, *booked, *curves, *method, wants, *order_len);
             let number = number_of(&answer, |(order, _)| order.len() as u64);
             let (result, flips) = answer.clone().unwrap_or_default();
             notes.extend((0..4).map(|won| (FLIPS_WON, FLIPS[won], flips[won])));
             if answer.is_ok() && *method == 1 {
-                let kinds = degrees::kinds(wants, &result);
-                notes.extend(kinds.iter().map(|kind| (ORDERED_DEGREES, *kind, 1)));
+                notes.extend(all(ORDERED_DEGREES, degrees::kinds(wants, &result)));
+            }
+            if answer.is_ok() && *method == 3 {
+                let kinds = booked::order_kinds(*places, *booked, wants, &result);
+                notes.extend(all(ORDERED_RAW, kinds));
+            }
+            if let Some(test) = too_wide(&answer) {
+                let kinds = booked::wide_kinds(*places, *booked, wants, test);
+                notes.extend(all(ORDERED_WIDE, kinds));
             }
             for subject in subjects {
                 let mut order = Lent::new("order", random, *order_len, &result);
-                let found = subject.order_tests(*places, *curves, *method, wants, order.part());
+                let found =
+                    subject.order_tests(*places, *booked, *curves, *method, wants, order.part());
                 results.push(found.map(|found| compare(number, found, &[order.difference()])));
             }
             outcome(&answer)
         }
         Case::PlanOrder {
             places,
+            booked,
             curves,
             wants,
             order,
             drops_len,
             loads_len,
         } => {
-            let answer = reference::plan(*places, *curves, wants, order, *drops_len, *loads_len);
+            let answer = reference::plan(
+                *places, *booked, *curves, wants, order, *drops_len, *loads_len,
+            );
             let number = number_of(&answer, |plan| plan.count);
             let (new_drops, new_loads, new_end) = match &answer {
                 Ok(plan) => (plan.drops.clone(), plan.loads.clone(), vec![plan.end]),
@@ -525,8 +559,14 @@ fn run(case: &Case, random: &mut Random, subjects: &[Box<dyn Subject>]) -> Verdi
                 notes.push((PLANNED_ENDS, kind_of_set(end), 1));
             }
             if let Ok(plan) = &answer {
-                let kinds = ties::kinds(*places, *curves, wants, order, plan);
-                notes.extend(kinds.iter().map(|kind| (PLANNED_TIES, *kind, 1)));
+                let kinds = ties::kinds(*places, *booked, *curves, wants, order, plan);
+                notes.extend(all(PLANNED_TIES, kinds));
+                let kinds = booked::plan_kinds(*places, *booked, *curves, wants, order, plan);
+                notes.extend(all(PLANNED_RAW, kinds));
+            }
+            if let Some(test) = too_wide(&answer) {
+                let kinds = booked::wide_kinds(*places, *booked, wants, test);
+                notes.extend(all(PLANNED_WIDE, kinds));
             }
             for subject in subjects {
                 let mut drops = Lent::new("drops", random, *drops_len, &new_drops);
@@ -534,6 +574,7 @@ fn run(case: &Case, random: &mut Random, subjects: &[Box<dyn Subject>]) -> Verdi
                 let mut end = Lent::new("end", random, 1, &new_end);
                 let found = subject.plan_order(
                     *places,
+                    *booked,
                     *curves,
                     wants,
                     order,
@@ -553,6 +594,7 @@ fn run(case: &Case, random: &mut Random, subjects: &[Box<dyn Subject>]) -> Verdi
         }
         Case::CheckPlan {
             places,
+            booked,
             curves,
             wants,
             order,
@@ -560,10 +602,18 @@ fn run(case: &Case, random: &mut Random, subjects: &[Box<dyn Subject>]) -> Verdi
             loads,
             end,
         } => {
-            let answer = reference::check_plan(*places, *curves, wants, order, drops, loads, *end);
+            let check = |booked: usize| {
+                reference::check_plan(*places, booked, *curves, wants, order, drops, loads, *end)
+            };
+            let answer = check(*booked);
             let number = number_of(&answer, |count| *count);
+            if *booked > 0 {
+                let kind = booked::check_kinds(&answer, &check(0), wants.len());
+                notes.extend(all(CHECKED_RAW, kind));
+            }
             for subject in subjects {
-                let found = subject.check_plan(*places, *curves, wants, order, drops, loads, *end);
+                let found =
+                    subject.check_plan(*places, *booked, *curves, wants, order, drops, loads, *end);
                 results.push(found.map(|found| compare(number, found, &[])));
             }
             let name = check_outcome(&answer, wants.len(), [drops.len(), loads.len()]);
@@ -576,6 +626,7 @@ fn run(case: &Case, random: &mut Random, subjects: &[Box<dyn Subject>]) -> Verdi
         }
         Case::WritePlan {
             places,
+            booked,
             curves,
             wants,
             order,
@@ -584,14 +635,16 @@ fn run(case: &Case, random: &mut Random, subjects: &[Box<dyn Subject>]) -> Verdi
             end,
             out_len,
         } => {
-            let answer =
-                reference::write_plan(*places, *curves, wants, order, drops, loads, *end, *out_len);
+            let answer = reference::write_plan(
+                *places, *booked, *curves, wants, order, drops, loads, *end, *out_len,
+            );
             let number = number_of(&answer, |bytes| bytes.len() as u64);
             let bytes = answer.clone().unwrap_or_default();
             for subject in subjects {
                 let mut out = Lent::new("out", random, *out_len, &bytes);
                 let found = subject.write_plan(
                     *places,
+                    *booked,
                     *curves,
                     wants,
                     order,
@@ -612,7 +665,13 @@ fn run(case: &Case, random: &mut Random, subjects: &[Box<dyn Subject>]) -> Verdi
                 let needed = reference::plan_bytes(order, drops, loads, *end).len();
                 notes.push((WRITTEN_TWICE, "short", (*out_len < needed) as u64));
             }
-            notes.extend(on_bound(WRITTEN_LENGTHS, &answer));
+            notes.extend(on_bound(WRITTEN_LENGTHS, &answer, PLAN_MADE, LONGEST));
+            if *booked > 0 {
+                let raw =
+                    reference::check_plan(*places, 0, *curves, wants, order, drops, loads, *end);
+                let kind = booked::check_kinds(&answer, &raw, wants.len());
+                notes.extend(all(WRITTEN_RAW, kind));
+            }
             name
         }
         Case::ReadPlan {
@@ -721,11 +780,17 @@ fn run(case: &Case, random: &mut Random, subjects: &[Box<dyn Subject>]) -> Verdi
                 let found = subject.call(job, plan.part());
                 results.push(found.map(|found| compare(number, found, &[plan.difference()])));
             }
-            notes.extend(on_bound(CALL_LENGTHS, &answer));
+            notes.extend(on_bound(CALL_LENGTHS, &answer, PLAN_MADE, LONGEST));
             if answer.is_ok() {
                 notes.extend(kinds_of_ties(CALL_TIES, &planned));
                 notes.extend(kinds_of_degrees(CALL_DEGREES, &planned));
+                notes.extend(all(CALL_RAW, booked::call_kinds(&planned)));
             }
+            if let Some(test) = too_wide(&answer) {
+                notes.extend(all(CALL_WIDE, booked::wide_job_kinds(job, test)));
+            }
+            notes.extend(all(CALL_BOOKED, booked::behind_13(job, usize::MAX)));
+            notes.extend(kinds_of_bytes(CALL_BOOKED, CALL_JOB_LENGTHS, job));
             outcome(&answer)
         }
         Case::Sheet { job, out_len } => {
@@ -745,7 +810,13 @@ fn run(case: &Case, random: &mut Random, subjects: &[Box<dyn Subject>]) -> Verdi
                 notes.push((SHEETS, if ended { "end-line" } else { "no-end-line" }, 1));
                 notes.extend(kinds_of_ties(SHEET_TIES, &planned));
                 notes.extend(kinds_of_degrees(SHEET_DEGREES, &planned));
+                notes.extend(all(SHEET_RAW, booked::sheet_kinds(&planned)));
             }
+            if let Some(test) = too_wide(&planned) {
+                notes.extend(all(SHEET_WIDE, booked::wide_job_kinds(job, test)));
+            }
+            notes.extend(all(SHEET_BOOKED, booked::behind_13(job, usize::MAX)));
+            notes.extend(kinds_of_bytes(SHEET_BOOKED, SHEET_JOB_LENGTHS, job));
             if text.len() == SHEET {
                 let short = *out_len < SHEET;
                 notes.push((SHEETS, if short { "longest-short" } else { "longest" }, 1));
@@ -771,6 +842,8 @@ fn run(case: &Case, random: &mut Random, subjects: &[Box<dyn Subject>]) -> Verdi
             if let Some(ending) = ending {
                 notes.push((AUDITED_ENDINGS, ending.name(), 1));
             }
+            notes.extend(all(AUDITED_RAW, booked::audit_kinds(job, plan, &audit)));
+            notes.extend(kinds_of_bytes(AUDITED_BOOKED, AUDITED_LENGTHS, job));
             let fits = text.len() <= *out_len;
             match &audit {
                 Err(Refused::Job(_)) => notes.push((AUDITS_REFUSED, "job", fits as u64)),
@@ -790,27 +863,29 @@ fn run(case: &Case, random: &mut Random, subjects: &[Box<dyn Subject>]) -> Verdi
         }
         Case::Examine {
             places,
+            booked,
             curves,
             wants,
         } => {
-            let answer = reference::examine(*places, *curves, wants);
+            let answer = reference::examine(*places, *booked, *curves, wants);
             let number = number_of(&answer, |_| 0);
             for subject in subjects {
-                let found = subject.examine(*places, *curves, wants);
+                let found = subject.examine(*places, *booked, *curves, wants);
                 results.push(found.map(|found| compare(number, found, &[])));
             }
             outcome(&answer)
         }
         Case::ExamineBy {
             places,
+            booked,
             curves,
             method,
             wants,
         } => {
-            let answer = reference::examine_by(*places, *curves, *method, wants);
+            let answer = reference::examine_by(*places, *booked, *curves, *method, wants);
             let number = number_of(&answer, |_| 0);
             for subject in subjects {
-                let found = subject.examine_by(*places, *curves, *method, wants);
+                let found = subject.examine_by(*places, *booked, *curves, *method, wants);
                 results.push(found.map(|found| compare(number, found, &[])));
             }
             outcome(&answer)
@@ -824,11 +899,11 @@ fn run(case: &Case, random: &mut Random, subjects: &[Box<dyn Subject>]) -> Verdi
             }
             outcome(&answer)
         }
-        Case::ExamineSizes { places, wants } => {
-            let answer = reference::examine_sizes(*places, wants);
+        Case::ExamineSizes { capacity, wants } => {
+            let answer = reference::examine_sizes(*capacity, wants);
             let number = number_of(&answer, |_| 0);
             for subject in subjects {
-                let found = subject.examine_sizes(*places, wants);
+                let found = subject.examine_sizes(*capacity, wants);
                 results.push(found.map(|found| compare(number, found, &[])));
             }
             outcome(&answer)
@@ -899,16 +974,16 @@ fn run(case: &Case, random: &mut Random, subjects: &[Box<dyn Subject>]) -> Verdi
             name.to_string()
         }
         Case::PackageOrder {
-            places,
+            capacity,
             wants,
             order_len,
         } => {
             let (name, result) = tests_written(wants.len(), *order_len, || {
-                reference::package_order(*places, wants)
+                reference::package_order(*capacity, wants)
             });
             for subject in subjects {
                 let mut order = Lent::new("order", random, *order_len, &result);
-                let found = subject.package_order(*places, wants, order.part());
+                let found = subject.package_order(*capacity, wants, order.part());
                 results.push(found.map(|found| compare((), found, &[order.difference()])));
             }
             name.to_string()
@@ -925,6 +1000,13 @@ fn run(case: &Case, random: &mut Random, subjects: &[Box<dyn Subject>]) -> Verdi
     if empty::without_tests(case) == Some(true) {
         notes.extend(notes_without_tests(case, &outcome));
     }
+    if let Some((places, booked)) = booked::handed(case) {
+        let called = case.function();
+        let table = HANDED_TABLES.iter().find(|table| table.0 == called);
+        let (_, numbers, twice, _) = table.expect("all are there");
+        notes.extend(all(numbers, booked::number_kinds(places, booked)));
+        notes.extend(all(twice, booked::twice(case)));
+    }
     Verdict {
         outcome,
         notes,
@@ -932,52 +1014,62 @@ fn run(case: &Case, random: &mut Random, subjects: &[Box<dyn Subject>]) -> Verdi
     }
 }
 
+/// A table's title, a name in it and how often it was met.
+type Note = (&'static str, &'static str, u64);
+
+/// These names of a table, each met once.
+fn all(title: &'static str, names: impl IntoIterator<Item = &'static str>) -> Vec<Note> {
+    names.into_iter().map(|name| (title, name, 1)).collect()
+}
+
 /// The kinds of a planned job's first tie that the tie rule decides.
-fn kinds_of_ties(
-    title: &'static str,
-    planned: &Result<PlannedJob, Refusal>,
-) -> Vec<(&'static str, &'static str, u64)> {
+fn kinds_of_ties(title: &'static str, planned: &Result<PlannedJob, Refusal>) -> Vec<Note> {
     let Ok((job, order, plan)) = planned else {
         return Vec::new();
     };
-    let kinds = ties::kinds(job.places, job.curves, &job.wants, order, plan);
-    kinds.iter().map(|kind| (title, *kind, 1)).collect()
+    let kinds = ties::kinds(job.places, job.booked, job.curves, &job.wants, order, plan);
+    all(title, kinds)
 }
 
 /// The kinds of a planned job's degrees, if it is ordered by method 1.
-fn kinds_of_degrees(
-    title: &'static str,
-    planned: &Result<PlannedJob, Refusal>,
-) -> Vec<(&'static str, &'static str, u64)> {
+fn kinds_of_degrees(title: &'static str, planned: &Result<PlannedJob, Refusal>) -> Vec<Note> {
     match planned {
-        Ok((job, order, _)) if job.method == 1 => {
-            let kinds = degrees::kinds(&job.wants, order);
-            kinds.iter().map(|kind| (title, *kind, 1)).collect()
-        }
+        Ok((job, order, _)) if job.method == 1 => all(title, degrees::kinds(&job.wants, order)),
         _ => Vec::new(),
     }
 }
 
-/// A plan of the longest there are, written or too long for its buffer.
+/// What is told of the booked places of job bytes, and of their length.
+fn kinds_of_bytes(title: &'static str, lengths: &'static str, job: &[u8]) -> Vec<Note> {
+    let mut notes = all(title, booked::job_kinds(job));
+    notes.extend(all(lengths, booked::longest_kinds(job)));
+    notes
+}
+
+/// The test that is refused as too wide.
+fn too_wide<T>(answer: &Result<T, Refusal>) -> Option<u64> {
+    match answer {
+        Err(no) if no.number == 7 => Some(no.figure),
+        _ => None,
+    }
+}
+
+/// A job or a plan of the longest there are, written or too long for its buffer.
 fn on_bound(
     title: &'static str,
     answer: &Result<Vec<u8>, Refusal>,
-) -> Option<(&'static str, &'static str, u64)> {
+    most: usize,
+    names: [&'static str; 2],
+) -> Option<Note> {
     match answer {
-        Ok(bytes) if bytes.len() == PLAN_MADE => Some((title, "5121-bytes", 1)),
-        Err(no) if (no.number, no.figure) == (9, PLAN_MADE as u64) => {
-            Some((title, "5121-bytes-short", 1))
-        }
+        Ok(bytes) if bytes.len() == most => Some((title, names[0], 1)),
+        Err(no) if *no == reference::refusal(9, most) => Some((title, names[1], 1)),
         _ => None,
     }
 }
 
 /// Bytes that get 11 at their end, and what is refused before that, or would be behind it.
-fn beside_ending(
-    ending: Ending,
-    outcome: &str,
-    short: bool,
-) -> Option<(&'static str, &'static str, u64)> {
+fn beside_ending(ending: Ending, outcome: &str, short: bool) -> Option<Note> {
     let name = match outcome {
         _ if ending.reads() => return None,
         "10:1" | "10:2" => "10-first",
@@ -1027,7 +1119,7 @@ enum Told {
 /// The function, what is told, the title and the names.
 type ToldTable = (&'static str, Told, &'static str, Vec<&'static str>);
 
-const HEADS: [&str; 14] = [
+const HEADS: [&str; 23] = [
     "00",
     "01",
     "02",
@@ -1036,37 +1128,97 @@ const HEADS: [&str; 14] = [
     "09",
     "0a",
     "0b",
+    "10",
+    "11",
+    "12",
+    "13",
+    "18",
+    "19",
+    "1a",
+    "1b",
     "00-surplus",
     "surplus",
     "cut",
     "map",
     "field",
     "tests-0",
+    "booked",
 ];
 const METHODS: [&str; 4] = ["method-0", "method-1", "method-2", "method-3"];
 const LENT: [&str; 2] = ["exact", "longer"];
 const SEVERAL_LENT: [&str; 3] = ["exact", "longer", "mixed"];
 const LISTS: [&str; 3] = ["drops", "loads", "both"];
 
-// Two faults of handed numbers; with a buffer, an order, or an order, lists and an end set.
-const TWO_NUMBERS: [&str; 3] = ["10:0+10:1", "10:0+10:3", "10:1+10:3"];
-const TWO_WITH_BUFFER: [&str; 6] = [
+// Two faults of handed numbers; with a method; with a buffer too; with an order; or with an order,
+// lists and an end set.
+const TWO_PLAIN: [&str; 6] = [
+    "10:0+10:1",
+    "10:0+10:260",
+    "10:0+13",
+    "10:1+10:260",
+    "10:1+13",
+    "10:260+13",
+];
+const TWO_NUMBERS: [&str; 10] = [
     "10:0+10:1",
     "10:0+10:3",
+    "10:0+10:260",
+    "10:0+13",
+    "10:1+10:3",
+    "10:1+10:260",
+    "10:1+13",
+    "10:3+10:260",
+    "10:3+13",
+    "10:260+13",
+];
+const TWO_WITH_BUFFER: [&str; 15] = [
+    "10:0+10:1",
+    "10:0+10:3",
+    "10:0+10:260",
+    "10:0+13",
     "10:0+9",
     "10:1+10:3",
+    "10:1+10:260",
+    "10:1+13",
     "10:1+9",
+    "10:3+10:260",
+    "10:3+13",
     "10:3+9",
+    "10:260+13",
+    "10:260+9",
+    "13+9",
 ];
-const TWO_WITH_ORDER: [&str; 3] = ["10:0+10:1", "10:0+8", "10:1+8"];
-const TWO_WITH_PLAN: [&str; 10] = [
+const TWO_WITH_ORDER: [&str; 10] = [
     "10:0+10:1",
+    "10:0+10:260",
+    "10:0+13",
+    "10:0+8",
+    "10:1+10:260",
+    "10:1+13",
+    "10:1+8",
+    "10:260+13",
+    "10:260+8",
+    "13+8",
+];
+const TWO_WITH_PLAN: [&str; 21] = [
+    "10:0+10:1",
+    "10:0+10:260",
+    "10:0+13",
     "10:0+8",
     "10:0+12:lengths",
     "10:0+12:end",
+    "10:1+10:260",
+    "10:1+13",
     "10:1+8",
     "10:1+12:lengths",
     "10:1+12:end",
+    "10:260+13",
+    "10:260+8",
+    "10:260+12:lengths",
+    "10:260+12:end",
+    "13+8",
+    "13+12:lengths",
+    "13+12:end",
     "8+12:lengths",
     "8+12:end",
     "12:lengths+12:end",
@@ -1107,7 +1259,7 @@ static TOLD_TABLES: LazyLock<Vec<ToldTable>> = LazyLock::new(|| {
         ("audit", Told::Head, "audits, without tests", &HEADS),
         ("audit", Told::End, "plans audited, without tests, end of the bytes", &endings),
         ("audit", Told::Lent, "audits, without tests, buffer lent", &LENT),
-        ("examine", Told::Twice, "numbers examined, without tests, two faults", &["10:0+10:1"]),
+        ("examine", Told::Twice, "numbers examined, without tests, two faults", &TWO_PLAIN),
         ("examine_by", Told::Twice, "numbers with method examined, without tests, two faults", &TWO_NUMBERS),
         ("listed_order", Told::Lent, "listed orders, without tests, list lent", &LENT),
         ("package_order", Told::Lent, "package orders, without tests, list lent", &LENT),
@@ -1129,6 +1281,7 @@ fn kind_of_head(job: &[u8]) -> String {
         (2, _) => "field",
         (6, 1) => "00-surplus",
         (6, _) => "surplus",
+        (13, _) => "booked",
         _ => "unforeseen",
     };
     kind.to_string()
@@ -1140,11 +1293,15 @@ fn lengths_lent(case: &Case) -> Option<(usize, Vec<usize>)> {
         Case::ReadJob { wants_len, .. } => (0, vec![*wants_len]),
         Case::WriteJob {
             places,
+            booked,
             curves,
             method,
             out_len,
             ..
-        } => (empty::job_length(*places, *curves, *method), vec![*out_len]),
+        } => {
+            let needed = empty::job_length(*places, *booked, *curves, *method);
+            (needed, vec![*out_len])
+        }
         Case::OrderTests { order_len, .. }
         | Case::ListedOrder { order_len, .. }
         | Case::PackageOrder { order_len, .. } => (0, vec![*order_len]),
@@ -1220,7 +1377,7 @@ fn told_without_tests(case: &Case, outcome: &str) -> Vec<(Told, String)> {
 }
 
 /// The same with the titles and names of the tables.
-fn notes_without_tests(case: &Case, outcome: &str) -> Vec<(&'static str, &'static str, u64)> {
+fn notes_without_tests(case: &Case, outcome: &str) -> Vec<Note> {
     let function = FUNCTIONS[case.function()];
     let mut notes = Vec::new();
     for (told, name) in told_without_tests(case, outcome) {
@@ -1264,9 +1421,16 @@ const ENDS: [&str; 8] = [
 const FLIPS_WON: &str = "method 3, comparisons won";
 /// How large the degrees are, and which wrong numbers would give another order.
 const ORDERED_DEGREES: &str = "orders made by method 1, degrees";
+/// Whether the order of method 3 would be another with the raw places, and 7 another.
+const ORDERED_RAW: &str = "orders made by method 3, raw places give another";
+const ORDERED_WIDE: &str = "orders refused 7, raw places";
 const PLANNED_ENDS: &str = "plans made, end set";
 /// One plan or two under the two tie rules; if two, the first tie that they decide differently.
 const PLANNED_TIES: &str = "plans made, under the lowest and the highest tie rule";
+const PLANNED_RAW: &str = "plans made, raw places give other";
+const PLANNED_WIDE: &str = "plans refused 7, raw places";
+const CHECKED_RAW: &str = "plans checked, raw places";
+const WRITTEN_RAW: &str = "plans written, raw places";
 const CHECKED_ENDS: &str = "plans checked, end set";
 const CHECKED_TWICE: &str = "plans checked, another end set and refused before";
 const WRITTEN_ENDS: &str = "plans written, end set";
@@ -1277,17 +1441,52 @@ const READ_ENDINGS: &str = "plans read, end of the bytes";
 const READ_TWICE: &str = "plans read, a faulty end and refused before, or too short";
 const FETCHED_ENDINGS: &str = "steps fetched, end of the bytes";
 const FETCHED_BEHIND: &str = "steps fetched, up to two behind the end step's position";
+/// Job bytes with booked places.
+const READ_BOOKED: &str = "jobs read, booked places";
+const READ_LENGTHS: &str = "jobs read, longest";
+const JOBS_WRITTEN: &str = "jobs written, longest";
+const CALL_BOOKED: &str = "C calls, booked places";
+const CALL_JOB_LENGTHS: &str = "C calls, longest job";
+const CALL_RAW: &str = "C calls, raw places give";
+const CALL_WIDE: &str = "C calls refused 7, raw places";
 const CALL_LENGTHS: &str = "C calls, longest";
 const CALL_TIES: &str = "C calls, under the lowest and the highest tie rule";
 const CALL_DEGREES: &str = "C calls by method 1, degrees";
 const SHEETS: &str = "sheets";
+const SHEET_BOOKED: &str = "sheets, booked places";
+const SHEET_JOB_LENGTHS: &str = "sheets, longest job";
+const SHEET_RAW: &str = "sheets, raw places give another";
+const SHEET_WIDE: &str = "sheets refused 7, raw places";
 const SHEET_TIES: &str = "sheets, under the lowest and the highest tie rule";
 const SHEET_DEGREES: &str = "sheets by method 1, degrees";
 const AUDITED_ENDINGS: &str = "plans audited, end of the bytes";
+const AUDITED_BOOKED: &str = "audits, booked places";
+const AUDITED_LENGTHS: &str = "audits, longest job";
+const AUDITED_RAW: &str = "plans audited, raw places";
 /// What an audit refused whose text was written.
 const AUDITS_REFUSED: &str = "audits, refused";
 /// The fewest loads of an audit were confirmed by trying every plan.
 const AUDITS: &str = "audits";
+
+/// For each function that is handed booked places: its number, the titles of their values and of a fault
+/// of theirs beside another one, and what else it can refuse.
+#[rustfmt::skip]
+const HANDED_TABLES: [(usize, &str, &str, &[&str]); 7] = [
+    (1, "jobs written, booked", "jobs written, booked and another fault",
+        &["10:0", "10:1", "10:2", "10:3", "10:4+t", "9"]),
+    (2, "orders made, booked", "orders made, booked and another fault",
+        &["10:0", "10:1", "10:2", "10:3", "10:4+t", "7", "9"]),
+    (3, "plans made, booked", "plans made, booked and another fault",
+        &["10:0", "10:1", "10:2", "10:4+t", "7", "8", "9"]),
+    (4, "plans checked, booked", "plans checked, booked and another fault",
+        &["10:0", "10:1", "10:2", "10:4+t", "8", "12"]),
+    (5, "plans written, booked", "plans written, booked and another fault",
+        &["10:0", "10:1", "10:2", "10:4+t", "8", "9", "12"]),
+    (11, "numbers examined, booked", "numbers examined, booked and another fault",
+        &["10:0", "10:1", "10:2", "10:4+t"]),
+    (12, "numbers with method examined, booked", "numbers with method examined, booked and another fault",
+        &["10:0", "10:1", "10:2", "10:3", "10:4+t"]),
+];
 
 /// How often each name of these tables has to be met; of the others once is enough.
 const LEAST: [(&str, u64); 3] = [(ORDERED_DEGREES, 5), (CALL_DEGREES, 5), (SHEET_DEGREES, 5)];
@@ -1297,7 +1496,29 @@ const LEAST: [(&str, u64); 3] = [(ORDERED_DEGREES, 5), (CALL_DEGREES, 5), (SHEET
 fn tables() -> Vec<(&'static str, &'static str, Vec<&'static str>)> {
     let endings = ENDINGS.map(|(_, name)| name);
     let degrees = degrees::names();
-    let tables: [(&str, &str, &[&str]); 23] = [
+    let jobs = |more: &[&'static str]| [&booked::JOBS, more].concat();
+    let (jobs_read, jobs_planned, jobs_audited) = (jobs(&["13+9"]), jobs(&["13+7"]), jobs(&[]));
+    let tables: [(&str, &str, &[&str]); 43] = [
+        ("read_job", READ_BOOKED, &jobs_read),
+        ("read_job", READ_LENGTHS, &booked::LONGEST),
+        ("write_job", JOBS_WRITTEN, &LONGEST_JOB),
+        ("order_tests", ORDERED_RAW, &booked::ORDERS),
+        ("order_tests", ORDERED_WIDE, &booked::WIDE),
+        ("plan_order", PLANNED_RAW, &booked::PLANS),
+        ("plan_order", PLANNED_WIDE, &booked::WIDE),
+        ("check_plan", CHECKED_RAW, &booked::CHECKS),
+        ("write_plan", WRITTEN_RAW, &booked::CHECKS),
+        ("plan", CALL_BOOKED, &jobs_planned),
+        ("plan", CALL_JOB_LENGTHS, &booked::LONGEST),
+        ("plan", CALL_RAW, &booked::CALLS),
+        ("plan", CALL_WIDE, &booked::WIDE),
+        ("sheet", SHEET_BOOKED, &jobs_planned),
+        ("sheet", SHEET_JOB_LENGTHS, &booked::LONGEST),
+        ("sheet", SHEET_RAW, &booked::SHEETS),
+        ("sheet", SHEET_WIDE, &booked::WIDE),
+        ("audit", AUDITED_BOOKED, &jobs_audited),
+        ("audit", AUDITED_LENGTHS, &booked::LONGEST),
+        ("audit", AUDITED_RAW, &booked::AUDITS),
         ("order_tests", FLIPS_WON, &FLIPS),
         ("order_tests", ORDERED_DEGREES, &degrees),
         ("plan_order", PLANNED_ENDS, &SETS),
@@ -1324,26 +1545,34 @@ fn tables() -> Vec<(&'static str, &'static str, Vec<&'static str>)> {
     ];
     let told = TOLD_TABLES.iter().map(|(function, _, title, names)| (*function, *title, names.clone()));
     let tables = tables.map(|(function, title, names)| (function, title, names.to_vec()));
-    tables.into_iter().chain(told).collect()
+    let mut tables: Vec<_> = tables.into_iter().chain(told).collect();
+    for (function, numbers, twice, refusals) in HANDED_TABLES {
+        let refusals = [refusals, &["10:260", "13"]].concat();
+        tables.push((FUNCTIONS[function], numbers, booked::NUMBERS.to_vec()));
+        tables.push((FUNCTIONS[function], twice, booked::twice_names(&refusals)));
+    }
+    tables
 }
 
 /// What each function can come out with. No refusal has the number 5 any more.
 #[rustfmt::skip]
 const OUTCOMES: [&[&str]; FUNCTIONS.len()] = [
-    &["ok", "1", "2", "3", "4", "6", "9"],
-    &["ok", "9", "10:0", "10:1", "10:2", "10:3", "10:4+"],
-    &["ok", "7", "9", "10:0", "10:1", "10:2", "10:3", "10:4+"],
-    &["ok", "7", "8", "9", "10:0", "10:1", "10:2", "10:4+"],
-    &["ok", "8", "10:0", "10:1", "10:2", "10:4+", "12:lengths", "12:step", "12:end"],
-    &["ok", "8", "9", "10:0", "10:1", "10:2", "10:4+", "12:lengths", "12:step", "12:end"],
+    &["ok", "1", "2", "3", "4", "6", "9", "13"],
+    &["ok", "9", "10:0", "10:1", "10:2", "10:3", "10:4+", "10:260", "13"],
+    &["ok", "7", "9", "10:0", "10:1", "10:2", "10:3", "10:4+", "10:260", "13"],
+    &["ok", "7", "8", "9", "10:0", "10:1", "10:2", "10:4+", "10:260", "13"],
+    &["ok", "8", "10:0", "10:1", "10:2", "10:4+", "10:260", "12:lengths", "12:step", "12:end",
+        "13"],
+    &["ok", "8", "9", "10:0", "10:1", "10:2", "10:4+", "10:260", "12:lengths", "12:step",
+        "12:end", "13"],
     &["ok", "9", "10:1", "10:2", "11"],
     &["ok", "10:1", "10:2", "11"],
-    &["ok", "1", "2", "3", "4", "6", "7", "9"],
-    &["ok", "1", "2", "3", "4", "6", "7", "9:ok", "9:job"],
-    &["ok", "ok:more", "1", "2", "3", "4", "6", "plan:8", "plan:11", "plan:12:step",
+    &["ok", "1", "2", "3", "4", "6", "7", "9", "13"],
+    &["ok", "1", "2", "3", "4", "6", "7", "13", "9:ok", "9:job"],
+    &["ok", "ok:more", "1", "2", "3", "4", "6", "13", "plan:8", "plan:11", "plan:12:step",
         "plan:12:end", "9:ok", "9:job", "9:plan"],
-    &["ok", "10:0", "10:1", "10:2", "10:4+"],
-    &["ok", "10:0", "10:1", "10:2", "10:3", "10:4+"],
+    &["ok", "10:0", "10:1", "10:2", "10:4+", "10:260", "13"],
+    &["ok", "10:0", "10:1", "10:2", "10:3", "10:4+", "10:260", "13"],
     &["ok", "10:1", "10:2"],
     &["ok", "7"],
     &["curves", "curves:65+", "owed", "empty", "unknown", "unknown:8+"],
@@ -1370,19 +1599,19 @@ const OUTCOMES: [&[&str]; FUNCTIONS.len()] = [
 /// do with no list of tests.
 #[rustfmt::skip]
 const OUTCOMES_WITHOUT_TESTS: [&[&str]; FUNCTIONS.len()] = [
-    &["ok", "1", "2", "6"],
-    &["ok", "9", "10:0", "10:1", "10:3"],
-    &["ok", "10:0", "10:1", "10:3"],
-    &["ok", "8", "10:0", "10:1"],
-    &["ok", "8", "10:0", "10:1", "12:lengths", "12:end"],
-    &["ok", "8", "10:0", "10:1", "12:lengths", "12:end"],
+    &["ok", "1", "2", "6", "13"],
+    &["ok", "9", "10:0", "10:1", "10:3", "10:260", "13"],
+    &["ok", "10:0", "10:1", "10:3", "10:260", "13"],
+    &["ok", "8", "10:0", "10:1", "10:260", "13"],
+    &["ok", "8", "10:0", "10:1", "10:260", "12:lengths", "12:end", "13"],
+    &["ok", "8", "10:0", "10:1", "10:260", "12:lengths", "12:end", "13"],
     &["ok", "10:1", "11"],
     &["ok", "10:1", "11"],
-    &["ok", "1", "2", "6"],
-    &["ok", "1", "2", "6", "9:ok", "9:job"],
-    &["ok", "1", "2", "6", "plan:11", "plan:12:end", "9:ok", "9:job", "9:plan"],
-    &["ok", "10:0", "10:1"],
-    &["ok", "10:0", "10:1", "10:3"],
+    &["ok", "1", "2", "6", "13"],
+    &["ok", "1", "2", "6", "13", "9:ok", "9:job"],
+    &["ok", "1", "2", "6", "13", "plan:11", "plan:12:end", "9:ok", "9:job", "9:plan"],
+    &["ok", "10:0", "10:1", "10:260", "13"],
+    &["ok", "10:0", "10:1", "10:3", "10:260", "13"],
     &["ok", "10:1"],
     &["ok"],
     &[],
@@ -1406,6 +1635,7 @@ const OUTCOMES_WITHOUT_TESTS: [&[&str]; FUNCTIONS.len()] = [
 
 const SETS: [&str; 3] = ["empty", "some", "full"];
 const LONGEST: [&str; 2] = ["5121-bytes", "5121-bytes-short"];
+const LONGEST_JOB: [&str; 2] = ["2311-bytes", "2311-bytes-short"];
 const NUMBERS: [&str; 7] = ["at0", "at1-62", "at63", "at64", "at65", "at66+", "at-most"];
 
 /// The counts of what a function can come out with. What was never reached is noted, and anything

@@ -13,6 +13,7 @@ use crate::generate::SetFunction;
 pub struct JobHead {
     pub answer: u64,
     pub places: usize,
+    pub booked: usize,
     pub curves: usize,
     pub tests: usize,
     pub method: usize,
@@ -34,6 +35,7 @@ extern "C" {
     ) -> JobHead;
     fn curveplan_write_job(
         places: usize,
+        booked: usize,
         curves: usize,
         method: usize,
         wants: *const u64,
@@ -43,6 +45,7 @@ extern "C" {
     ) -> u64;
     fn curveplan_order_tests(
         places: usize,
+        booked: usize,
         curves: usize,
         method: usize,
         wants: *const u64,
@@ -52,6 +55,7 @@ extern "C" {
     ) -> u64;
     fn curveplan_plan_order(
         places: usize,
+        booked: usize,
         curves: usize,
         wants: *const u64,
         wants_len: usize,
@@ -65,6 +69,7 @@ extern "C" {
     ) -> u64;
     fn curveplan_check_plan(
         places: usize,
+        booked: usize,
         curves: usize,
         wants: *const u64,
         wants_len: usize,
@@ -78,6 +83,7 @@ extern "C" {
     ) -> u64;
     fn curveplan_write_plan(
         places: usize,
+        booked: usize,
         curves: usize,
         wants: *const u64,
         wants_len: usize,
@@ -121,16 +127,23 @@ extern "C" {
         out: *mut u8,
         out_len: usize,
     ) -> u64;
-    fn curveplan_examine(places: usize, curves: usize, wants: *const u64, wants_len: usize) -> u64;
+    fn curveplan_examine(
+        places: usize,
+        booked: usize,
+        curves: usize,
+        wants: *const u64,
+        wants_len: usize,
+    ) -> u64;
     fn curveplan_examine_by(
         places: usize,
+        booked: usize,
         curves: usize,
         method: usize,
         wants: *const u64,
         wants_len: usize,
     ) -> u64;
     fn curveplan_examine_counts(curves: usize, tests: usize) -> u64;
-    fn curveplan_examine_sizes(places: usize, wants: *const u64, wants_len: usize) -> u64;
+    fn curveplan_examine_sizes(capacity: usize, wants: *const u64, wants_len: usize) -> u64;
     fn curveplan_read_group(
         rest: *const u8,
         rest_len: usize,
@@ -145,7 +158,7 @@ extern "C" {
     fn curveplan_reverse(xs: *mut u16, xs_len: usize);
     fn curveplan_listed_order(tests: usize, order: *mut u16, order_len: usize);
     fn curveplan_package_order(
-        places: usize,
+        capacity: usize,
         wants: *const u64,
         wants_len: usize,
         order: *mut u16,
@@ -173,6 +186,7 @@ pub fn read_job(job: &[u8], wants: &mut [u64]) -> JobHead {
 
 pub fn write_job(
     places: usize,
+    booked: usize,
     curves: usize,
     method: usize,
     wants: &[u64],
@@ -181,6 +195,7 @@ pub fn write_job(
     unsafe {
         curveplan_write_job(
             places,
+            booked,
             curves,
             method,
             wants.as_ptr(),
@@ -193,6 +208,7 @@ pub fn write_job(
 
 pub fn order_tests(
     places: usize,
+    booked: usize,
     curves: usize,
     method: usize,
     wants: &[u64],
@@ -201,6 +217,7 @@ pub fn order_tests(
     unsafe {
         curveplan_order_tests(
             places,
+            booked,
             curves,
             method,
             wants.as_ptr(),
@@ -211,8 +228,10 @@ pub fn order_tests(
     }
 }
 
+#[allow(clippy::too_many_arguments)]
 pub fn plan_order(
     places: usize,
+    booked: usize,
     curves: usize,
     wants: &[u64],
     order: &[u16],
@@ -223,6 +242,7 @@ pub fn plan_order(
     unsafe {
         curveplan_plan_order(
             places,
+            booked,
             curves,
             wants.as_ptr(),
             wants.len(),
@@ -237,8 +257,10 @@ pub fn plan_order(
     }
 }
 
+#[allow(clippy::too_many_arguments)]
 pub fn check_plan(
     places: usize,
+    booked: usize,
     curves: usize,
     wants: &[u64],
     order: &[u16],
@@ -249,6 +271,7 @@ pub fn check_plan(
     unsafe {
         curveplan_check_plan(
             places,
+            booked,
             curves,
             wants.as_ptr(),
             wants.len(),
@@ -266,6 +289,7 @@ pub fn check_plan(
 #[allow(clippy::too_many_arguments)]
 pub fn write_plan(
     places: usize,
+    booked: usize,
     curves: usize,
     wants: &[u64],
     order: &[u16],
@@ -277,6 +301,7 @@ pub fn write_plan(
     unsafe {
         curveplan_write_plan(
             places,
+            booked,
             curves,
             wants.as_ptr(),
             wants.len(),
@@ -344,20 +369,26 @@ pub fn audit(job: &[u8], plan: &[u8], out: &mut [u8]) -> u64 {
     }
 }
 
-pub fn examine(places: usize, curves: usize, wants: &[u64]) -> u64 {
-    unsafe { curveplan_examine(places, curves, wants.as_ptr(), wants.len()) }
+pub fn examine(places: usize, booked: usize, curves: usize, wants: &[u64]) -> u64 {
+    unsafe { curveplan_examine(places, booked, curves, wants.as_ptr(), wants.len()) }
 }
 
-pub fn examine_by(places: usize, curves: usize, method: usize, wants: &[u64]) -> u64 {
-    unsafe { curveplan_examine_by(places, curves, method, wants.as_ptr(), wants.len()) }
+pub fn examine_by(
+    places: usize,
+    booked: usize,
+    curves: usize,
+    method: usize,
+    wants: &[u64],
+) -> u64 {
+    unsafe { curveplan_examine_by(places, booked, curves, method, wants.as_ptr(), wants.len()) }
 }
 
 pub fn examine_counts(curves: usize, tests: usize) -> u64 {
     unsafe { curveplan_examine_counts(curves, tests) }
 }
 
-pub fn examine_sizes(places: usize, wants: &[u64]) -> u64 {
-    unsafe { curveplan_examine_sizes(places, wants.as_ptr(), wants.len()) }
+pub fn examine_sizes(capacity: usize, wants: &[u64]) -> u64 {
+    unsafe { curveplan_examine_sizes(capacity, wants.as_ptr(), wants.len()) }
 }
 
 pub fn read_group(rest: &[u8], at: usize, group: usize, curves: usize, set: &mut u64) -> u64 {
@@ -384,10 +415,10 @@ pub fn listed_order(tests: usize, order: &mut [u16]) {
     unsafe { curveplan_listed_order(tests, order.as_mut_ptr(), order.len()) }
 }
 
-pub fn package_order(places: usize, wants: &[u64], order: &mut [u16]) {
+pub fn package_order(capacity: usize, wants: &[u64], order: &mut [u16]) {
     unsafe {
         curveplan_package_order(
-            places,
+            capacity,
             wants.as_ptr(),
             wants.len(),
             order.as_mut_ptr(),

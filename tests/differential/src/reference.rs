@@ -76,10 +76,19 @@ fn sets_of(list: &[u64]) -> Vec<Curves> {
 #[derive(Clone, Debug, PartialEq, Eq)]
 pub struct Job {
     pub places: usize,
+    /// Of the places.
+    pub booked: usize,
     pub curves: usize,
     pub tests: usize,
     pub method: usize,
     pub wants: Vec<u64>,
+}
+
+/// What a drive can hold of a list's curves: places less booked (wish 5). It stands wherever document
+/// 01 says places. It is only asked where fewer are booked than there are.
+pub fn less_booked(places: usize, booked: usize) -> usize {
+    let capacity = places.checked_sub(booked);
+    capacity.expect("booked is below places")
 }
 
 /// The byte owed at this offset of a job.
@@ -124,11 +133,11 @@ fn read_record(job: &[u8], start: usize, curves: usize) -> Answer<(Curves, usize
 
 pub fn read_job(job: &[u8], wants_len: usize) -> Answer<Job> {
     let map = owed(job, 0)?;
-    if map >= 16 {
+    if map >= 32 {
         return refuse(2, 0);
     }
     let stands = |bit: u8| set_of(map as u64).contains(&bit);
-    let (mut places, mut curves, mut tests, mut method) = (8, 64, 0, 0);
+    let (mut places, mut curves, mut tests, mut method, mut booked) = (8, 64, 0, 0, 0);
     let mut offset = 1;
     if stands(0) {
         places = in_field(owed(job, offset)?, 1, 64, 8, offset)?;
@@ -148,6 +157,13 @@ pub fn read_job(job: &[u8], wants_len: usize) -> Answer<Job> {
         method = in_field(owed(job, offset)?, 1, 3, 0, offset)?;
         offset += 1;
     }
+    if stands(4) {
+        booked = in_field(owed(job, offset)?, 1, 63, 0, offset)?;
+        if booked >= places {
+            return refuse(13, offset);
+        }
+        offset += 1;
+    }
     let mut wants = Vec::new();
     for _ in 0..tests {
         let (set, behind) = read_record(job, offset, curves)?;
@@ -162,6 +178,7 @@ pub fn read_job(job: &[u8], wants_len: usize) -> Answer<Job> {
     }
     Ok(Job {
         places,
+        booked,
         curves,
         tests,
         method,
@@ -192,12 +209,13 @@ fn groups(set: &Curves) -> Vec<u8> {
 
 pub fn write_job(
     places: usize,
+    booked: usize,
     curves: usize,
     method: usize,
     wants: &[u64],
     out_len: usize,
 ) -> Answer<Vec<u8>> {
-    handed(Some(places), curves, Some(method), wants)?;
+    handed(places, booked, curves, Some(method), wants)?;
     let mut map = 0;
     let mut fields = Vec::new();
     if places != 8 {
@@ -217,6 +235,10 @@ pub fn write_job(
         map += 8;
         fields.push(method as u8);
     }
+    if booked != 0 {
+        map += 16;
+        fields.push(booked as u8);
+    }
     let mut bytes = vec![map];
     bytes.extend(fields);
     for &want in wants {
@@ -231,17 +253,16 @@ pub fn write_job(
 // ---------------------------------------------------------------------------------------------
 // Handed lists and counts
 
-/// Refusal 10 of a handed list, which may be empty.
+/// Refusal 10 of a handed list, which may be empty, then 13.
 fn handed(
-    places: Option<usize>,
+    places: usize,
+    booked: usize,
     curves: usize,
     method: Option<usize>,
     wants: &[u64],
 ) -> Answer<()> {
-    if let Some(places) = places {
-        if !(1..=64).contains(&places) {
-            return refuse(10, 0);
-        }
+    if !(1..=64).contains(&places) {
+        return refuse(10, 0);
     }
     if !(1..=64).contains(&curves) {
         return refuse(10, 1);
@@ -259,27 +280,40 @@ fn handed(
             return refuse(10, 4 + test);
         }
     }
+    // One behind the last place that a test's wants can have: 4 + 255 = 259.
+    if booked > 63 {
+        return refuse(10, 260);
+    }
+    if booked >= places {
+        return refuse(13, 0);
+    }
     Ok(())
 }
 
 /// Refusal 7.
-fn none_too_wide(places: usize, wants: &[Curves]) -> Answer<()> {
+fn none_too_wide(capacity: usize, wants: &[Curves]) -> Answer<()> {
     for (test, want) in wants.iter().enumerate() {
-        if want.len() > places {
+        if want.len() > capacity {
             return refuse(7, test);
         }
     }
     Ok(())
 }
 
-/// 10 of places, curves and wants.
-pub fn examine(places: usize, curves: usize, wants: &[u64]) -> Answer<()> {
-    handed(Some(places), curves, None, wants)
+/// 10 and 13 of places, booked places, curves and wants.
+pub fn examine(places: usize, booked: usize, curves: usize, wants: &[u64]) -> Answer<()> {
+    handed(places, booked, curves, None, wants)
 }
 
-/// 10 of places, curves, method and wants.
-pub fn examine_by(places: usize, curves: usize, method: usize, wants: &[u64]) -> Answer<()> {
-    handed(Some(places), curves, Some(method), wants)
+/// 10 and 13 of places, booked places, curves, method and wants.
+pub fn examine_by(
+    places: usize,
+    booked: usize,
+    curves: usize,
+    method: usize,
+    wants: &[u64],
+) -> Answer<()> {
+    handed(places, booked, curves, Some(method), wants)
 }
 
 /// 10 of curves and a number of tests.
@@ -287,9 +321,9 @@ pub fn examine_counts(curves: usize, tests: usize) -> Answer<()> {
     handed_counts(curves, tests)
 }
 
-/// 7 alone, of any list.
-pub fn examine_sizes(places: usize, wants: &[u64]) -> Answer<()> {
-    none_too_wide(places, &sets_of(wants))
+/// 7 alone, of any list and any number of places less booked.
+pub fn examine_sizes(capacity: usize, wants: &[u64]) -> Answer<()> {
+    none_too_wide(capacity, &sets_of(wants))
 }
 
 /// Refusal 8.
@@ -318,12 +352,13 @@ fn each_test_once(tests: usize, order: &[u16]) -> Answer<()> {
 
 pub fn order_tests(
     places: usize,
+    booked: usize,
     curves: usize,
     method: usize,
     wants: &[u64],
     order_len: usize,
 ) -> Answer<Vec<u16>> {
-    let (order, _) = order_and_flips(places, curves, method, wants, order_len)?;
+    let (order, _) = order_and_flips(places, booked, curves, method, wants, order_len)?;
     Ok(order)
 }
 
@@ -334,14 +369,16 @@ pub type Flips = [u64; 4];
 /// The order, and the flips on the way to it.
 pub fn order_and_flips(
     places: usize,
+    booked: usize,
     curves: usize,
     method: usize,
     wants: &[u64],
     order_len: usize,
 ) -> Answer<(Vec<u16>, Flips)> {
-    handed(Some(places), curves, Some(method), wants)?;
+    handed(places, booked, curves, Some(method), wants)?;
+    let capacity = less_booked(places, booked);
     let sets = sets_of(wants);
-    none_too_wide(places, &sets)?;
+    none_too_wide(capacity, &sets)?;
     if order_len < wants.len() {
         return refuse(9, wants.len());
     }
@@ -350,14 +387,14 @@ pub fn order_and_flips(
         0 => (0..wants.len()).collect(),
         1 => reverse_cuthill_mckee(&sets),
         2 => spanning_tree(&sets),
-        _ => packages(places, &sets, &mut flips),
+        _ => packages(capacity, &sets, &mut flips),
     };
     Ok((order.iter().map(|&test| test as u16).collect(), flips))
 }
 
-/// The order of method 3 alone, of any list of tests.
-pub fn package_order(places: usize, wants: &[u64]) -> Vec<u16> {
-    let order = packages(places, &sets_of(wants), &mut Flips::default());
+/// The order of method 3 alone, of any list of tests and any number of places less booked.
+pub fn package_order(capacity: usize, wants: &[u64]) -> Vec<u16> {
+    let order = packages(capacity, &sets_of(wants), &mut Flips::default());
     order.iter().map(|&test| test as u16).collect()
 }
 
@@ -490,12 +527,13 @@ fn best_pair(curves: &[Curves], bound: Option<usize>) -> Option<(usize, usize)> 
 }
 
 /// The curves of the longest run of these tests, from their start, whose union is at most the
-/// places. A longer run never has a smaller union, so the first that is too large ends it.
-fn opening(tests: &[usize], places: usize, wants: &[Curves]) -> Curves {
+/// places less booked. A longer run never has a smaller union, so the first that is too large ends
+/// it.
+fn opening(tests: &[usize], capacity: usize, wants: &[Curves]) -> Curves {
     let mut run = Curves::new();
     for &test in tests {
         let longer = union(&run, &wants[test]);
-        if longer.len() > places {
+        if longer.len() > capacity {
             break;
         }
         run = longer;
@@ -507,12 +545,12 @@ fn reversed(package: &[usize]) -> Vec<usize> {
     package.iter().rev().copied().collect()
 }
 
-fn packages(places: usize, wants: &[Curves], flips: &mut Flips) -> Vec<usize> {
+fn packages(capacity: usize, wants: &[Curves], flips: &mut Flips) -> Vec<usize> {
     let mut packages: Vec<Vec<usize>> = (0..wants.len()).map(|test| vec![test]).collect();
     let mut curves: Vec<Curves> = wants.to_vec();
 
     // First round.
-    while let Some((first, second)) = best_pair(&curves, Some(places)) {
+    while let Some((first, second)) = best_pair(&curves, Some(capacity)) {
         let behind = packages.remove(second);
         packages[first].extend(behind);
         curves.remove(second);
@@ -524,10 +562,10 @@ fn packages(places: usize, wants: &[Curves], flips: &mut Flips) -> Vec<usize> {
         let (first, second) = best_pair(&curves, None).unwrap();
         let mut front = packages[first].clone();
         let mut behind = packages.remove(second);
-        let front_head = opening(&front, places, wants);
-        let front_tail = opening(&reversed(&front), places, wants);
-        let behind_head = opening(&behind, places, wants);
-        let behind_tail = opening(&reversed(&behind), places, wants);
+        let front_head = opening(&front, capacity, wants);
+        let front_tail = opening(&reversed(&front), capacity, wants);
+        let behind_head = opening(&behind, capacity, wants);
+        let behind_tail = opening(&reversed(&behind), capacity, wants);
         // (common curves, first's head joins, second's tail joins)
         let joints = [
             (common(&front_tail, &behind_head), false, false),
@@ -578,6 +616,7 @@ pub enum TieRule {
 /// Our plan.
 pub fn plan(
     places: usize,
+    booked: usize,
     curves: usize,
     wants: &[u64],
     order: &[u16],
@@ -585,23 +624,28 @@ pub fn plan(
     loads_len: usize,
 ) -> Answer<Plan> {
     let rule = TieRule::Highest;
-    plan_by(rule, places, curves, wants, order, drops_len, loads_len)
+    plan_by(
+        rule, places, booked, curves, wants, order, drops_len, loads_len,
+    )
 }
 
 /// The plan under either tie rule.
+#[allow(clippy::too_many_arguments)]
 pub fn plan_by(
     rule: TieRule,
     places: usize,
+    booked: usize,
     curves: usize,
     wants: &[u64],
     order: &[u16],
     drops_len: usize,
     loads_len: usize,
 ) -> Answer<Plan> {
-    handed(Some(places), curves, None, wants)?;
+    handed(places, booked, curves, None, wants)?;
     each_test_once(wants.len(), order)?;
+    let capacity = less_booked(places, booked);
     let sets = sets_of(wants);
-    none_too_wide(places, &sets)?;
+    none_too_wide(capacity, &sets)?;
     if drops_len < wants.len() || loads_len < wants.len() {
         return refuse(9, wants.len());
     }
@@ -615,7 +659,7 @@ pub fn plan_by(
     let mut count = 0;
     for (step, wanted) in steps.iter().enumerate() {
         let mut drops = Curves::new();
-        while union(&held, wanted).len() > places {
+        while union(&held, wanted).len() > capacity {
             let curve = furthest(rule, &held, wanted, &steps[step + 1..]);
             held.remove(&curve);
             drops.insert(curve);
@@ -656,7 +700,7 @@ fn furthest(rule: TieRule, held: &Curves, wanted: &Curves, later: &[Curves]) -> 
         TieRule::Lowest => equals.min(),
         TieRule::Highest => equals.max(),
     };
-    curve.expect("a test is never wider than the places here")
+    curve.expect("a test is never wider than the places less booked here")
 }
 
 /// What is held behind these steps, whatever they are: step after step, the drops are taken out and
@@ -672,8 +716,10 @@ pub fn held_behind(drops: &[u64], loads: &[u64]) -> u64 {
     bits_of(&held)
 }
 
+#[allow(clippy::too_many_arguments)]
 pub fn check_plan(
     places: usize,
+    booked: usize,
     curves: usize,
     wants: &[u64],
     order: &[u16],
@@ -681,7 +727,7 @@ pub fn check_plan(
     loads: &[u64],
     end: u64,
 ) -> Answer<u64> {
-    handed(Some(places), curves, None, wants)?;
+    handed(places, booked, curves, None, wants)?;
     each_test_once(wants.len(), order)?;
     let mut length_faults = Vec::new();
     for list in [drops, loads] {
@@ -710,7 +756,7 @@ pub fn check_plan(
             && no_load_held
             && every_load_of_the_job
             && wanted.is_subset(&after)
-            && after.len() <= places;
+            && after.len() <= less_booked(places, booked);
         if !passes {
             return refuse(12, step);
         }
@@ -762,6 +808,7 @@ pub fn plan_bytes(order: &[u16], drops: &[u64], loads: &[u64], end: u64) -> Vec<
 #[allow(clippy::too_many_arguments)]
 pub fn write_plan(
     places: usize,
+    booked: usize,
     curves: usize,
     wants: &[u64],
     order: &[u16],
@@ -770,7 +817,7 @@ pub fn write_plan(
     end: u64,
     out_len: usize,
 ) -> Answer<Vec<u8>> {
-    check_plan(places, curves, wants, order, drops, loads, end)?;
+    check_plan(places, booked, curves, wants, order, drops, loads, end)?;
     let bytes = plan_bytes(order, drops, loads, end);
     if out_len < bytes.len() {
         return refuse(9, bytes.len());
@@ -976,8 +1023,9 @@ pub type PlannedJob = (Job, Vec<u16>, Plan);
 
 pub fn planned_job(job: &[u8]) -> Answer<PlannedJob> {
     let job = read_job(job, LIST)?;
-    let order = order_tests(job.places, job.curves, job.method, &job.wants, LIST)?;
-    let plan = plan(job.places, job.curves, &job.wants, &order, LIST, LIST)?;
+    let (places, booked) = (job.places, job.booked);
+    let order = order_tests(places, booked, job.curves, job.method, &job.wants, LIST)?;
+    let plan = plan(places, booked, job.curves, &job.wants, &order, LIST, LIST)?;
     Ok((job, order, plan))
 }
 
@@ -990,6 +1038,7 @@ pub fn planned_bytes(planned: &Answer<PlannedJob>, plan_len: usize) -> Answer<Ve
     let (job, order, plan) = planned.as_ref().map_err(|no| *no)?;
     write_plan(
         job.places,
+        job.booked,
         job.curves,
         &job.wants,
         order,
@@ -1039,7 +1088,9 @@ pub fn planned_sheet(planned: &Answer<PlannedJob>) -> String {
         Ok((job, order, plan)) => {
             let mut text = format!(
                 "{} tests, {} places, method {}\n",
-                job.tests, job.places, job.method
+                job.tests,
+                less_booked(job.places, job.booked),
+                job.method
             );
             for step in 0..job.tests {
                 text += &format!(
@@ -1088,6 +1139,7 @@ fn audit_of(job: &Job, plan: &[u8]) -> Answer<Audit> {
     let order = steps.order();
     let count = check_plan(
         job.places,
+        job.booked,
         job.curves,
         &job.wants,
         &order,
@@ -1095,10 +1147,10 @@ fn audit_of(job: &Job, plan: &[u8]) -> Answer<Audit> {
         &steps.loads(),
         steps.end_set(),
     )?;
-    let fewest = fewest_loads(job.places, &job.wants, &order);
+    let fewest = fewest_loads(job.places, job.booked, &job.wants, &order);
     let tried = job.curves <= 5 && job.tests <= 8;
     if tried {
-        let least = least_loads(job.places, job.curves, &job.wants, &order);
+        let least = least_loads(job.places, job.booked, job.curves, &job.wants, &order);
         assert_eq!(Some(fewest), least, "{job:?}, order {order:?}");
     }
     Ok(Audit {
@@ -1110,15 +1162,16 @@ fn audit_of(job: &Job, plan: &[u8]) -> Answer<Audit> {
 
 /// The fewest loads in this order, told without any plan: each use of a curve takes a load unless
 /// the curve stays in the drive since its last use. To stay it takes one of the places that the
-/// tests between leave free. The stay that ends first is granted first: a later one that it shuts
-/// out would take, from the step on where they compete, every place that it takes. No test is wider
-/// than the places.
-pub fn fewest_loads(places: usize, wants: &[u64], order: &[u16]) -> u64 {
+/// booked ones and the tests between leave free. The stay that ends first is granted first: a later
+/// one that it shuts out would take, from the step on where they compete, every place that it takes.
+/// No test is wider than the places less booked.
+pub fn fewest_loads(places: usize, booked: usize, wants: &[u64], order: &[u16]) -> u64 {
     let steps: Vec<Curves> = order
         .iter()
         .map(|&test| set_of(wants[test as usize]))
         .collect();
-    let mut free: Vec<usize> = steps.iter().map(|wanted| places - wanted.len()).collect();
+    let taken = |wanted: &Curves| booked + wanted.len();
+    let mut free: Vec<usize> = steps.iter().map(|wanted| places - taken(wanted)).collect();
     let mut loads = 0;
     let mut stays = Vec::new();
     for curve in 0..64 {
@@ -1156,10 +1209,12 @@ pub fn audit_text(answer: &Result<Audit, Refused>) -> String {
 // Two more ways to say what a plan is, for small jobs
 
 /// Whether a plan passes the check, told curve by curve: each curve of the 64 goes through the
-/// steps on its own, and the steps only count how many curves they hold. Behind the last test it is
-/// in the end set exactly if it is inside.
+/// steps on its own, and the steps only count how many places are taken: those booked, and one for
+/// each curve they hold. Behind the last test a curve is in the end set exactly if it is inside.
+#[allow(clippy::too_many_arguments)]
 pub fn passes(
     places: usize,
+    booked: usize,
     curves: usize,
     wants: &[u64],
     order: &[u16],
@@ -1174,7 +1229,7 @@ pub fn passes(
     if !each_once || drops.len() != tests || loads.len() != tests {
         return false;
     }
-    let mut holding = vec![0usize; tests];
+    let mut taken = vec![booked; tests];
     for curve in 0..64 {
         let has = |set: u64| (set >> curve) & 1 == 1;
         let mut inside = false;
@@ -1194,21 +1249,28 @@ pub fn passes(
                 return false;
             }
             if inside {
-                holding[step] += 1;
+                taken[step] += 1;
             }
         }
         if inside != has(end) {
             return false;
         }
     }
-    holding.iter().all(|&number| number <= places)
+    taken.iter().all(|&number| number <= places)
 }
 
 /// The fewest loads of ANY plan for this job and order that passes the check, by trying every
 /// drop set and every load set from every set that can be held, and behind the last test every end
-/// set. So only plans that end empty are compared. `None`: no plan passes.
+/// set. So only plans that end empty are compared. What a step holds and the booked places fit the
+/// places. `None`: no plan passes.
 /// For small jobs: curves up to about 8.
-pub fn least_loads(places: usize, curves: usize, wants: &[u64], order: &[u16]) -> Option<u64> {
+pub fn least_loads(
+    places: usize,
+    booked: usize,
+    curves: usize,
+    wants: &[u64],
+    order: &[u16],
+) -> Option<u64> {
     let all = 1usize << curves;
     // fewest[h]: fewest loads so far with h held.
     let mut fewest: Vec<Option<u64>> = vec![None; all];
@@ -1222,7 +1284,8 @@ pub fn least_loads(places: usize, curves: usize, wants: &[u64], order: &[u16]) -
                 let left = held & !drops;
                 for loads in (0..all).filter(|&loads| loads & left == 0) {
                     let after = left | loads;
-                    let runs = wanted & !after == 0 && after.count_ones() as usize <= places;
+                    let taken = booked + after.count_ones() as usize;
+                    let runs = wanted & !after == 0 && taken <= places;
                     if !runs {
                         continue;
                     }
@@ -1259,14 +1322,15 @@ mod tests {
         let mut random = Random::new(11);
         for _ in 0..2_000 {
             let job = generate::job(&mut random, generate::Size::Small);
+            let capacity = less_booked(job.places, job.booked);
             let wants = sets_of(&job.wants);
             let tests: Vec<usize> = (0..wants.len()).collect();
             let longest = (0..=tests.len())
                 .rev()
-                .find(|&length| curves_of(&tests[..length], &wants).len() <= job.places)
+                .find(|&length| curves_of(&tests[..length], &wants).len() <= capacity)
                 .unwrap();
             let expected = curves_of(&tests[..longest], &wants);
-            assert_eq!(opening(&tests, job.places, &wants), expected);
+            assert_eq!(opening(&tests, capacity, &wants), expected);
         }
     }
 

@@ -1,7 +1,7 @@
 //! The stored cases of the sheet and audit programs, as the papers have them. None prints the number
 //! of the withdrawn refusal.
 
-use crate::generate::{PLAN_MADE, PLAN_READ, SHEET};
+use crate::generate::{JOB, PLAN_MADE, PLAN_READ, SHEET};
 use crate::reference::*;
 use crate::ties::both_plans;
 use std::collections::BTreeSet;
@@ -81,13 +81,15 @@ fn our_plan() {
     assert_eq!(call_bytes(&job, PLAN_MADE), Ok(plan.clone()));
     assert_eq!(stored("audit", "lowest_on_ties", "job"), job);
     let (job, order, _) = planned_job(&job).unwrap();
-    let (lowest, _) = both_plans(job.places, job.curves, &job.wants, &order).unwrap();
+    let plans = both_plans(job.places, job.booked, job.curves, &job.wants, &order);
+    let (lowest, _) = plans.unwrap();
     let bytes = plan_bytes(&order, &lowest.drops, &lowest.loads, lowest.end);
     assert_eq!(stored("audit", "lowest_on_ties", "plan"), bytes);
     assert_ne!(bytes, plan);
 }
 
-/// All fields, 256 tests, and all eight groups in each record.
+/// All fields, 256 tests, and all eight groups in each record: first without booked places, then with 32
+/// of 64 booked, so that as many are left.
 #[test]
 fn the_longest_job() {
     let job = stored("sheet", "longest_job", "job");
@@ -96,6 +98,71 @@ fn the_longest_job() {
     let mut longer = job.clone();
     longer.push(0);
     assert_eq!(stored("sheet", "longest_job_surplus", "job"), longer);
+    let mut booked = job;
+    (booked[0], booked[1]) = (booked[0] + 16, 64);
+    booked.insert(6, 32);
+    assert_eq!(booked.len(), JOB);
+    longer = booked.clone();
+    longer.push(0);
+    for program in ["sheet", "audit"] {
+        assert_eq!(stored(program, "longest_job_booked", "job"), booked);
+        let surplus = stored(program, "longest_job_booked_surplus", "job");
+        assert_eq!(surplus, longer);
+    }
+    let plan = stored("audit", "longest_job_booked", "plan");
+    assert_eq!(call_bytes(&booked, PLAN_MADE), Ok(plan));
+}
+
+/// A drive of which some places are booked prints what one with as many fewer prints; with all of them
+/// something else is printed.
+#[test]
+fn booked_places() {
+    for (name, fewer) in [
+        ("job_a_booked", "job_a"),
+        ("job_a_booked_most", "job_a"),
+        ("job_a_booked_method_3", "job_a_method_3"),
+        ("longest_job_booked", "longest_job"),
+    ] {
+        let printed = stored("sheet", name, "out");
+        assert_eq!(printed, stored("sheet", fewer, "out"), "{name}");
+    }
+    let read = |program: &str, name: &str| read_job(&stored(program, name, "job"), 256).unwrap();
+    let unbooked = |job: &Job| {
+        let (places, curves) = (job.places, job.curves);
+        write_job(places, 0, curves, job.method, &job.wants, JOB).unwrap()
+    };
+    for name in [
+        "job_a_booked",
+        "booked_absent_places",
+        "booked_packages",
+        "booked_packages_flipped",
+        "empty_list_booked",
+    ] {
+        let job = read("sheet", name);
+        assert!(job.booked > 0);
+        let raw = sheet(&unbooked(&job)).into_bytes();
+        let printed = stored("sheet", name, "out");
+        assert_ne!(raw, printed, "{name}");
+        if name.starts_with("booked_packages") {
+            // It is the order that differs.
+            let test = |text: &[u8], line: usize| {
+                let text = String::from_utf8(text.to_vec()).unwrap();
+                let line = text.lines().nth(line).unwrap().to_string();
+                line.split(' ').nth(2).unwrap().to_string()
+            };
+            assert!((1..=3).any(|line| test(&raw, line) != test(&printed, line)));
+        }
+    }
+    for name in ["our_plan_booked", "refused_12_booked"] {
+        let job = unbooked(&read("audit", name));
+        let raw = audit_text(&audit(&job, &stored("audit", name, "plan")));
+        assert_ne!(raw.into_bytes(), stored("audit", name, "out"), "{name}");
+    }
+    // Places that are absent are 8.
+    for program in ["sheet", "audit"] {
+        assert_eq!(stored(program, "refused_13_absent_places", "job"), [16, 8]);
+        assert_eq!(stored(program, "empty_list_booked", "job"), [16, 7]);
+    }
 }
 
 /// A step of our plan names no curve twice: what it drops is not wanted, what it loads is. So no curve

@@ -48,12 +48,13 @@ pub fn parting(wants: &[u64], order: &[u16], lowest: &Plan, highest: &Plan) -> O
 /// The plans of both tie rules, lowest first; `None`: refused.
 pub fn both_plans(
     places: usize,
+    booked: usize,
     curves: usize,
     wants: &[u64],
     order: &[u16],
 ) -> Option<(Plan, Plan)> {
     let tests = wants.len();
-    let made = |rule| plan_by(rule, places, curves, wants, order, tests, tests).ok();
+    let made = |rule| plan_by(rule, places, booked, curves, wants, order, tests, tests).ok();
     Some((made(TieRule::Lowest)?, made(TieRule::Highest)?))
 }
 
@@ -113,13 +114,14 @@ impl Parting {
 /// The kinds of a list and order with our plan, which has to have the load count of the other rule's.
 pub fn kinds(
     places: usize,
+    booked: usize,
     curves: usize,
     wants: &[u64],
     order: &[u16],
     ours: &Plan,
 ) -> Vec<&'static str> {
-    let tests = wants.len();
-    let lowest = plan_by(TieRule::Lowest, places, curves, wants, order, tests, tests)
+    let (rule, tests) = (TieRule::Lowest, wants.len());
+    let lowest = plan_by(rule, places, booked, curves, wants, order, tests, tests)
         .expect("refused under both rules or neither");
     assert_eq!(lowest.count, ours.count);
     match parting(wants, order, &lowest, ours) {

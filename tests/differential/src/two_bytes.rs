@@ -52,7 +52,7 @@ fn wide_order(wants: &[u64]) -> Vec<u16> {
 
 /// The order of the reference, whose degrees take two bytes; it is the same.
 fn order_of(wants: &[u64]) -> Vec<u16> {
-    let order = reference::order_tests(64, 64, 1, wants, wants.len()).unwrap();
+    let order = reference::order_tests(64, 0, 64, 1, wants, wants.len()).unwrap();
     assert_eq!(order, wide_order(wants));
     order
 }
@@ -398,10 +398,10 @@ fn jobs_of_every_kind() {
         let job = degrees::job(&mut random);
         assert_eq!(job.method, 1);
         assert_eq!(
-            reference::examine(job.places, job.curves, &job.wants),
+            reference::examine(job.places, job.booked, job.curves, &job.wants),
             Ok(())
         );
-        assert_eq!(reference::examine_sizes(job.places, &job.wants), Ok(()));
+        assert_eq!(reference::examine_sizes(job.capacity(), &job.wants), Ok(()));
         for kind in degrees::kinds(&job.wants, &wide_order(&job.wants)) {
             *met.entry(kind).or_default() += 1;
         }

@@ -6,7 +6,10 @@ use Rattle.exports.proofs.curveplan_write_job.Statement.{statement}
 use Rattle.exports.proofs.curveplan_write_job.Tie as tie
 
 returns : tie.Need-returns
-returns c = let e = c .before .before .before .write-job .ensures in (c .counted .ensures ∙ ap numbered (e .0), e .1)
+returns c =
+    let p = c .before .before .before in
+    let e = rw (p .before .before .rig .ensures) at (p .write-job .ensures) in
+    (c .counted .ensures ∙ ap numbered (e .0), e .1)
 
 pub curveplan-write-job-spec : {M : Type 1} → statement M
-curveplan-write-job-spec = tie.close (tie.spec (λ c κs. search needs) (λ c κs. search needs) (λ c. search needs) returns)
+curveplan-write-job-spec = tie.close (tie.spec (λ c κs. search needs) (λ c κs. search needs) (λ c κs. search needs) (λ c. search needs) returns)

@@ -15,7 +15,7 @@ returns c = sym (refused-both _ _ _ _ (examined-refused _ _ _ (c .before .r .giv
 returns-2 : tie.Need-returns-2
 unfolding orderingKnown
 returns-2 c =
-    c .examine-sizes .ensures ∙ sym (done-both _ _ (examined-passed _ _ (c .before .enum-told .given .1) (c .before .before .before .examine-job .ensures)))
+    c .examine-fit .ensures ∙ sym (done-both _ _ (examined-passed _ _ (c .before .enum-told .given .1) (c .before .before .before .examine-job .ensures)))
 
 pub examine-ordering-spec : {M : Type 1} → statement M
 examine-ordering-spec = tie.close (tie.spec (λ c κs. search needs) (λ c. search needs) returns (λ c. search needs) (λ c κs. search needs) returns-2)

@@ -15,7 +15,7 @@ returns c = sym (refused-both _ _ _ _ (examined-refused _ _ _ (c .before .r .giv
 returns-2 : tie.Need-returns-2
 unfolding planningKnown
 returns-2 c =
-    c .examine-sizes .ensures
+    c .examine-fit .ensures
     ∙ sym (done-both _ _ (examined-passed _ _ (c .before .enum-told .given .1) (c .before .before .before .examine-checking .ensures)))
 
 pub examine-planning-spec : {M : Type 1} → statement M

@@ -14,16 +14,16 @@ use Rattle.job.proofs.examine_sizes.Statement.{statement}
 use Rattle.job.proofs.examine_sizes.Tie as tie
 
 abbrev Inv-loop : tie.InvT-loop
-Inv-loop places wants t₀ t = (t ≤ length wants) × (each (λ w. leb (size w) places) 7 0 wants ≡ each (λ w. leb (size w) places) 7 (0 + t) (drop t wants))
+Inv-loop most wants t₀ t = (t ≤ length wants) × (each (λ w. leb (size w) most) 7 0 wants ≡ each (λ w. leb (size w) most) 7 (0 + t) (drop t wants))
 
 abbrev μ-loop : tie.MeasureT-loop
-μ-loop places wants t₀ t = length wants - t
+μ-loop most wants t₀ t = length wants - t
 
 returns : tie.Need-returns Inv-loop μ-loop
 unfolding examinedOutcome wantsFit
 returns c =
     sym (c .before .before .before .before .loop .inv .1
-    ∙ each-fail (λ w. leb (size w) (c .before .before .before .before .before .before .args .places)) 7 0
+    ∙ each-fail (λ w. leb (size w) (c .before .before .before .before .before .before .args .most)) 7 0
     (c .before .before .before .before .before .before .args .wants .now) (c .before .before .before .before .loop .t) (omega arith)
     (lt-leb (size (getD (c .before .before .before .before .before .before .args .wants .now) (c .before .before .before .before .loop .t) 0)) _
     (omega arith)) ∙ ap (λ (x : ℕ). refused 7 x) (omega arith))
@@ -32,7 +32,7 @@ loop-again : tie.Need-loop-again Inv-loop μ-loop
 loop-again c = (
   omega arith,
   c .before .before .before .before .loop .inv .1
-      ∙ each-pass (λ w. leb (size w) (c .before .before .before .before .before .before .args .places)) 7 0
+      ∙ each-pass (λ w. leb (size w) (c .before .before .before .before .before .before .args .most)) 7 0
       (c .before .before .before .before .before .before .args .wants .now) (c .before .before .before .before .loop .t) (omega arith)
       (le-leb (size (getD (c .before .before .before .before .before .before .args .wants .now) (c .before .before .before .before .loop .t) 0)) _
       (omega arith)),
@@ -42,7 +42,7 @@ returns-2 : tie.Need-returns-2 Inv-loop μ-loop
 unfolding examinedOutcome wantsFit
 returns-2 c =
     sym (c .before .loop .inv .1
-    ∙ each-end (λ w. leb (size w) (c .before .before .before .args .places)) 7 0 (c .before .before .before .args .wants .now) (c .before .loop .t)
+    ∙ each-end (λ w. leb (size w) (c .before .before .before .args .most)) 7 0 (c .before .before .before .args .wants .now) (c .before .loop .t)
     (omega arith))
 
 pub examine-sizes-spec : {M : Type 1} → statement M

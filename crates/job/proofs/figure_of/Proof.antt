@@ -48,8 +48,12 @@ returns-11 : tie.Need-returns-11
 unfolding figure
 returns-11 c = rw (c .before .r11 .given .1)
 
+returns-12 : tie.Need-returns-12
+unfolding figure
+returns-12 c = rw (c .before .r12 .given .1)
+
 pub figure-of-spec : {M : Type 1} → statement M
 figure-of-spec =
     tie.close (tie.spec (λ c. search needs) (λ c. search needs) (λ c. search needs) (λ c. search needs) (λ c. search needs) (λ c. search needs)
-    (λ c. search needs) (λ c. search needs) (λ c. search needs) (λ c. search needs) (λ c. search needs) returns returns-2
-    returns-3 returns-4 returns-5 returns-6 returns-7 returns-8 returns-9 returns-10 returns-11)
+    (λ c. search needs) (λ c. search needs) (λ c. search needs) (λ c. search needs) (λ c. search needs) (λ c. search needs)
+    returns returns-2 returns-3 returns-4 returns-5 returns-6 returns-7 returns-8 returns-9 returns-10 returns-11 returns-12)

@@ -24,25 +24,25 @@ returns c =
     let a = c .before .before .before .before .before .before .before .args in
     let ws = now (a .wants) in
     c .before .before .listed-order .ensures ∙ entered-all (upTo (length ws)) (now (a .order)) _ (length-upTo (length ws)) (omega arith) (omega arith)
-    ∙ over (now (a .order)) _ _ (by-0 (a .places) ws (a .method) (omega arith))
+    ∙ over (now (a .order)) _ _ (by-0 (a .capacity) ws (a .method) (omega arith))
 
 returns-2 : tie.Need-returns-2
 returns-2 c =
     let a = c .before .before .before .before .before .before .before .before .args in
-    c .before .before .reverse-cuthill-mckee .ensures ∙ over (now (a .order)) _ _ (by-1 (a .places) (now (a .wants)) (a .method) (omega arith))
+    c .before .before .reverse-cuthill-mckee .ensures ∙ over (now (a .order)) _ _ (by-1 (a .capacity) (now (a .wants)) (a .method) (omega arith))
 
 returns-3 : tie.Need-returns-3
 returns-3 c =
     let a = c .before .before .before .before .before .before .before .before .before .args in
-    c .before .before .spanning-tree .ensures ∙ over (now (a .order)) _ _ (by-2 (a .places) (now (a .wants)) (a .method) (omega arith))
+    c .before .before .spanning-tree .ensures ∙ over (now (a .order)) _ _ (by-2 (a .capacity) (now (a .wants)) (a .method) (omega arith))
 
 returns-4 : tie.Need-returns-4
 returns-4 c =
     let a = c .before .before .before .before .before .before .before .before .before .args in
     let ws = now (a .wants) in
     c .before .before .package-order .ensures
-    ∙ entered-all (packages (a .places) ws) (now (a .order)) _ (packages-long (a .places) ws) (omega arith) (omega arith)
-    ∙ over (now (a .order)) _ _ (by-3 (a .places) ws (a .method) (λ e. omega arith) (λ e. omega arith) (λ e. omega arith))
+    ∙ entered-all (packages (a .capacity) ws) (now (a .order)) _ (packages-long (a .capacity) ws) (omega arith) (omega arith)
+    ∙ over (now (a .order)) _ _ (by-3 (a .capacity) ws (a .method) (λ e. omega arith) (λ e. omega arith) (λ e. omega arith))
 
 pub write-order-spec : {M : Type 1} → statement M
 write-order-spec =

@@ -47,11 +47,11 @@ enough : (c : tie.After-steps2)
 enough c = omega (arith, c .before .in-order .kept .1 .1 .0, known-exact _ _ (passed (c .before .before .before .before .before .before)) .0 .tests-bound)
 
 array-share-prefix-steps : tie.Need-array-share-prefix-steps
-array-share-prefix-steps c = omega (arith, enough (c .before))
+array-share-prefix-steps c = omega (arith, enough (c .before .before))
 
 slice-aggregate-check-steps : tie.Need-slice-aggregate-check-steps
 slice-aggregate-check-steps c =
-    let s = c .before .before in
+    let s = c .before .before .before in
     omega (
       arith,
       length-take-le (length (now (s .before .before .before .before .before .before .before .before .before .before .before .before .before .args .wants)))
@@ -60,23 +60,26 @@ slice-aggregate-check-steps c =
 
 -- what was answered of the steps
 checked : (c : tie.After-check-steps)
-    → let a = c .before .before .before .before .before .before .before .before .before .before .before .before .before .before .before .before .args in
+    → let a = c .before .before .before .before .before .before .before .before .before .before .before .before .before .before .before .before .before .args in
     c .check-steps .result ≡ checkFrom (capacity (a .rig)) (allCurves (a .rig .curves)) 0 0
     (moves (inOrder (now (a .wants)) (now (a .order))) (now (a .drops)) (now (a .loads)))
 checked c =
-    let s = c .before .before .before .before in
+    let s = c .before .before .before .before .before in
     let k = s .before .before .before .before .before in
     let a = k .before .before .before .before .before .before .before .args in
     let j = jobOf (a .rig) (now (a .wants)) in
     let is = known-exact j (now (a .order)) (passed k) .0 in
     let ms : List ℕ → List Move = λ ws. moves ws (now (a .drops)) (now (a .loads)) in
     let few : min (a .rig .curves) 64 ≡ a .rig .curves = omega (arith, is .curves-bounds) in
-    let all : c .before .before .below .result ≡ allCurves (a .rig .curves) = c .before .before .below .ensures ∙ ap (λ (n : ℕ). 2 ^ n - 1) few in
+    let b = c .before .before .before .below in
+    let all : b .result ≡ allCurves (a .rig .curves) = b .ensures ∙ ap (λ (n : ℕ). 2 ^ n - 1) few in
     let steps : take (length (now (a .wants))) (s .in-order .last .1 .1 .0) ≡ inOrder (now (a .wants)) (now (a .order)) =
     ap (take (length (now (a .wants)))) (s .in-order .ensures) ∙ first-steps j (now (a .order)) (passed k) _ (omega (arith, is .tests-bound)) in
+    let ws = take (length (now (a .wants))) (s .in-order .last .1 .1 .0) in
     c .check-steps .ensures
-    ∙ ap (λ (x : ℕ). checkFrom (a .rig .places) x 0 0 (ms (take (length (now (a .wants))) (s .in-order .last .1 .1 .0)))) all
-    ∙ ap (λ (ws : List ℕ). checkFrom (a .rig .places) (allCurves (a .rig .curves)) 0 0 (ms ws)) steps
+    ∙ ap (λ (n : ℕ). checkFrom n (b .result) 0 0 (ms ws)) (c .before .before .capacity .ensures)
+    ∙ ap (λ (x : ℕ). checkFrom (capacity (a .rig)) x 0 0 (ms ws)) all
+    ∙ ap (λ (ws : List ℕ). checkFrom (capacity (a .rig)) (allCurves (a .rig .curves)) 0 0 (ms ws)) steps
 
 -- the end set is compared with what is held
 returns-3 : tie.Need-returns-3
@@ -84,19 +87,19 @@ unfolding countOutcome
 returns-3 c =
     let h = c .before .before in
     let s = h .before .before in
-    let t = s .before .before .before .before .before .before in
+    let t = s .before .before .before .before .before .before .before in
     sym (check-other-end _ _ _ (passed (t .before .before .before)) (sets-passed t) _ (sym (checked s) ∙ h .held .given .1) (c .if1 .taken))
 
 count-curves-requires : tie.Need-count-curves-requires
 count-curves-requires c κs =
-    let t = c .before .before .before .before .before .before .before .before .before .before in
+    let t = c .before .before .before .before .before .before .before .before .before .before .before in
     omega (arith, sets-long _ _ _ (sets-passed t), known-exact _ _ (passed (t .before .before .before)) .0 .tests-bound)
 
 returns-4 : tie.Need-returns-4
 unfolding countOutcome
 returns-4 c =
     let s = c .before .before .before in
-    let t = s .before .before .before .before .before .before in
+    let t = s .before .before .before .before .before .before .before in
     sym (check-broken _ _ _ (passed (t .before .before .before)) (sets-passed t) _ (sym (checked s) ∙ c .before .i .given .1))
 
 returns-5 : tie.Need-returns-5
@@ -104,12 +107,12 @@ unfolding countOutcome
 returns-5 c =
     let h = c .before .before .before in
     let s = h .before .before in
-    let t = s .before .before .before .before .before .before in
+    let t = s .before .before .before .before .before .before .before in
     rw (c .count-curves .ensures)
     (sym (check-ended _ _ _ (passed (t .before .before .before)) (sets-passed t) _ (sym (checked s) ∙ h .held .given .1) (c .before .if1 .left)))
 
 pub check-plan-spec : {M : Type 1} → statement M
 check-plan-spec =
     tie.close (tie.spec (λ c κs. search needs) (λ c. search needs) returns (λ c. search needs) (λ c κs. search needs) (λ c. search needs) returns-2
-    (λ c. search needs) (λ c. search needs) (λ c κs. search needs) (λ c κs. search needs) array-share-prefix-steps slice-aggregate-check-steps
-    (λ c κs. search needs) (λ c. search needs) (λ c. search needs) returns-3 count-curves-requires returns-4 returns-5)
+    (λ c. search needs) (λ c. search needs) (λ c κs. search needs) (λ c κs. search needs) (λ c κs. search needs) array-share-prefix-steps
+    slice-aggregate-check-steps (λ c κs. search needs) (λ c. search needs) (λ c. search needs) returns-3 count-curves-requires returns-4 returns-5)

@@ -17,13 +17,14 @@ returns c =
 returns-2 : tie.Need-returns-2
 returns-2 c =
     let p = c .before .before .before .before in
-    let k = p .before .before .before in
+    let m = p .before .before .before in
+    let k = m .before in
     let a = k .before .before .before .before .before .before .before .args in
     tests-contract _ _ (setLists (now (a .drops)) (now (a .loads)))
     (examined-passed _ _ (k .enum-told .given .1) (k .before .before .examine-planning .ensures)) _ _
-    (p .plan-tests .ensures .0) (p .plan-tests .ensures .1)
+    (rw (← (m .capacity .ensures)) (p .plan-tests .ensures .0)) (rw (← (m .capacity .ensures)) (p .plan-tests .ensures .1))
 
 pub plan-spec : {M : Type 1} → statement M
 plan-spec =
-    tie.close (tie.spec (λ c κs. search needs) (λ c. search needs) returns (λ c. search needs) (λ c κs. search needs) (λ c. search needs) (λ c. search needs)
-    returns-2)
+    tie.close (tie.spec (λ c κs. search needs) (λ c. search needs) returns (λ c. search needs) (λ c κs. search needs) (λ c κs. search needs) (λ c. search needs)
+    (λ c. search needs) returns-2)

@@ -55,7 +55,7 @@ write-plan-requires : tie.Need-write-plan-requires
 write-plan-requires c κs =
     let g = given (c .before .before .before .before) in (
       (g .drops-long ∙ sym (g .order-long), g .loads-long ∙ sym (g .order-long)),
-      (g .count, (g .few, g .places, g .method, omega (arith, g .few, g .order-long))),
+      (g .count, (g .few, g .room, g .method, omega (arith, g .few, g .order-long))),
     )
 
 returns : tie.Need-returns

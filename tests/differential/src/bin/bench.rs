@@ -93,6 +93,7 @@ impl Kind {
                     .collect();
                 generate::job_bytes(&generate::Job {
                     places: self.places,
+                    booked: 0,
                     curves: CURVES,
                     method,
                     wants,
@@ -197,12 +198,13 @@ fn time_library(kind: &Kind, jobs: &[&[u8]; 4], clock: u64, least: &mut Stages) 
     let wants = &wants[..tests];
     for method in [1, 2, 3, 0] {
         note(&mut least.orders[method], clock, || {
-            product::order_tests(kind.places, CURVES, method, black_box(wants), &mut order)
+            product::order_tests(kind.places, 0, CURVES, method, black_box(wants), &mut order)
         });
     }
     note(&mut least.plan, clock, || {
         product::plan_order(
             kind.places,
+            0,
             CURVES,
             wants,
             black_box(&order[..tests]),

@@ -21,7 +21,7 @@ abbrev μ-loop : tie.MeasureT-loop
 
 loop-holds : tie.Need-loop-holds Inv-loop μ-loop
 loop-holds c =
-    let n = none (now (c .before .args .values)) 4 (omega (arith, rows)) in
+    let n = none (now (c .before .args .values)) 5 (omega (arith, rows)) in
     (omega (arith, rows), sym (n .0), omega (arith, ap length (n .1)), omega arith)
 
 row-requires : tie.Need-row-requires Inv-loop μ-loop

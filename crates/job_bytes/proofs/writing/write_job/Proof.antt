@@ -60,7 +60,7 @@ own c =
     let a = h .before .before .before .before .before .before .before .args in
     let q = request (a .method) (jobOf (a .rig) (now (a .wants))) in
     let n : c .put-records .result ≡ length (bytes c) = omega (arith, p .0, h .head-shape .ensures .1 .0, job-length q) in
-    let m : length (bytes c) ≤ 2337 =
+    let m : length (bytes c) ≤ 2345 =
     omega (arith, rows, h .head-shape .ensures .1 .0, h .head-shape .ensures .1 .1, job-length q, records-le (now (a .wants)), few (h .before .before)) in
     let s = job-sets q _ _ _ (h .head-shape .result .len) (h .head-shape .ensures .1 .0) (k .put-head .ensures) (p .1) in
     let z : c .put-records .result ≡ 0 + length (bytes c) = omega arith in

@@ -1,4 +1,4 @@
--- `job_bytes::reading::read_head` meets its contract. The invariant: the fields from the j-th on, behind the values of those before, are what is left to read.
+-- `job_bytes::reading::read_fields` meets its contract. The invariant: the fields from the j-th on, behind the values of those before, are left to read.
 use mathlib.Core.Path.{_≡_, refl, _∙_}
 use mathlib.Core.List.{[]}
 use Prim.Native.Nat.{_+_, _-_, _*_, _%_, _≤_}
@@ -12,8 +12,8 @@ use Rattle.job_bytes.specs.SetBytes.{got}
 use Rattle.job_bytes.specs.JobBytes.{fields, readField, readFields}
 use Rattle.job_bytes.proofs.Heads.{rows, by-count, by-refusal, field-within, fields-end, fields-fault, fields-next, head-none, head-map, head-fields}
 use Rattle.job_bytes.proofs.Records.{list-more}
-use Rattle.job_bytes.proofs.reading.read_head.Statement.{statement}
-use Rattle.job_bytes.proofs.reading.read_head.Tie as tie
+use Rattle.job_bytes.proofs.reading.read_fields.Statement.{statement}
+use Rattle.job_bytes.proofs.reading.read_fields.Tie as tie
 
 abbrev Inv-loop : tie.InvT-loop
 Inv-loop job values₀ map₀ at₀ j₀ values map at j =
@@ -124,7 +124,7 @@ returns-4 c =
     head-fields bs (omega arith) (rw rows (omega arith))
     ∙ rw (l .inv .goes ∙ fields-end bs fields (l .j) (l .map) (take (l .j) (l .values)) (l .at) (omega (arith, rows)), e) refl
 
-pub read-head-spec : {M : Type 1} → statement M
-read-head-spec =
+pub read-fields-spec : {M : Type 1} → statement M
+read-fields-spec =
     tie.close (tie.spec Inv-loop μ-loop returns (λ c. search needs) cast-map returns-2 loop-holds row-requires read-field-requires (λ c. search needs)
     same-length returns-3 (λ c. search needs) mul-values slice-write-values mul-at add-at add-j loop-less loop-again same-length-2 returns-4)
