@@ -1,5 +1,6 @@
 -- `order_tests` meets its contract: each refusal is the rule's, and where there is none the order is written.
 use mathlib.Core.Path.{_≡_, ap, _∙_}
+use mathlib.Core.List.{List}
 use Prim.Native.Nat.{ℕ}
 use native.Mathlib.Omega.{arith}
 use denote.Ref.{now}
@@ -53,8 +54,9 @@ returns-3 c =
     let m = made-done _ (now (a .order)) _ (ordered (a .method) (jobOf (a .rig) (now (a .wants))) (length (now (a .order))) (known (k .before)) (omega arith))
     in
     let e = rw (order-entries (a .method) (capacity (a .rig)) (now (a .wants))) at (m .0) in
-    let w = ap (λ (n : ℕ). overwritten (orderBy (a .method) n (now (a .wants))) (now (a .order))) (p .capacity .ensures) in
-    (e, c .before .before .write-order .ensures ∙ w ∙ m .1)
+    let w : ℕ → List ℕ = λ n. overwritten (orderBy (a .method) n (now (a .wants))) (now (a .order)) in
+    let left : _ ≡ w (p .capacity .result) = c .before .before .write-order .ensures in
+    (e, left ∙ ap w (p .capacity .ensures) ∙ m .1)
 
 pub order-tests-spec : {M : Type 1} → statement M
 order-tests-spec =

@@ -76,8 +76,10 @@ checked c =
     let steps : take (length (now (a .wants))) (s .in-order .last .1 .1 .0) ≡ inOrder (now (a .wants)) (now (a .order)) =
     ap (take (length (now (a .wants)))) (s .in-order .ensures) ∙ first-steps j (now (a .order)) (passed k) _ (omega (arith, is .tests-bound)) in
     let ws = take (length (now (a .wants))) (s .in-order .last .1 .1 .0) in
-    c .check-steps .ensures
-    ∙ ap (λ (n : ℕ). checkFrom n (b .result) 0 0 (ms ws)) (c .before .before .capacity .ensures)
+    let p = c .before .before .capacity in
+    let answered : c .check-steps .result ≡ checkFrom (p .result) (b .result) 0 0 (ms ws) = c .check-steps .ensures in
+    answered
+    ∙ ap (λ (n : ℕ). checkFrom n (b .result) 0 0 (ms ws)) (p .ensures)
     ∙ ap (λ (x : ℕ). checkFrom (capacity (a .rig)) x 0 0 (ms ws)) all
     ∙ ap (λ (ws : List ℕ). checkFrom (capacity (a .rig)) (allCurves (a .rig .curves)) 0 0 (ms ws)) steps
 
