@@ -10,10 +10,11 @@ use Rattle.job_bytes.specs.SetBytes.{readGroup}
 use Rattle.planning.specs.Plan.{CountEnd}
 use Rattle.exports.specs.declared.JobHead.{JobHead}
 
--- the rig and the job of numbers that are handed over one by one
+-- the rig of numbers that are handed over one by one ..
 abbrev pub rigOf : ℕ → ℕ → ℕ → Rig
 rigOf places booked curves = record { places = places; booked = booked; curves = curves }
 
+-- .. and their job
 abbrev pub job : ℕ → ℕ → ℕ → List ℕ → Job
 job places booked curves wants = jobOf (rigOf places booked curves) wants
 

@@ -220,7 +220,7 @@ pub fn examine_job(rig: Rig, method: usize, wants: &[u64]) -> Examined
 
 // ---- 7 and 8
 
-// 7: "a test wants more curves than places", with the lowest such test.
+// 7: "a test wants more curves than places", with the lowest such test; `most` is what the drive can hold.
 pub fn examine_sizes(most: usize, wants: &[u64]) -> Examined
     ensures { λ r. ⌜ examinedOutcome r ≡ wantsFit most (was wants) ⌝ }
 {
