@@ -174,8 +174,8 @@ uint64_t curveplan_sheet(const uint8_t *job, size_t job_len, uint8_t *out, size_
 
 /*
  * Writes the audit of a plan for a job to `out`, and answers how many bytes it has: the plan's loads, the fewest of any plan for the same order of the tests
- * that passes the check, and by how many the plan can be shortened. A job that is refused has the audit `refused N at F`, and a plan that is refused has `plan refused N at F`; neither is a
- * refusal of this call.
+ * that passes the check, and by how many the plan can be shortened. A job that is refused has the audit `refused N at F`, and a plan that is refused has
+ * `plan refused N at F`; neither is a refusal of this call.
  * Refusals: 9 with the count of the bytes.
  */
 uint64_t curveplan_audit(const uint8_t *job, size_t job_len, const uint8_t *plan, size_t plan_len, uint8_t *out, size_t out_len);
