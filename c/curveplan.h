@@ -1,6 +1,6 @@
 /*
  * The rig's curve planner. The formats, the orders, the plan and the refusals are those of document 01, with the end step, the tie rule, the list without
- * tests and the booked places of document 02 (wishes 1 to 3 and 5; wish 4 changes no answer).
+ * tests, the booked places and the curves held at the start of document 02 (wishes 1 to 3, 5 and 6; wish 4 changes no answer).
  *
  * One call goes from a job's bytes to its plan's bytes: curveplan_plan, in the archive libcurveplan.a. The other functions take the steps between one by one,
  * and are in libexports.a; the smaller parts of these are declared in curveplan_parts.h.
@@ -11,7 +11,11 @@
  *   last test, 0 for none.
  * - Of a drive's places some may be booked for its own prefetching. The others, places less booked, are what the drive can hold of a list's curves: all orders,
  *   plans and checks go by this number, and 7 and the first line of the sheet too. Both numbers are read and written as they are.
- * - A job has 0 to 256 tests. Without tests its order and its lists are empty, its load count and its end set are 0, and its plan has no bytes.
+ * - A plan starts from the curves that the drive holds then: `held`, 0 for an empty drive. Who plans the rest of a list hands over the tests that are left, as
+ *   a list of their own, numbered from 0, and what the drive holds now. More may be held than there are places less booked: the first step drops the excess.
+ *   The call from bytes to bytes, the sheet and the audit start from an empty drive.
+ * - A job has 0 to 256 tests. Without tests its order and its lists are empty, its load count is 0, its end set is what is held at the start, and its plan has
+ *   no bytes but those of the end step.
  * - All lists and buffers belong to the caller. Nothing is kept of them after the call, and what is `const` is only read.
  * - Under a refusal nothing lent changes. On success the entries behind the result keep their contents.
  * - The first condition that is met is the one that is answered; the refusals of a function are listed in the order in which they are asked.
@@ -58,17 +62,20 @@ enum curveplan_refusal {
     CURVEPLAN_BAD_PLAN_BYTES = 11,  /* figure: the offset of the first malformed or surplus byte; the length if a byte is owed (read_plan) */
     CURVEPLAN_PLAN_REJECTED = 12,   /* figure: the first missing or surplus position of the drops or loads, the smaller; else the first step that breaks a
                                        rule of the check; else the number of tests, where the end set is not what is held (check_plan, write_plan) */
-    CURVEPLAN_TOO_MANY_BOOKED = 13  /* the booked places are not below the places; figure: the offset of their byte (plan, read_job), or 0, behind 10
+    CURVEPLAN_TOO_MANY_BOOKED = 13, /* the booked places are not below the places; figure: the offset of their byte (plan, read_job), or 0, behind 10
                                        (write_job, order_tests, plan_order, check_plan, write_plan) */
+    CURVEPLAN_UNKNOWN_HELD = 14     /* a curve is held that the job lacks; figure: the lowest such curve (plan_order, check_plan, write_plan) */
 };
 
 /* ---- the one call: archive libcurveplan.a */
 
 /*
- * Reads a job, orders its tests by the job's method, plans the drops and loads, and writes the plan's bytes to `plan`, which has room for `plan_len` bytes.
+ * Reads a job, orders its tests by the job's method, plans the drops and loads from an empty drive, and writes the plan's bytes to `plan`, which has room for
+ * `plan_len` bytes.
  *
- * No plan for the same job and order of its tests that passes the check (curveplan_check_plan) has fewer loads. Of the curves that may go, those whose next use
- * is furthest are dropped, the highest among equals. The plan ends with an empty drive: where something is held behind the last test, an end step drops it.
+ * No plan from an empty drive for the same job and order of its tests that passes the check (curveplan_check_plan) has fewer loads. Of the curves that may go,
+ * those whose next use is furthest are dropped, the highest among equals. The plan ends with an empty drive: where something is held behind the last test, an
+ * end step drops it.
  *
  * Answers
  *   below 65,536      the count of plan bytes written, at most 5,121; 0 exactly for a job without tests
@@ -123,27 +130,30 @@ uint64_t curveplan_order_tests(size_t places, size_t booked, size_t curves, size
                                size_t order_len);
 
 /*
- * Plans an order of the tests. The drops and loads of each step go to `drops` and `loads`, and the end set to `*end`; answers the load count. No plan for this
- * order that passes the check (curveplan_check_plan) has fewer loads.
- * Refusals: 10; 13; 8; 7; 9 with the number of tests.
+ * Plans an order of the tests, from the curves held. The drops and loads of each step go to `drops` and `loads`, and the end set to `*end`; answers the load
+ * count. No plan from the same curves held, for this order, that passes the check (curveplan_check_plan) has fewer loads.
+ * Refusals: 10; 13; 14; 8; 7; 9 with the number of tests.
  */
-uint64_t curveplan_plan_order(size_t places, size_t booked, size_t curves, const uint64_t *wants, size_t tests, const uint16_t *order, size_t order_len,
-                              uint64_t *drops, size_t drops_len, uint64_t *loads, size_t loads_len, uint64_t *end);
+uint64_t curveplan_plan_order(size_t places, size_t booked, size_t curves, const uint64_t *wants, size_t tests, uint64_t held, const uint16_t *order,
+                              size_t order_len, uint64_t *drops, size_t drops_len, uint64_t *loads, size_t loads_len, uint64_t *end);
 
 /*
- * Checks a plan from anywhere, with its end set, and answers its load count: at most places less booked are held while a test runs, among them its wants, and
- * the end set is what is held behind the last test.
- * Refusals: 10; 13; 8; 12.
+ * Checks a plan from anywhere, with its end set, from the curves held, and answers its load count: at most places less booked are held while a test runs, among
+ * them its wants, and the end set is what is held behind the last test. What is held at the start may be more. In a plan that passes, the curves held at the
+ * start and the loads are together as many as the drops and the end set.
+ * Refusals: 10; 13; 14; 8; 12.
  */
-uint64_t curveplan_check_plan(size_t places, size_t booked, size_t curves, const uint64_t *wants, size_t tests, const uint16_t *order, size_t order_len,
-                              const uint64_t *drops, size_t drops_len, const uint64_t *loads, size_t loads_len, uint64_t end);
+uint64_t curveplan_check_plan(size_t places, size_t booked, size_t curves, const uint64_t *wants, size_t tests, uint64_t held, const uint16_t *order,
+                              size_t order_len, const uint64_t *drops, size_t drops_len, const uint64_t *loads, size_t loads_len, uint64_t end);
 
 /*
- * Writes a plan that passes the check to `out` as plan bytes, and answers their count. An end set of 0 has no bytes.
- * Refusals: 10; 13; 8; 12; 9 with the count of the bytes.
+ * Writes a plan that passes the check from the curves held to `out` as plan bytes, and answers their count. An end set of 0 has no bytes; what is held at the
+ * start is not written.
+ * Refusals: 10; 13; 14; 8; 12; 9 with the count of the bytes.
  */
-uint64_t curveplan_write_plan(size_t places, size_t booked, size_t curves, const uint64_t *wants, size_t tests, const uint16_t *order, size_t order_len,
-                              const uint64_t *drops, size_t drops_len, const uint64_t *loads, size_t loads_len, uint64_t end, uint8_t *out, size_t out_len);
+uint64_t curveplan_write_plan(size_t places, size_t booked, size_t curves, const uint64_t *wants, size_t tests, uint64_t held, const uint16_t *order,
+                              size_t order_len, const uint64_t *drops, size_t drops_len, const uint64_t *loads, size_t loads_len, uint64_t end, uint8_t *out,
+                              size_t out_len);
 
 /*
  * Reads the plan bytes of a job with so many curves and tests. Each step's test, drops and loads go to the three lists, and the end set to `*end`, 0 where
@@ -173,9 +183,9 @@ struct curveplan_part curveplan_step_bytes(size_t curves, size_t tests, const ui
 uint64_t curveplan_sheet(const uint8_t *job, size_t job_len, uint8_t *out, size_t out_len);
 
 /*
- * Writes the audit of a plan for a job to `out`, and answers how many bytes it has: the plan's loads, the fewest of any plan for the same order of the tests
- * that passes the check, and by how many the plan can be shortened. A job that is refused has the audit `refused N at F`, and a plan that is refused has
- * `plan refused N at F`; neither is a refusal of this call.
+ * Writes the audit of a plan from an empty drive for a job to `out`, and answers how many bytes it has: the plan's loads, the fewest of any such plan for the
+ * same order of the tests that passes the check, and by how many the plan can be shortened. A job that is refused has the audit `refused N at F`, and a plan
+ * that is refused has `plan refused N at F`; neither is a refusal of this call.
  * Refusals: 9 with the count of the bytes.
  */
 uint64_t curveplan_audit(const uint8_t *job, size_t job_len, const uint8_t *plan, size_t plan_len, uint8_t *out, size_t out_len);

@@ -7,11 +7,13 @@
 
 #include "curveplan.h"
 #include "curveplan_parts.h"
+#include "print.h"
 
 #define PLACES 2
 #define BOOKED 0
 #define CURVES 4
 #define TESTS 4
+#define HELD 0 /* every plan here starts from an empty drive; rest.c has one that does not */
 
 static const uint8_t job_a[] = {0x07, 0x02, 0x04, 0x04, 0x00, 0x01, 0x03, 0x01, 0x06, 0x01, 0x03, 0x01, 0x08};
 
@@ -23,17 +25,6 @@ struct lists {
     uint64_t end;
 };
 
-/* The curves of a set, in rising order. */
-static void print_curves(uint64_t set)
-{
-    if (set == 0) {
-        printf(" none");
-    }
-    for (; set != 0; set = curveplan_without_lowest(set)) {
-        printf(" %u", (unsigned)curveplan_lowest(set));
-    }
-}
-
 /* The tests in the order of a method. */
 static void print_order(size_t method, const uint16_t *order)
 {
@@ -42,47 +33,6 @@ static void print_order(size_t method, const uint16_t *order)
         printf(" %u", order[i]);
     }
     printf("\n");
-}
-
-/* The steps, and the end step if something is held at the end. */
-static void print_steps(const uint16_t *order, const uint64_t *drops, const uint64_t *loads, uint64_t end)
-{
-    for (unsigned i = 0; i < TESTS; i++) {
-        printf("%u: test %u drop", i, order[i]);
-        print_curves(drops[i]);
-        printf(" load");
-        print_curves(loads[i]);
-        printf("\n");
-    }
-    if (end != 0) {
-        printf("%u: end drop", TESTS);
-        print_curves(end);
-        printf("\n");
-    }
-}
-
-/* The answer: a count of something, or the refusal. */
-static void print_answer(const char *what, uint64_t answer, const char *of)
-{
-    if (curveplan_refused_48(answer)) {
-        printf("%s: refused %u at %u\n", what, curveplan_number_48(answer), (unsigned)curveplan_figure_48(answer));
-    } else {
-        printf("%s: %u %s\n", what, (unsigned)answer, of);
-    }
-}
-
-/* Marks what is lent to a call that is refused .. */
-static void mark(void *lent, size_t bytes) { memset(lent, 0xee, bytes); }
-
-/* .. and says so if a byte changed. */
-static void print_change(const void *lent, size_t bytes)
-{
-    for (size_t i = 0; i < bytes; i++) {
-        if (((const uint8_t *)lent)[i] != 0xee) {
-            printf("byte %u changed\n", (unsigned)i);
-            return;
-        }
-    }
 }
 
 static void print_text(const char *what, uint64_t answer, const uint8_t *text)
@@ -97,11 +47,8 @@ static void print_text(const char *what, uint64_t answer, const uint8_t *text)
 static void print_step(size_t curves, size_t tests, const uint8_t *plan, size_t plan_len, unsigned position)
 {
     struct curveplan_part part = curveplan_step_bytes(curves, tests, plan, plan_len, position);
-    printf("step %u at %u:%s", position, (unsigned)part.start, part.count == 0 ? " no bytes" : "");
-    for (size_t i = 0; i < part.count; i++) {
-        printf(" %02x", plan[part.start + i]);
-    }
-    printf("\n");
+    printf("step %u at %u:", position, (unsigned)part.start);
+    print_bytes(plan + part.start, part.count);
 }
 
 /* What is refused, and changes nothing in the lists and the end set that are lent. */
@@ -112,9 +59,9 @@ static void print_refusals_of_lists(const uint64_t *wants, const uint16_t *order
     uint64_t answer;
     mark(&lent, sizeof lent);
     print_answer("a byte of the job missing", curveplan_read_job(job_a, sizeof job_a - 1, lent.drops, TESTS).answer, "tests");
-    answer = curveplan_plan_order(PLACES, BOOKED, CURVES, wants, TESTS, twice, TESTS, lent.drops, TESTS, lent.loads, TESTS, &lent.end);
+    answer = curveplan_plan_order(PLACES, BOOKED, CURVES, wants, TESTS, HELD, twice, TESTS, lent.drops, TESTS, lent.loads, TESTS, &lent.end);
     print_answer("a test twice in the order", answer, "loads");
-    answer = curveplan_plan_order(PLACES, BOOKED, CURVES, wants, TESTS, order, TESTS, lent.drops, TESTS, lent.loads, TESTS - 1, &lent.end);
+    answer = curveplan_plan_order(PLACES, BOOKED, CURVES, wants, TESTS, HELD, order, TESTS, lent.drops, TESTS, lent.loads, TESTS - 1, &lent.end);
     print_answer("planned with an entry of the loads missing", answer, "loads");
     answer = curveplan_read_plan(CURVES, TESTS, plan, plan_len - 1, lent.order, TESTS, lent.drops, TESTS, lent.loads, TESTS, &lent.end);
     print_answer("a byte of the plan missing", answer, "steps");
@@ -132,18 +79,18 @@ static void print_refusals_of_plans(const uint64_t *wants, const uint16_t *order
     uint8_t bytes[CURVEPLAN_PLAN_BYTES];
     uint64_t answer;
     mark(bytes, sizeof bytes);
-    answer = curveplan_write_plan(PLACES, BOOKED, CURVES, wants, TESTS, order, TESTS, drops, TESTS, loads, TESTS, end, bytes, plan_len - 1);
+    answer = curveplan_write_plan(PLACES, BOOKED, CURVES, wants, TESTS, HELD, order, TESTS, drops, TESTS, loads, TESTS, end, bytes, plan_len - 1);
     print_answer("a byte of room missing", answer, "bytes");
-    answer = curveplan_write_plan(PLACES, BOOKED, CURVES, wants, TESTS, order, TESTS, drops, TESTS, loads, TESTS, short_end, bytes, sizeof bytes);
+    answer = curveplan_write_plan(PLACES, BOOKED, CURVES, wants, TESTS, HELD, order, TESTS, drops, TESTS, loads, TESTS, short_end, bytes, sizeof bytes);
     print_answer("written with a curve missing in the end set", answer, "bytes");
     print_change(bytes, sizeof bytes);
-    answer = curveplan_check_plan(PLACES, BOOKED, CURVES, wants, TESTS, order, TESTS, drops, TESTS, loads, TESTS, short_end);
+    answer = curveplan_check_plan(PLACES, BOOKED, CURVES, wants, TESTS, HELD, order, TESTS, drops, TESTS, loads, TESTS, short_end);
     print_answer("checked with a curve missing in the end set", answer, "loads");
-    answer = curveplan_check_plan(PLACES, BOOKED, CURVES, wants, TESTS, order, TESTS, drops, TESTS, loads, TESTS, 0);
+    answer = curveplan_check_plan(PLACES, BOOKED, CURVES, wants, TESTS, HELD, order, TESTS, drops, TESTS, loads, TESTS, 0);
     print_answer("checked without an end set", answer, "loads");
-    answer = curveplan_check_plan(PLACES, BOOKED, CURVES, wants, TESTS, order, TESTS, drops, TESTS, loads, TESTS, foreign_end);
+    answer = curveplan_check_plan(PLACES, BOOKED, CURVES, wants, TESTS, HELD, order, TESTS, drops, TESTS, loads, TESTS, foreign_end);
     print_answer("checked with an unknown curve in the end set", answer, "loads");
-    answer = curveplan_check_plan(PLACES, BOOKED, CURVES, wants, TESTS, order, TESTS, drops, TESTS, fewer_loads, TESTS, end);
+    answer = curveplan_check_plan(PLACES, BOOKED, CURVES, wants, TESTS, HELD, order, TESTS, drops, TESTS, fewer_loads, TESTS, end);
     print_answer("no loads in step 1", answer, "loads");
 }
 
@@ -168,10 +115,10 @@ static void print_empty_list(void)
     for (unsigned method = 0; method <= 3; method++) {
         print_answer(methods[method], curveplan_order_tests(places, booked, curves, method, wants, 0, lent.order, TESTS), "tests");
     }
-    answer = curveplan_plan_order(places, booked, curves, wants, 0, lent.order, 0, lent.drops, TESTS, lent.loads, TESTS, &lent.end);
+    answer = curveplan_plan_order(places, booked, curves, wants, 0, HELD, lent.order, 0, lent.drops, TESTS, lent.loads, TESTS, &lent.end);
     print_answer("planned", answer, lent.end == 0 ? "loads, no end step" : "loads, an end step");
-    print_answer("checked", curveplan_check_plan(places, booked, curves, wants, 0, lent.order, 0, lent.drops, 0, lent.loads, 0, lent.end), "loads");
-    answer = curveplan_write_plan(places, booked, curves, wants, 0, lent.order, 0, lent.drops, 0, lent.loads, 0, lent.end, plan, sizeof plan);
+    print_answer("checked", curveplan_check_plan(places, booked, curves, wants, 0, HELD, lent.order, 0, lent.drops, 0, lent.loads, 0, lent.end), "loads");
+    answer = curveplan_write_plan(places, booked, curves, wants, 0, HELD, lent.order, 0, lent.drops, 0, lent.loads, 0, lent.end, plan, sizeof plan);
     print_answer("written", answer, "bytes");
     mark(&lent.end, sizeof lent.end);
     answer = curveplan_read_plan(curves, 0, plan, 0, lent.order, TESTS, lent.drops, TESTS, lent.loads, TESTS, &lent.end);
@@ -183,9 +130,11 @@ static void print_empty_list(void)
     answer = curveplan_read_plan(curves, 0, end_alone, sizeof end_alone, lent.order, 0, lent.drops, 0, lent.loads, 0, &lent.end);
     print_answer("an end step alone", answer, lent.end == 0 ? "steps, no end step" : "steps, an end step");
     print_step(curves, 0, end_alone, sizeof end_alone, 0);
-    print_answer("checked", curveplan_check_plan(places, booked, curves, wants, 0, lent.order, 0, lent.drops, 0, lent.loads, 0, lent.end), "loads");
-    print_answer("an entry in the loads", curveplan_check_plan(places, booked, curves, wants, 0, lent.order, 0, lent.drops, 0, lent.loads, 1, 0), "loads");
-    print_answer("an entry in the order", curveplan_check_plan(places, booked, curves, wants, 0, lent.order, 1, lent.drops, 0, lent.loads, 0, 0), "loads");
+    print_answer("checked", curveplan_check_plan(places, booked, curves, wants, 0, HELD, lent.order, 0, lent.drops, 0, lent.loads, 0, lent.end), "loads");
+    answer = curveplan_check_plan(places, booked, curves, wants, 0, HELD, lent.order, 0, lent.drops, 0, lent.loads, 1, 0);
+    print_answer("an entry in the loads", answer, "loads");
+    answer = curveplan_check_plan(places, booked, curves, wants, 0, HELD, lent.order, 1, lent.drops, 0, lent.loads, 0, 0);
+    print_answer("an entry in the order", answer, "loads");
     print_change(wants, sizeof wants);
     print_change(plan, sizeof plan);
     print_change(&lent, offsetof(struct lists, end));
@@ -209,25 +158,25 @@ static void print_booked(void)
     print_answer("written back", answer, memcmp(job, booked_a, sizeof job) == 0 ? "bytes, the same" : "bytes, others");
     curveplan_order_tests(places, booked, curves, head.method, wants, TESTS, own.order, TESTS);
     print_order(head.method, own.order);
-    answer = curveplan_plan_order(places, booked, curves, wants, TESTS, own.order, TESTS, own.drops, TESTS, own.loads, TESTS, &own.end);
+    answer = curveplan_plan_order(places, booked, curves, wants, TESTS, HELD, own.order, TESTS, own.drops, TESTS, own.loads, TESTS, &own.end);
     print_answer("planned", answer, "loads");
-    print_steps(own.order, own.drops, own.loads, own.end);
-    answer = curveplan_check_plan(places, booked, curves, wants, TESTS, own.order, TESTS, own.drops, TESTS, own.loads, TESTS, own.end);
+    print_steps(TESTS, own.order, own.drops, own.loads, own.end);
+    answer = curveplan_check_plan(places, booked, curves, wants, TESTS, HELD, own.order, TESTS, own.drops, TESTS, own.loads, TESTS, own.end);
     print_answer("checked", answer, "loads");
-    answer = curveplan_write_plan(places, booked, curves, wants, TESTS, own.order, TESTS, own.drops, TESTS, own.loads, TESTS, own.end, plan, sizeof plan);
+    answer = curveplan_write_plan(places, booked, curves, wants, TESTS, HELD, own.order, TESTS, own.drops, TESTS, own.loads, TESTS, own.end, plan, sizeof plan);
     print_answer("written", answer, "bytes");
     print_text("sheet", curveplan_sheet(booked_a, sizeof booked_a, text, sizeof text), text);
 
-    answer = curveplan_plan_order(places, 0, curves, wants, TESTS, own.order, TESTS, own.drops, TESTS, own.loads, TESTS, &own.end);
+    answer = curveplan_plan_order(places, 0, curves, wants, TESTS, HELD, own.order, TESTS, own.drops, TESTS, own.loads, TESTS, &own.end);
     print_answer("planned with none booked", answer, "loads");
-    print_steps(own.order, own.drops, own.loads, own.end);
-    answer = curveplan_check_plan(places, booked, curves, wants, TESTS, own.order, TESTS, own.drops, TESTS, own.loads, TESTS, own.end);
+    print_steps(TESTS, own.order, own.drops, own.loads, own.end);
+    answer = curveplan_check_plan(places, booked, curves, wants, TESTS, HELD, own.order, TESTS, own.drops, TESTS, own.loads, TESTS, own.end);
     print_answer("checked with one booked", answer, "loads");
 
     mark(&lent, sizeof lent);
     job[booked_at] = (uint8_t)places;
     print_answer("a job with all places booked", curveplan_read_job(job, sizeof job, lent.drops, TESTS).answer, "tests");
-    answer = curveplan_plan_order(places, places, curves, wants, TESTS, own.order, TESTS, lent.drops, TESTS, lent.loads, TESTS, &lent.end);
+    answer = curveplan_plan_order(places, places, curves, wants, TESTS, HELD, own.order, TESTS, lent.drops, TESTS, lent.loads, TESTS, &lent.end);
     print_answer("planned with all places booked", answer, "loads");
     print_answer("ordered with 64 booked", curveplan_order_tests(places, 64, curves, head.method, wants, TESTS, lent.order, TESTS), "tests");
     print_change(&lent, sizeof lent);
@@ -265,10 +214,11 @@ int main(void)
         print_order(method, by_method);
     }
 
-    print_answer("order 0 3 1 2 planned", curveplan_plan_order(PLACES, BOOKED, CURVES, wants, TESTS, order, TESTS, drops, TESTS, loads, TESTS, &end), "loads");
-    print_steps(order, drops, loads, end);
-    print_answer("checked", curveplan_check_plan(PLACES, BOOKED, CURVES, wants, TESTS, order, TESTS, drops, TESTS, loads, TESTS, end), "loads");
-    answer = curveplan_write_plan(PLACES, BOOKED, CURVES, wants, TESTS, order, TESTS, drops, TESTS, loads, TESTS, end, plan, sizeof plan);
+    answer = curveplan_plan_order(PLACES, BOOKED, CURVES, wants, TESTS, HELD, order, TESTS, drops, TESTS, loads, TESTS, &end);
+    print_answer("order 0 3 1 2 planned", answer, "loads");
+    print_steps(TESTS, order, drops, loads, end);
+    print_answer("checked", curveplan_check_plan(PLACES, BOOKED, CURVES, wants, TESTS, HELD, order, TESTS, drops, TESTS, loads, TESTS, end), "loads");
+    answer = curveplan_write_plan(PLACES, BOOKED, CURVES, wants, TESTS, HELD, order, TESTS, drops, TESTS, loads, TESTS, end, plan, sizeof plan);
     print_answer("written", answer, "bytes");
     size_t plan_len = (size_t)answer;
 
@@ -282,10 +232,11 @@ int main(void)
     }
     print_text("audit", curveplan_audit(job_a, sizeof job_a, plan, plan_len, text, sizeof text), text);
 
-    answer = curveplan_check_plan(PLACES, BOOKED, CURVES, wants, TESTS, order, TESTS, worse_drops, TESTS, worse_loads, TESTS, worse_end);
+    answer = curveplan_check_plan(PLACES, BOOKED, CURVES, wants, TESTS, HELD, order, TESTS, worse_drops, TESTS, worse_loads, TESTS, worse_end);
     print_answer("a worse plan for the same order", answer, "loads");
-    print_steps(order, worse_drops, worse_loads, worse_end);
-    answer = curveplan_write_plan(PLACES, BOOKED, CURVES, wants, TESTS, order, TESTS, worse_drops, TESTS, worse_loads, TESTS, worse_end, worse, sizeof worse);
+    print_steps(TESTS, order, worse_drops, worse_loads, worse_end);
+    answer = curveplan_write_plan(PLACES, BOOKED, CURVES, wants, TESTS, HELD, order, TESTS, worse_drops, TESTS, worse_loads, TESTS, worse_end, worse,
+                                  sizeof worse);
     print_text("audit", curveplan_audit(job_a, sizeof job_a, worse, (size_t)answer, text, sizeof text), text);
 
     print_text("sheet", curveplan_sheet(job_a, sizeof job_a, text, sizeof text), text);

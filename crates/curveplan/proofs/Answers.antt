@@ -26,7 +26,7 @@ use Rattle.planning.specs.Planning.{checking}
 use Rattle.planning.proofs.Demand3.{our-least}
 use Rattle.plan_bytes.specs.PlanBytes.{stepsBytes, endBytes, writePlan}
 use Rattle.plan_bytes.proofs.PlanRoundTrip.{plan-back}
-use Rattle.plan_bytes.proofs.PlanLength.{passed-length, no-bytes}
+use Rattle.plan_bytes.proofs.PlanLength.{empty-length, no-bytes}
 use Rattle.curveplan.specs.Call.{jobToPlan, numberOf, callAnswer}
 use Rattle.curveplan.specs.Library.{WrittenPlan}
 use Rattle.planned.proofs.Composed.{orderOf, setsOf, order-empty, plan-empty, checked}
@@ -65,7 +65,7 @@ module _ (bs : List ℕ) (all : Bytes bs) (lent : ℕ) where
       by-size j e (inl f) =
           rw (call-written bs j all e f lent)
           (refuses-both CallRefusal (room lent (length (bytesOf j))) (done (bytesOf j))
-          (unfold room in refuses-demand CallRefusal _ 9 (length (bytesOf j)) (inr (inl refl), passed-length _ _ _ _ (checked j (read-exact bs j all e) f))) tt)
+          (unfold room in refuses-demand CallRefusal _ 9 (length (bytesOf j)) (inr (inl refl), empty-length _ _ _ _ (checked j (read-exact bs j all e) f))) tt)
       by-size j e (inr x) =
           let r : ReadJob j = read-exact bs j all e in
           rw (call-too-large bs j all e 7 (x .0) (x .2) lent) (inl (omega arith, omega arith, λ e. omega arith), omega (arith, x .1, r .is-job .tests-bound))
@@ -85,7 +85,7 @@ module _ (bs : List ℕ) (all : Bytes bs) (lent : ℕ) where
       by-size j e (inr x) = absurd (refused≢done (sym (call-too-large bs j all e 7 (x .0) (x .2) lent) ∙ p))
       by-size j e (inl f) =
           let w = both-done (room lent (length (bytesOf j))) (done (bytesOf j)) plan (sym (call-written bs j all e f lent) ∙ p) in
-          rw (sym (done-same (w .1))) (passed-length _ _ _ _ (checked j (read-exact bs j all e) f))
+          rw (sym (done-same (w .1))) (empty-length _ _ _ _ (checked j (read-exact bs j all e) f))
 
       go : (o : Outcome Request) → readBytes bs ≡ o → length plan ≤ 5121
       go (refused k i) e = absurd (refused≢done (sym (call-unread bs k i e lent) ∙ p))
@@ -116,7 +116,7 @@ module _ (bs : List ℕ) (all : Bytes bs) (lent : ℕ) where
       by-size q e (inr x) = absurd (refused≢done (sym (call-too-large bs q all e 7 (x .0) (x .2) lent) ∙ p))
       by-size q e (inl f) =
           let c = checked q (read-exact bs q all e) f in
-          let b = plan-back (jobIn q) (orderOf q) (handed (setsOf q)) lent plan (written c ∙ sym (call-written bs q all e f lent) ∙ p) in
+          let b = plan-back (jobIn q) 0 (orderOf q) (handed 0 (setsOf q)) lent plan (written c ∙ sym (call-written bs q all e f lent) ∙ p) in
           record {
             request = q;
             read = e;
@@ -125,11 +125,11 @@ module _ (bs : List ℕ) (all : Bytes bs) (lent : ℕ) where
             in-order = b .2;
             count = loadCount (setsOf q);
             passes = rw (b .3) c;
-            least = our-least (jobIn q) (orderOf q);
+            least = our-least (jobIn q) 0 (orderOf q);
           }
         where
-          written : checking (jobIn q) (orderOf q) (handed (setsOf q)) ≡ done (loadCount (setsOf q))
-              → writePlan (jobIn q) (orderOf q) (handed (setsOf q)) lent ≡ _>>_ (room lent (length (bytesOf q))) (done (bytesOf q))
+          written : checking (jobIn q) 0 (orderOf q) (handed 0 (setsOf q)) ≡ done (loadCount (setsOf q))
+              → writePlan (jobIn q) 0 (orderOf q) (handed 0 (setsOf q)) lent ≡ _>>_ (room lent (length (bytesOf q))) (done (bytesOf q))
           written c = unfold writePlan _>>=_ in (rw c refl)
 
       go : (o : Outcome Request) → readBytes bs ≡ o → WrittenPlan bs plan

@@ -36,10 +36,10 @@ module _ (j : Job) (below : j .rig .booked < j .rig .places) (few : j .rig .plac
   unfolding ordering orderingKnown
   booked-ordered method lent = rw (known method, same) refl
 
-  pub booked-planned : (order : List ℕ) (lent : ℕ) → planning j order lent ≡ planning (unbooked j) order lent
+  pub booked-planned : (held : ℕ) (order : List ℕ) (lent : ℕ) → planning j held order lent ≡ planning (unbooked j) held order lent
   unfolding planning ourPlan planningKnown checkingKnown
-  booked-planned order lent = rw (known 0, same) refl
+  booked-planned held order lent = rw (known 0, same) refl
 
-  pub booked-checked : (order : List ℕ) (plan : Plan) → checking j order plan ≡ checking (unbooked j) order plan
+  pub booked-checked : (held : ℕ) (order : List ℕ) (plan : Plan) → checking j held order plan ≡ checking (unbooked j) held order plan
   unfolding checking endKnown checkingKnown
-  booked-checked order plan = rw (known 0, same) refl
+  booked-checked held order plan = rw (known 0, same) refl

@@ -22,7 +22,7 @@ use Rattle.curveplan.specs.Call.{written, jobToPlan, callPlan}
 
 -- the plan bytes of a job
 abbrev pub bytesOf : Request → List ℕ
-bytesOf q = planBytes (orderOf q) (handed (setsOf q))
+bytesOf q = planBytes (orderOf q) (handed 0 (setsOf q))
 
 -- ---- the whole, of bytes that read
 module _ (bs : List ℕ) (q : Request) (all : Bytes bs) (read : readBytes bs ≡ done q) where
@@ -47,7 +47,7 @@ call-unread bs k i e lent = rw (job-unread bs k i e) refl
 -- ---- what was planned passes the check, so that it is written the same without it
 module _ (bs : List ℕ) (all : Bytes bs) (p : Planned) (planned : planJob bs ≡ done p) where
   abbrev Passes : Type 0
-  Passes = (n : ℕ) × (checking (jobIn (p .request)) (p .order) (p .plan) ≡ done n)
+  Passes = (n : ℕ) × (checking (jobIn (p .request)) 0 (p .order) (p .plan) ≡ done n)
 
   passes : Passes
   passes = go (readBytes bs) refl
@@ -62,7 +62,7 @@ module _ (bs : List ℕ) (all : Bytes bs) (p : Planned) (planned : planJob bs �
 
   call-steps : (lent : ℕ) → jobToPlan bs lent ≡ writeSteps (p .order) (p .plan) lent
   unfolding jobToPlan written _>>=_
-  call-steps lent = rw planned (passed-written (jobIn (p .request)) (p .order) (p .plan) (passes .0) (passes .1) lent)
+  call-steps lent = rw planned (passed-written (jobIn (p .request)) 0 (p .order) (p .plan) (passes .0) (passes .1) lent)
 
 -- ---- what is answered and left, of what was planned
 module _ (bs old : List ℕ) where

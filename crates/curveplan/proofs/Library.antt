@@ -1,5 +1,6 @@
 -- WHAT THE LIBRARY PROMISES, proved: each promise by the theorem that shows it.
 use Rattle.job.proofs.JobExact.{job-by-exact}
+use Rattle.job.proofs.HeldExact.{held-exact}
 use Rattle.job.proofs.OrderExact.{order-exact}
 use Rattle.job.proofs.Refuses.{withdrawn}
 use Rattle.job_bytes.proofs.JobRoundTrip.{job-back, job-read}
@@ -7,6 +8,8 @@ use Rattle.ordering.proofs.Complete.{order-complete}
 use Rattle.ordering.proofs.Degrees.{degree-most, degree-reached}
 use Rattle.drive.proofs.Best.{either-tie}
 use Rattle.planning.proofs.Demand3.{demand3}
+use Rattle.planning.proofs.Rest.{rest-held, rest-planned}
+use Rattle.planning.proofs.Saved.{held-saves}
 use Rattle.plan_bytes.proofs.PlanRoundTrip.{plan-back, plan-read}
 use Rattle.curveplan.specs.Library.{Library}
 use Rattle.curveplan.proofs.Answers.{call-tells, call-planned, call-none}
@@ -16,6 +19,7 @@ pub library : Library
 library =
     record {
       jobs = λ method j. job-by-exact j method;
+      holdings = λ j. held-exact (j .rig .curves);
       orders = order-exact;
       complete = order-complete;
       demand-3 = demand3;
@@ -26,6 +30,9 @@ library =
       booked-ordered = λ method j below few. booked-ordered j below few method;
       booked-planned = booked-planned;
       booked-checked = booked-checked;
+      rest-held = rest-held;
+      rest-planned = rest-planned;
+      held-saves = held-saves;
       job-back = job-back;
       job-read = job-read;
       plan-back = plan-back;

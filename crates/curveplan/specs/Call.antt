@@ -9,7 +9,7 @@ use Rattle.planned.specs.Planned.{Planned, planJob}
 
 -- writing, into a buffer of so many bytes
 unfoldable pub written : ℕ → Planned → Outcome (List ℕ)
-written lent p = writePlan (jobIn (p .request)) (p .order) (p .plan) lent
+written lent p = writePlan (jobIn (p .request)) 0 (p .order) (p .plan) lent
 
 -- "reading, ordering, planning, writing"
 unfoldable pub jobToPlan : List ℕ → ℕ → Outcome (List ℕ)

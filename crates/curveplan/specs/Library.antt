@@ -2,29 +2,30 @@
 use mathlib.Core.Path.{_≡_}
 use mathlib.Core.Logic.{_↔_}
 use mathlib.Core.List.{List, []}
-use Prim.Native.Nat.{ℕ, _*_, _/_, _%_, _^_, _≤_, _<_}
-use lib.ListN.{length, getD, replicate}
-use Rattle.bitset.specs.Set.{below}
+use Prim.Native.Nat.{ℕ, _+_, _*_, _/_, _%_, _^_, _≤_, _<_}
+use lib.ListN.{length, getD, take, drop, replicate}
+use Rattle.bitset.specs.Set.{size, below}
 use Rattle.job.specs.declared.Refusal.{Refusal}
 use Rattle.job.specs.Refusal.{done, refused, number}
-use Rattle.job.specs.Words.{Job, jobOf, capacity, IsJob, IsOrder}
-use Rattle.job.specs.Handed.{jobKnownBy}
+use Rattle.job.specs.Words.{Job, jobOf, capacity, IsJob, IsHolding, IsOrder}
+use Rattle.job.specs.Handed.{heldKnown, jobKnownBy}
 use Rattle.job.specs.Order.{orderKnown}
 use Rattle.job_bytes.specs.SetBytes.{Bytes}
 use Rattle.job_bytes.specs.JobBytes.{Request, jobIn, request, readBytes, writeJob}
 use Rattle.packages.specs.Tests.{wantsOf}
 use Rattle.ordering.specs.Methods.{degree, orderBy}
 use Rattle.ordering.specs.Ordering.{ordering}
-use Rattle.drive.specs.Steps.{curveCount, loadCount}
+use Rattle.drive.specs.declared.Sets.{Sets}
+use Rattle.drive.specs.Steps.{heldAfter, curveCount, loadCount}
 use Rattle.drive.specs.Plan.{furthest, furthestLowest, planFrom}
-use Rattle.planning.specs.Plan.{Plan, SetLists}
-use Rattle.planning.specs.Planning.{planning, planAnswer, planLists, checking}
+use Rattle.planning.specs.Plan.{Plan, SetLists, inOrder}
+use Rattle.planning.specs.Planning.{planning, planAnswer, planLists, planSets, checking}
 use Rattle.planning.specs.Demand3.{Demand3}
 use Rattle.plan_bytes.specs.PlanBytes.{Contents, testsOf, planIn, planSteps, writePlan}
 use Rattle.curveplan.specs.Call.{jobToPlan, numberOf}
 
--- the plan bytes that the call wrote for a job's bytes read back to a plan that passes the check, for the order of the job's method, and no plan for that order
--- that passes has fewer loads
+-- the plan bytes that the call wrote for a job's bytes read back to a plan that passes the check from an empty drive, for the order of the job's method, and no
+-- plan for that order that passes has fewer loads
 pub record WrittenPlan (bs plan : List ℕ) : Type 0 where
   pub request : Request
   pub read : readBytes bs ≡ done request
@@ -32,9 +33,9 @@ pub record WrittenPlan (bs plan : List ℕ) : Type 0 where
   pub reads-back : planSteps (request .head .rig .curves) (length (request .wants)) plan ≡ done contents
   pub in-order : testsOf contents ≡ orderBy (request .head .method) (capacity (request .head .rig)) (request .wants)
   pub count : ℕ
-  pub passes : checking (jobIn request) (orderBy (request .head .method) (capacity (request .head .rig)) (request .wants)) (planIn contents) ≡ done count
+  pub passes : checking (jobIn request) 0 (orderBy (request .head .method) (capacity (request .head .rig)) (request .wants)) (planIn contents) ≡ done count
   pub least : (other : Plan) (m : ℕ)
-      → checking (jobIn request) (orderBy (request .head .method) (capacity (request .head .rig)) (request .wants)) other ≡ done m
+      → checking (jobIn request) 0 (orderBy (request .head .method) (capacity (request .head .rig)) (request .wants)) other ≡ done m
       → count ≤ curveCount (other .loads)
 
 -- the same list for a drive that has only the places that are not booked
@@ -43,13 +44,15 @@ unbooked j = jobOf (record { places = capacity (j .rig); booked = 0; curves = j 
 
 -- what the library promises
 pub record Library : Type 0 where
-  -- "Each refusal has exactly the condition shown": 10 and 13 are not given exactly for a job and a known method, 8 exactly for an order of its tests
+  -- "Each refusal has exactly the condition shown": 10 and 13 are not given exactly for a job and a known method, 14 exactly for a holding of its curves, 8
+  -- exactly for an order of its tests
   pub jobs : (method : ℕ) (j : Job) → jobKnownBy method j ≡ done tt ↔ (IsJob j × (method ≤ 3))
+  pub holdings : (j : Job) (held : ℕ) → heldKnown (j .rig .curves) held ≡ done tt ↔ IsHolding j held
   pub orders : (n : ℕ) (order : List ℕ) → orderKnown n order ≡ done tt ↔ IsOrder n order
   -- each method's order names each test exactly once
   pub complete : (method capacity : ℕ) (wants : List ℕ) → IsOrder (length wants) (orderBy method capacity wants)
-  -- DEMAND 3, of what planning answers and leaves in the lists lent to it: for every job, every order and all lists
-  pub demand-3 : (j : Job) (order : List ℕ) (lent : SetLists) → Demand3 j order (planAnswer j order lent) (planLists j order lent)
+  -- DEMAND 3, of what planning answers and leaves in the lists lent to it: for every job, whatever is held, every order and all lists
+  pub demand-3 : (j : Job) (held : ℕ) (order : List ℕ) (lent : SetLists) → Demand3 j held order (planAnswer j held order lent) (planLists j held order lent)
   -- 02, wish 2: "Load counts are proved the same under either tie rule": with ties to the lowest curve, as in 01, our plan would have as many loads, for every
   -- list of sets of n curves, whatever of them is held at first, and every capacity
   pub ties : (n capacity held : ℕ) (ws : List ℕ) → held < 2 ^ n → ((i : ℕ) → i < length ws → getD ws i 0 < 2 ^ n)
@@ -65,18 +68,29 @@ pub record Library : Type 0 where
   -- drive has at most 64, all is ordered, planned and checked, and refused, as for a drive that has only the others
   pub booked-ordered : (method : ℕ) (j : Job) → j .rig .booked < j .rig .places → j .rig .places ≤ 64 → (lent : ℕ)
       → ordering method j lent ≡ ordering method (unbooked j) lent
-  pub booked-planned : (j : Job) → j .rig .booked < j .rig .places → j .rig .places ≤ 64 → (order : List ℕ) (lent : ℕ)
-      → planning j order lent ≡ planning (unbooked j) order lent
-  pub booked-checked : (j : Job) → j .rig .booked < j .rig .places → j .rig .places ≤ 64 → (order : List ℕ) (p : Plan)
-      → checking j order p ≡ checking (unbooked j) order p
+  pub booked-planned : (j : Job) → j .rig .booked < j .rig .places → j .rig .places ≤ 64 → (held : ℕ) (order : List ℕ) (lent : ℕ)
+      → planning j held order lent ≡ planning (unbooked j) held order lent
+  pub booked-checked : (j : Job) → j .rig .booked < j .rig .places → j .rig .places ≤ 64 → (held : ℕ) (order : List ℕ) (p : Plan)
+      → checking j held order p ≡ checking (unbooked j) held order p
+  -- 02, wish 6: a list may be stopped behind any of its steps. What a plan that passes the check holds then names only curves of the job, as a holding does ..
+  pub rest-held : (j : Job) (held : ℕ) (order : List ℕ) (p : Plan) (m : ℕ) → checking j held order p ≡ done m
+      → (k : ℕ) → IsHolding j (heldAfter held (take k (planSets j order p)))
+  -- .. and a rest that is not changed, planned "from the curves now held", has the steps that it had: a list of its own, whatever the numbers of its tests,
+  -- whose steps want what the steps behind the first k wanted
+  pub rest-planned : (j rest : Job) (held k : ℕ) (order later : List ℕ) (lent room : ℕ) (plan again : List Sets) → planning j held order lent ≡ done plan
+      → rest .rig ≡ j .rig → inOrder (rest .wants) later ≡ drop k (inOrder (j .wants) order)
+      → planning rest (heldAfter held (take k plan)) later room ≡ done again → again ≡ drop k plan
+  -- "without unloading": what is held costs no load, and saves at most one for each of its curves, beside the plan for the same order from an empty drive
+  pub held-saves : (j : Job) (held : ℕ) (order : List ℕ) (lent : ℕ) (plan empty : List Sets) → planning j held order lent ≡ done plan
+      → planning j 0 order lent ≡ done empty → (loadCount plan ≤ loadCount empty) × (loadCount empty ≤ size held + loadCount plan)
   -- writing and reading undo each other: a job ..
   pub job-back : (method : ℕ) (j : Job) (lent : ℕ) (bytes : List ℕ) → writeJob method j lent ≡ done bytes → readBytes bytes ≡ done (request method j)
   pub job-read : (bs : List ℕ) (q : Request) → Bytes bs → readBytes bs ≡ done q → writeJob (q .head .method) (jobIn q) (length bs) ≡ done bs
   -- .. and a plan, with its end set
-  pub plan-back : (j : Job) (order : List ℕ) (p : Plan) (lent : ℕ) (bytes : List ℕ) → writePlan j order p lent ≡ done bytes
+  pub plan-back : (j : Job) (held : ℕ) (order : List ℕ) (p : Plan) (lent : ℕ) (bytes : List ℕ) → writePlan j held order p lent ≡ done bytes
       → (c : Contents) × (planSteps (j .rig .curves) (length (j .wants)) bytes ≡ done c) × (testsOf c ≡ order) × (planIn c ≡ p)
   pub plan-read : (j : Job) (bs : List ℕ) (c : Contents) → Bytes bs → planSteps (j .rig .curves) (length (j .wants)) bs ≡ done c
-      → (n : ℕ) → checking j (testsOf c) (planIn c) ≡ done n → writePlan j (testsOf c) (planIn c) (length bs) ≡ done bs
+      → (held n : ℕ) → checking j held (testsOf c) (planIn c) ≡ done n → writePlan j held (testsOf c) (planIn c) (length bs) ≡ done bs
   -- the call: an answer below 65,536 is the count of the bytes written, at most 5,121, which are a plan with the fewest loads for its order ..
   pub call-writes : (bs : List ℕ) → Bytes bs → (lent : ℕ) (plan : List ℕ) → jobToPlan bs lent ≡ done plan
       → (numberOf (jobToPlan bs lent) ≡ length plan) × (length plan ≤ 5121) × WrittenPlan bs plan

@@ -3,7 +3,9 @@
 --     Starred  THE STARRED EXAMPLES, one theorem
 --     Others   the other examples
 --     Booked   examples of booked places
+--     Halfway  examples of plans from what is held
 pub mod Rules
 pub mod Starred
 pub mod Others
 pub mod Booked
+pub mod Halfway

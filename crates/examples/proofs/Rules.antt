@@ -1,11 +1,11 @@
 -- `unfolding rules` lets every written rule compute.
 use mathlib.Core.List.{zipWith, flatten}
-use lib.Count.{ones}
+use lib.Count.{ones, trailingZeros, under}
 use Rattle.bitset.specs.Set.{inside}
 use Rattle.job.specs.Refusal.{readOutcome, countOutcome, _>>=_, _>>_, mapped, demand, room, overwritten, leaves}
 use Rattle.lists.specs.Choice.{keep, choose, bestOf}
 use Rattle.job.specs.Handed.{between, listed, each, placesKnown, curvesKnown, testsKnown, methodKnown, wantsKnown, wantsFit, numbersKnown}
-use Rattle.job.specs.Handed.{bookedBelow, bookedKnown, jobKnownBy, countsKnown}
+use Rattle.job.specs.Handed.{bookedBelow, bookedKnown, heldKnown, jobKnownBy, countsKnown}
 use Rattle.job.specs.Order.{orderFrom}
 use Rattle.job.specs.Calls.{orderingKnown, checkingKnown, planningKnown}
 use Rattle.job_bytes.specs.SetBytes.{groupOf, stands, groupBytes, groupMap, setBytes, byteAt, readGroup, readGroups}
@@ -31,9 +31,9 @@ use Rattle.planned.specs.Planned.{orderRequest, planInOrder, orderAndPlan, plan
 use Rattle.curveplan.specs.Call.{written, jobToPlan, numberOf, callAnswer, callPlan}
 
 unfoldable pub rules : Unit {0}
-unfolding ones readOutcome countOutcome _>>=_ _>>_ mapped demand room overwritten leaves keep choose bestOf between inside listed each placesKnown
-    curvesKnown testsKnown methodKnown wantsKnown wantsFit numbersKnown bookedBelow bookedKnown jobKnownBy countsKnown orderingKnown checkingKnown planningKnown groupOf
-    stands groupBytes groupMap setBytes byteAt readGroup readGroups fields readNumber readField readFields headFields readHead readRecord readRecords
+unfolding ones trailingZeros under readOutcome countOutcome _>>=_ _>>_ mapped demand room overwritten leaves keep choose bestOf between inside listed each
+    placesKnown curvesKnown testsKnown methodKnown wantsKnown wantsFit numbersKnown bookedBelow bookedKnown heldKnown jobKnownBy countsKnown orderingKnown
+    checkingKnown planningKnown groupOf stands groupBytes groupMap setBytes byteAt readGroup readGroups fields readNumber readField readFields headFields readHead readRecord readRecords
     atEnd readBytes readJob readJobAnswer readJobWants numberBytes zipWith flatten headBytes recordBytes jobBytes writeJob writeJobAnswer writeJobBuffer weight weights degree
     upTo appended grown bestUnlisted orElse neighbour nextOf cuthillMcKee reverseCuthillMcKee reach spanningTree flat bestPair without joined onPair
     curvesOf joinAll try pickTry _orMore_ longer runFrom flipped packages orderBy ordering orderAnswer orderList orderFrom heldAfter moves curveCount

@@ -55,20 +55,20 @@ pub record Booked : Type 0 where
   pub handed-63 : ordering 0 (bookedJob 2 63 4 (15 ∷ [])) 0 ≡ refused 13 0
   pub wants-before-range : ordering 0 (bookedJob 2 100 4 (15 ∷ 16 ∷ [])) 0 ≡ refused 10 5
   pub method-before-range : ordering 4 (bookedJob 2 100 4 (15 ∷ [])) 0 ≡ refused 10 3
-  pub places-before-booked : planning (bookedJob 0 0 4 (15 ∷ [])) (1 ∷ []) 0 ≡ refused 10 0
-  pub wants-before-booked : planning (bookedJob 2 2 4 (16 ∷ [])) (1 ∷ []) 0 ≡ refused 10 4
-  pub range-before-order : planning (bookedJob 2 64 4 (15 ∷ [])) (1 ∷ []) 0 ≡ refused 10 260
-  pub booked-before-order : planning (bookedJob 2 3 4 (15 ∷ [])) (1 ∷ []) 0 ≡ refused 13 0
-  pub booked-before-check : checking (bookedJob 2 2 4 (1 ∷ [])) (1 ∷ []) (planOf [] [] 0) ≡ refused 13 0
-  pub booked-before-writing : writePlan (bookedJob 2 2 4 (1 ∷ [])) (0 ∷ []) (planOf (0 ∷ []) (1 ∷ []) 1) 0 ≡ refused 13 0
+  pub places-before-booked : planning (bookedJob 0 0 4 (15 ∷ [])) 0 (1 ∷ []) 0 ≡ refused 10 0
+  pub wants-before-booked : planning (bookedJob 2 2 4 (16 ∷ [])) 0 (1 ∷ []) 0 ≡ refused 10 4
+  pub range-before-order : planning (bookedJob 2 64 4 (15 ∷ [])) 0 (1 ∷ []) 0 ≡ refused 10 260
+  pub booked-before-order : planning (bookedJob 2 3 4 (15 ∷ [])) 0 (1 ∷ []) 0 ≡ refused 13 0
+  pub booked-before-check : checking (bookedJob 2 2 4 (1 ∷ [])) 0 (1 ∷ []) (planOf [] [] 0) ≡ refused 13 0
+  pub booked-before-writing : writePlan (bookedJob 2 2 4 (1 ∷ [])) 0 (0 ∷ []) (planOf (0 ∷ []) (1 ∷ []) 1) 0 ≡ refused 13 0
   -- 7, the plan and the check, by places less booked
-  pub too-large : planning (bookedJob 4 2 4 (3 ∷ 7 ∷ [])) (0 ∷ 1 ∷ []) 2 ≡ refused 7 1
-  pub just-fits : planning (bookedJob 4 1 4 (3 ∷ 7 ∷ [])) (0 ∷ 1 ∷ []) 2 ≡ done (sets 0 3 ∷ sets 0 4 ∷ [])
+  pub too-large : planning (bookedJob 4 2 4 (3 ∷ 7 ∷ [])) 0 (0 ∷ 1 ∷ []) 2 ≡ refused 7 1
+  pub just-fits : planning (bookedJob 4 1 4 (3 ∷ 7 ∷ [])) 0 (0 ∷ 1 ∷ []) 2 ≡ done (sets 0 3 ∷ sets 0 4 ∷ [])
   pub ordering-too-large : ordering 0 (bookedJob 4 2 4 (3 ∷ 7 ∷ [])) 2 ≡ refused 7 1
-  pub excess-dropped : planning (bookedJob 3 1 4 (3 ∷ 4 ∷ [])) (0 ∷ 1 ∷ []) 2 ≡ done (sets 0 3 ∷ sets 2 4 ∷ [])
-  pub nothing-dropped : planning (bookedJob 3 0 4 (3 ∷ 4 ∷ [])) (0 ∷ 1 ∷ []) 2 ≡ done (sets 0 3 ∷ sets 0 4 ∷ [])
-  pub check-fits : checking (bookedJob 3 1 4 (3 ∷ 4 ∷ [])) (0 ∷ 1 ∷ []) (planOf (0 ∷ 2 ∷ []) (3 ∷ 4 ∷ []) 5) ≡ done 3
-  pub check-does-not-fit : checking (bookedJob 3 1 4 (3 ∷ 4 ∷ [])) (0 ∷ 1 ∷ []) (planOf (0 ∷ 0 ∷ []) (3 ∷ 4 ∷ []) 7) ≡ refused 12 1
+  pub excess-dropped : planning (bookedJob 3 1 4 (3 ∷ 4 ∷ [])) 0 (0 ∷ 1 ∷ []) 2 ≡ done (sets 0 3 ∷ sets 2 4 ∷ [])
+  pub nothing-dropped : planning (bookedJob 3 0 4 (3 ∷ 4 ∷ [])) 0 (0 ∷ 1 ∷ []) 2 ≡ done (sets 0 3 ∷ sets 0 4 ∷ [])
+  pub check-fits : checking (bookedJob 3 1 4 (3 ∷ 4 ∷ [])) 0 (0 ∷ 1 ∷ []) (planOf (0 ∷ 2 ∷ []) (3 ∷ 4 ∷ []) 5) ≡ done 3
+  pub check-does-not-fit : checking (bookedJob 3 1 4 (3 ∷ 4 ∷ [])) 0 (0 ∷ 1 ∷ []) (planOf (0 ∷ 0 ∷ []) (3 ∷ 4 ∷ []) 7) ≡ refused 12 1
   -- method 3: with two places left the first two do not fit together, with three they do
   pub packages-booked : ordering 3 (bookedJob 3 1 64 (1 ∷ 6 ∷ 8 ∷ [])) 3 ≡ done (0 ∷ 2 ∷ 1 ∷ [])
   pub packages-free : ordering 3 (bookedJob 3 0 64 (1 ∷ 6 ∷ 8 ∷ [])) 3 ≡ done (0 ∷ 1 ∷ 2 ∷ [])

@@ -2,6 +2,8 @@
 --     Starred  THE STARRED EXAMPLES
 --     Others   the other examples, and examples that tell readings apart
 --     Booked   examples of 02, wish 5
+--     Halfway  examples of 02, wish 6
 pub mod Starred
 pub mod Others
 pub mod Booked
+pub mod Halfway

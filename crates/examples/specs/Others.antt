@@ -29,20 +29,21 @@ pub record Others : Type 0 where
   pub empty-group : readJob (0x04 ∷ 0x01 ∷ 0x00 ∷ 0x01 ∷ 0x00 ∷ []) 256 ≡ refused 3 4
   pub trailing-byte : readJob (0x04 ∷ 0x01 ∷ 0x00 ∷ 0x00 ∷ 0x00 ∷ []) 256 ≡ refused 6 4
   -- Order 0 1 1 or 0 1 for three tests: 8 at 2.
-  pub plan-repeated-test : planning (job 2 4 (0 ∷ 0 ∷ 0 ∷ [])) (0 ∷ 1 ∷ 1 ∷ []) 3 ≡ refused 8 2
-  pub plan-missing-test : planning (job 2 4 (0 ∷ 0 ∷ 0 ∷ [])) (0 ∷ 1 ∷ []) 3 ≡ refused 8 2
-  pub check-repeated-test : checking (job 2 4 (0 ∷ 0 ∷ 0 ∷ [])) (0 ∷ 1 ∷ 1 ∷ []) (planOf (0 ∷ 0 ∷ 0 ∷ []) (0 ∷ 0 ∷ 0 ∷ []) 1) ≡ refused 8 2
-  pub check-missing-test : checking (job 2 4 (0 ∷ 0 ∷ 0 ∷ [])) (0 ∷ 1 ∷ []) (planOf (0 ∷ 0 ∷ 0 ∷ []) (0 ∷ 0 ∷ 0 ∷ []) 0) ≡ refused 8 2
+  pub plan-repeated-test : planning (job 2 4 (0 ∷ 0 ∷ 0 ∷ [])) 0 (0 ∷ 1 ∷ 1 ∷ []) 3 ≡ refused 8 2
+  pub plan-missing-test : planning (job 2 4 (0 ∷ 0 ∷ 0 ∷ [])) 0 (0 ∷ 1 ∷ []) 3 ≡ refused 8 2
+  pub check-repeated-test : checking (job 2 4 (0 ∷ 0 ∷ 0 ∷ [])) 0 (0 ∷ 1 ∷ 1 ∷ []) (planOf (0 ∷ 0 ∷ 0 ∷ []) (0 ∷ 0 ∷ 0 ∷ []) 1) ≡ refused 8 2
+  pub check-missing-test : checking (job 2 4 (0 ∷ 0 ∷ 0 ∷ [])) 0 (0 ∷ 1 ∷ []) (planOf (0 ∷ 0 ∷ 0 ∷ []) (0 ∷ 0 ∷ 0 ∷ []) 0) ≡ refused 8 2
   -- the sheet of job A
-  pub a-sets : planning (job 2 4 a-wants) (0 ∷ 1 ∷ 2 ∷ 3 ∷ []) 4 ≡ done (sets 0 3 ∷ sets 1 4 ∷ sets 4 1 ∷ sets 2 8 ∷ [])
-  pub a-loads : planAnswer (job 2 4 a-wants) (0 ∷ 1 ∷ 2 ∷ 3 ∷ []) (setLists (0 ∷ 0 ∷ 0 ∷ 0 ∷ []) (0 ∷ 0 ∷ 0 ∷ 0 ∷ 0 ∷ [])) ≡ done (loads 5 9)
-  pub a-lent-loads : planLists (job 2 4 a-wants) (0 ∷ 1 ∷ 2 ∷ 3 ∷ []) (setLists (0 ∷ 0 ∷ 0 ∷ 0 ∷ []) (9 ∷ 9 ∷ 9 ∷ 9 ∷ 9 ∷ [])) .loads ≡ (3 ∷ 4 ∷ 1 ∷ 8 ∷ 9 ∷ [])
+  pub a-sets : planning (job 2 4 a-wants) 0 (0 ∷ 1 ∷ 2 ∷ 3 ∷ []) 4 ≡ done (sets 0 3 ∷ sets 1 4 ∷ sets 4 1 ∷ sets 2 8 ∷ [])
+  pub a-loads : planAnswer (job 2 4 a-wants) 0 (0 ∷ 1 ∷ 2 ∷ 3 ∷ []) (setLists (0 ∷ 0 ∷ 0 ∷ 0 ∷ []) (0 ∷ 0 ∷ 0 ∷ 0 ∷ 0 ∷ [])) ≡ done (loads 5 9)
+  pub a-lent-loads : planLists (job 2 4 a-wants) 0 (0 ∷ 1 ∷ 2 ∷ 3 ∷ []) (setLists (0 ∷ 0 ∷ 0 ∷ 0 ∷ []) (9 ∷ 9 ∷ 9 ∷ 9 ∷ 9 ∷ [])) .loads
+      ≡ (3 ∷ 4 ∷ 1 ∷ 8 ∷ 9 ∷ [])
   pub a-read : readJob a-bytes 4 ≡ done (request 0 (job 2 4 a-wants))
   pub a-written : writeJob 0 (job 2 4 a-wants) 13 ≡ done a-bytes
   pub a-written-short : writeJob 0 (job 2 4 a-wants) 12 ≡ refused 9 13
   pub a-call : callAnswer a-bytes (replicate 25 0) ≡ 25
   pub a-call-short : callAnswer a-bytes (replicate 24 0) ≡ 589849
-  pub a-plan-written : writePlan (job 2 4 a-wants) (0 ∷ 1 ∷ 2 ∷ 3 ∷ []) (planOf (0 ∷ 1 ∷ 4 ∷ 2 ∷ []) (3 ∷ 4 ∷ 1 ∷ 8 ∷ []) 9) 25 ≡ done a-plan
+  pub a-plan-written : writePlan (job 2 4 a-wants) 0 (0 ∷ 1 ∷ 2 ∷ 3 ∷ []) (planOf (0 ∷ 1 ∷ 4 ∷ 2 ∷ []) (3 ∷ 4 ∷ 1 ∷ 8 ∷ []) 9) 25 ≡ done a-plan
   pub a-step-0 : stepAt 4 4 a-plan 0 ≡ (0x06 ∷ 0x01 ∷ 0x03 ∷ 0x00 ∷ [])
   pub a-step-1 : stepAt 4 4 a-plan 1 ≡ (0x07 ∷ 0x01 ∷ 0x01 ∷ 0x01 ∷ 0x04 ∷ 0x01 ∷ [])
   pub a-step-3 : stepAt 4 4 a-plan 3 ≡ (0x07 ∷ 0x01 ∷ 0x02 ∷ 0x01 ∷ 0x08 ∷ 0x03 ∷ [])
@@ -60,12 +61,12 @@ pub record Others : Type 0 where
   -- 02, wish 2: "Of curves with equally distant next use the highest number is dropped": 01's plan of job A, which drops 0 in step 3, passes the check all the
   -- same; a curve of a higher number whose next use is nearer stays; several go one by one, of those never used and of those used in the same later step;
   -- more of these go than stay
-  pub a-lowest : checking (job 2 4 a-wants) (0 ∷ 1 ∷ 2 ∷ 3 ∷ []) (planOf (0 ∷ 1 ∷ 4 ∷ 1 ∷ []) (3 ∷ 4 ∷ 1 ∷ 8 ∷ []) 10) ≡ done 5
-  pub nearer-stays : planning (job 3 5 (7 ∷ 8 ∷ 4 ∷ [])) (0 ∷ 1 ∷ 2 ∷ []) 3 ≡ done (sets 0 7 ∷ sets 2 8 ∷ sets 0 0 ∷ [])
-  pub never-highest : planning (job 4 6 (15 ∷ 48 ∷ 1 ∷ [])) (0 ∷ 1 ∷ 2 ∷ []) 3 ≡ done (sets 0 15 ∷ sets 12 48 ∷ sets 0 0 ∷ [])
-  pub same-step-highest : planning (job 4 6 (15 ∷ 48 ∷ 15 ∷ [])) (0 ∷ 1 ∷ 2 ∷ []) 3 ≡ done (sets 0 15 ∷ sets 12 48 ∷ sets 48 12 ∷ [])
-  pub one-stays : planning (job 4 7 (15 ∷ 112 ∷ 15 ∷ [])) (0 ∷ 1 ∷ 2 ∷ []) 3 ≡ done (sets 0 15 ∷ sets 14 112 ∷ sets 112 14 ∷ [])
-  pub furthest-then-highest : planning (job 4 6 (15 ∷ 48 ∷ 2 ∷ 5 ∷ [])) (0 ∷ 1 ∷ 2 ∷ 3 ∷ []) 4 ≡ done (sets 0 15 ∷ sets 12 48 ∷ sets 0 0 ∷ sets 32 4 ∷ [])
+  pub a-lowest : checking (job 2 4 a-wants) 0 (0 ∷ 1 ∷ 2 ∷ 3 ∷ []) (planOf (0 ∷ 1 ∷ 4 ∷ 1 ∷ []) (3 ∷ 4 ∷ 1 ∷ 8 ∷ []) 10) ≡ done 5
+  pub nearer-stays : planning (job 3 5 (7 ∷ 8 ∷ 4 ∷ [])) 0 (0 ∷ 1 ∷ 2 ∷ []) 3 ≡ done (sets 0 7 ∷ sets 2 8 ∷ sets 0 0 ∷ [])
+  pub never-highest : planning (job 4 6 (15 ∷ 48 ∷ 1 ∷ [])) 0 (0 ∷ 1 ∷ 2 ∷ []) 3 ≡ done (sets 0 15 ∷ sets 12 48 ∷ sets 0 0 ∷ [])
+  pub same-step-highest : planning (job 4 6 (15 ∷ 48 ∷ 15 ∷ [])) 0 (0 ∷ 1 ∷ 2 ∷ []) 3 ≡ done (sets 0 15 ∷ sets 12 48 ∷ sets 48 12 ∷ [])
+  pub one-stays : planning (job 4 7 (15 ∷ 112 ∷ 15 ∷ [])) 0 (0 ∷ 1 ∷ 2 ∷ []) 3 ≡ done (sets 0 15 ∷ sets 14 112 ∷ sets 112 14 ∷ [])
+  pub furthest-then-highest : planning (job 4 6 (15 ∷ 48 ∷ 2 ∷ 5 ∷ [])) 0 (0 ∷ 1 ∷ 2 ∷ 3 ∷ []) 4 ≡ done (sets 0 15 ∷ sets 12 48 ∷ sets 0 0 ∷ sets 32 4 ∷ [])
   -- 02, wish 3: "A job with no tests now reads: empty order, no plan bytes, 0 loads, and a sheet of its first and last line."; bytes behind it are surplus, and a
   -- tests field of 0 is refused as before (`tests-0`)
   pub none-read : readJob (0x00 ∷ []) 0 ≡ done (request 0 (job 8 64 []))
@@ -78,26 +79,26 @@ pub record Others : Type 0 where
   pub none-order-1 : ordering 1 (job 2 4 []) 0 ≡ done []
   pub none-order-2 : ordering 2 (job 2 4 []) 0 ≡ done []
   pub none-order-3 : ordering 3 (job 2 4 []) 0 ≡ done []
-  pub none-loads : planAnswer (job 2 4 []) [] (setLists [] (7 ∷ [])) ≡ done (loads 0 0)
-  pub none-lent : planLists (job 2 4 []) [] (setLists [] (7 ∷ [])) ≡ setLists [] (7 ∷ [])
-  pub none-checked : checking (job 2 4 []) [] (planOf [] [] 0) ≡ done 0
-  pub none-plan-written : writePlan (job 2 4 []) [] (planOf [] [] 0) 0 ≡ done []
+  pub none-loads : planAnswer (job 2 4 []) 0 [] (setLists [] (7 ∷ [])) ≡ done (loads 0 0)
+  pub none-lent : planLists (job 2 4 []) 0 [] (setLists [] (7 ∷ [])) ≡ setLists [] (7 ∷ [])
+  pub none-checked : checking (job 2 4 []) 0 [] (planOf [] [] 0) ≡ done 0
+  pub none-plan-written : writePlan (job 2 4 []) 0 [] (planOf [] [] 0) 0 ≡ done []
   pub none-plan-read : readPlan 4 0 [] 0 ≡ done (record { steps = []; behind = 0; end = 0 })
   pub none-call : callAnswer (0x00 ∷ []) [] ≡ 0
   pub none-sheet : sheet (0x00 ∷ []) ≡ text "0 tests, 8 places, method 0\nloads 0\n"
   pub none-head-sheet : sheet (0x0b ∷ 0x02 ∷ 0x04 ∷ 0x03 ∷ []) ≡ text "0 tests, 2 places, method 3\nloads 0\n"
   -- an order or a list with an entry is surplus; an end step alone reads, is fetched at position 0, and fails the check, since nothing is held
-  pub none-order-surplus : planning (job 2 4 []) (0 ∷ []) 0 ≡ refused 8 0
-  pub none-drops-surplus : checking (job 2 4 []) [] (planOf (0 ∷ []) [] 0) ≡ refused 12 0
-  pub none-loads-surplus : checking (job 2 4 []) [] (planOf [] (0 ∷ []) 0) ≡ refused 12 0
+  pub none-order-surplus : planning (job 2 4 []) 0 (0 ∷ []) 0 ≡ refused 8 0
+  pub none-drops-surplus : checking (job 2 4 []) 0 [] (planOf (0 ∷ []) [] 0) ≡ refused 12 0
+  pub none-loads-surplus : checking (job 2 4 []) 0 [] (planOf [] (0 ∷ []) 0) ≡ refused 12 0
   pub none-end-read : readPlan 4 0 (0x01 ∷ 0x01 ∷ 0x0f ∷ []) 0 ≡ done (record { steps = []; behind = 0; end = 15 })
   pub none-end-fetched : stepAt 4 0 (0x01 ∷ 0x01 ∷ 0x0f ∷ []) 0 ≡ (0x01 ∷ 0x01 ∷ 0x0f ∷ [])
   pub none-fetched : stepAt 4 0 [] 0 ≡ []
-  pub none-end-checked : checking (job 2 4 []) [] (planOf [] [] 15) ≡ refused 12 0
+  pub none-end-checked : checking (job 2 4 []) 0 [] (planOf [] [] 15) ≡ refused 12 0
   pub none-step-read : readPlan 4 0 (0x04 ∷ 0x00 ∷ []) 0 ≡ refused 11 0
   -- an empty list is examined for 10 like any other, and 10 comes before 8
   pub none-places : ordering 9 (job 0 0 []) 0 ≡ refused 10 0
-  pub none-curves : checking (job 2 65 []) (0 ∷ []) (planOf [] [] 1) ≡ refused 10 1
+  pub none-curves : checking (job 2 65 []) 0 (0 ∷ []) (planOf [] [] 1) ≡ refused 10 1
   pub none-method : writeJob 4 (job 2 4 []) 0 ≡ refused 10 3
   pub none-plan-curves : readPlan 0 0 (0x00 ∷ []) 0 ≡ refused 10 1
   -- job bytes that tell readings apart
@@ -127,28 +128,28 @@ pub record Others : Type 0 where
   pub tests-before-method : ordering 9 (job 2 4 (replicate 257 0)) 1 ≡ refused 10 2
   pub method-before-wants : ordering 4 (job 2 4 (16 ∷ [])) 1 ≡ refused 10 3
   pub lowest-unknown-test : ordering 3 (job 2 4 (15 ∷ 16 ∷ 16 ∷ [])) 1 ≡ refused 10 5
-  pub places-before-order : planning (job 65 4 (15 ∷ [])) (0 ∷ []) 1 ≡ refused 10 0
-  pub order-before-sizes : planning (job 2 4 (7 ∷ [])) (1 ∷ []) 1 ≡ refused 8 0
-  pub sizes-before-short : planning (job 2 4 (3 ∷ 7 ∷ 7 ∷ [])) (2 ∷ 1 ∷ 0 ∷ []) 0 ≡ refused 7 1
-  pub short-drops : planAnswer (job 2 4 (3 ∷ 3 ∷ 3 ∷ [])) (2 ∷ 1 ∷ 0 ∷ []) (setLists (0 ∷ 0 ∷ []) (0 ∷ 0 ∷ 0 ∷ [])) ≡ refused 9 3
-  pub short-loads : planAnswer (job 2 4 (3 ∷ 3 ∷ 3 ∷ [])) (2 ∷ 1 ∷ 0 ∷ []) (setLists (0 ∷ 0 ∷ 0 ∷ []) (0 ∷ 0 ∷ [])) ≡ refused 9 3
-  pub surplus-position : planning (job 2 4 (3 ∷ 3 ∷ 3 ∷ [])) (2 ∷ 1 ∷ 0 ∷ 0 ∷ []) 3 ≡ refused 8 3
+  pub places-before-order : planning (job 65 4 (15 ∷ [])) 0 (0 ∷ []) 1 ≡ refused 10 0
+  pub order-before-sizes : planning (job 2 4 (7 ∷ [])) 0 (1 ∷ []) 1 ≡ refused 8 0
+  pub sizes-before-short : planning (job 2 4 (3 ∷ 7 ∷ 7 ∷ [])) 0 (2 ∷ 1 ∷ 0 ∷ []) 0 ≡ refused 7 1
+  pub short-drops : planAnswer (job 2 4 (3 ∷ 3 ∷ 3 ∷ [])) 0 (2 ∷ 1 ∷ 0 ∷ []) (setLists (0 ∷ 0 ∷ []) (0 ∷ 0 ∷ 0 ∷ [])) ≡ refused 9 3
+  pub short-loads : planAnswer (job 2 4 (3 ∷ 3 ∷ 3 ∷ [])) 0 (2 ∷ 1 ∷ 0 ∷ []) (setLists (0 ∷ 0 ∷ 0 ∷ []) (0 ∷ 0 ∷ [])) ≡ refused 9 3
+  pub surplus-position : planning (job 2 4 (3 ∷ 3 ∷ 3 ∷ [])) 0 (2 ∷ 1 ∷ 0 ∷ 0 ∷ []) 3 ≡ refused 8 3
   -- the check
-  pub length-faults-smaller : checking (job 2 4 (0 ∷ 0 ∷ [])) (0 ∷ 1 ∷ []) (planOf (1 ∷ 0 ∷ 0 ∷ []) (0 ∷ []) 0) ≡ refused 12 1
-  pub surplus-drops : checking (job 2 4 (0 ∷ 0 ∷ [])) (0 ∷ 1 ∷ []) (planOf (0 ∷ 0 ∷ 0 ∷ []) (0 ∷ 0 ∷ []) 0) ≡ refused 12 2
-  pub surplus-both : checking (job 2 4 (0 ∷ 0 ∷ [])) (0 ∷ 1 ∷ []) (planOf (0 ∷ 0 ∷ 0 ∷ []) (0 ∷ 0 ∷ 0 ∷ []) 0) ≡ refused 12 2
-  pub reloaded : checking (job 2 4 (1 ∷ 1 ∷ [])) (0 ∷ 1 ∷ []) (planOf (0 ∷ 1 ∷ []) (1 ∷ 1 ∷ []) 1) ≡ done 2
-  pub check-too-large : checking (job 2 4 (1 ∷ 7 ∷ [])) (0 ∷ 1 ∷ []) (planOf (0 ∷ 0 ∷ []) (1 ∷ 6 ∷ []) 7) ≡ refused 12 1
-  pub early-load : checking (job 2 4 (1 ∷ 2 ∷ [])) (0 ∷ 1 ∷ []) (planOf (0 ∷ 0 ∷ []) (3 ∷ 0 ∷ []) 3) ≡ done 2
-  pub unheld-drop : checking (job 2 4 (1 ∷ [])) (0 ∷ []) (planOf (16 ∷ []) (1 ∷ []) 1) ≡ refused 12 0
-  pub foreign-load : checking (job 2 4 (1 ∷ [])) (0 ∷ []) (planOf (0 ∷ []) (17 ∷ []) 17) ≡ refused 12 0
+  pub length-faults-smaller : checking (job 2 4 (0 ∷ 0 ∷ [])) 0 (0 ∷ 1 ∷ []) (planOf (1 ∷ 0 ∷ 0 ∷ []) (0 ∷ []) 0) ≡ refused 12 1
+  pub surplus-drops : checking (job 2 4 (0 ∷ 0 ∷ [])) 0 (0 ∷ 1 ∷ []) (planOf (0 ∷ 0 ∷ 0 ∷ []) (0 ∷ 0 ∷ []) 0) ≡ refused 12 2
+  pub surplus-both : checking (job 2 4 (0 ∷ 0 ∷ [])) 0 (0 ∷ 1 ∷ []) (planOf (0 ∷ 0 ∷ 0 ∷ []) (0 ∷ 0 ∷ 0 ∷ []) 0) ≡ refused 12 2
+  pub reloaded : checking (job 2 4 (1 ∷ 1 ∷ [])) 0 (0 ∷ 1 ∷ []) (planOf (0 ∷ 1 ∷ []) (1 ∷ 1 ∷ []) 1) ≡ done 2
+  pub check-too-large : checking (job 2 4 (1 ∷ 7 ∷ [])) 0 (0 ∷ 1 ∷ []) (planOf (0 ∷ 0 ∷ []) (1 ∷ 6 ∷ []) 7) ≡ refused 12 1
+  pub early-load : checking (job 2 4 (1 ∷ 2 ∷ [])) 0 (0 ∷ 1 ∷ []) (planOf (0 ∷ 0 ∷ []) (3 ∷ 0 ∷ []) 3) ≡ done 2
+  pub unheld-drop : checking (job 2 4 (1 ∷ [])) 0 (0 ∷ []) (planOf (16 ∷ []) (1 ∷ []) 1) ≡ refused 12 0
+  pub foreign-load : checking (job 2 4 (1 ∷ [])) 0 (0 ∷ []) (planOf (0 ∷ []) (17 ∷ []) 17) ≡ refused 12 0
   -- 02, wish 1: the end set. It forgets a held curve, names one that is not held, names a foreign one; lengths and steps come before it
-  pub end-forgotten : checking (job 2 4 (1 ∷ [])) (0 ∷ []) (planOf (0 ∷ []) (1 ∷ []) 0) ≡ refused 12 1
-  pub end-not-held : checking (job 2 4 (1 ∷ [])) (0 ∷ []) (planOf (0 ∷ []) (1 ∷ []) 3) ≡ refused 12 1
-  pub end-foreign : checking (job 2 4 (1 ∷ [])) (0 ∷ []) (planOf (0 ∷ []) (1 ∷ []) 17) ≡ refused 12 1
-  pub lengths-before-end : checking (job 2 4 (1 ∷ [])) (0 ∷ []) (planOf [] (1 ∷ []) 0) ≡ refused 12 0
-  pub step-before-end : checking (job 2 4 (1 ∷ 2 ∷ [])) (0 ∷ 1 ∷ []) (planOf (0 ∷ 0 ∷ []) (1 ∷ 0 ∷ []) 0) ≡ refused 12 1
-  pub end-before-short : writePlan (job 2 4 (1 ∷ [])) (0 ∷ []) (planOf (0 ∷ []) (1 ∷ []) 0) 0 ≡ refused 12 1
+  pub end-forgotten : checking (job 2 4 (1 ∷ [])) 0 (0 ∷ []) (planOf (0 ∷ []) (1 ∷ []) 0) ≡ refused 12 1
+  pub end-not-held : checking (job 2 4 (1 ∷ [])) 0 (0 ∷ []) (planOf (0 ∷ []) (1 ∷ []) 3) ≡ refused 12 1
+  pub end-foreign : checking (job 2 4 (1 ∷ [])) 0 (0 ∷ []) (planOf (0 ∷ []) (1 ∷ []) 17) ≡ refused 12 1
+  pub lengths-before-end : checking (job 2 4 (1 ∷ [])) 0 (0 ∷ []) (planOf [] (1 ∷ []) 0) ≡ refused 12 0
+  pub step-before-end : checking (job 2 4 (1 ∷ 2 ∷ [])) 0 (0 ∷ 1 ∷ []) (planOf (0 ∷ 0 ∷ []) (1 ∷ 0 ∷ []) 0) ≡ refused 12 1
+  pub end-before-short : writePlan (job 2 4 (1 ∷ [])) 0 (0 ∷ []) (planOf (0 ∷ []) (1 ∷ []) 0) 0 ≡ refused 12 1
   -- plan bytes
   pub step-bit-3 : readPlan 4 4 (0x08 ∷ []) 4 ≡ refused 11 0
   pub step-without-test : readPlan 4 4 (0x03 ∷ []) 4 ≡ refused 11 0

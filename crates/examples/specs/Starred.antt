@@ -43,21 +43,21 @@ pub record Starred : Type 0 where
   pub method-1 : ordering 1 (job 2 4 a-wants) 4 ≡ done (2 ∷ 0 ∷ 1 ∷ 3 ∷ [])
   pub method-2 : ordering 2 (job 2 4 a-wants) 4 ≡ done (0 ∷ 2 ∷ 1 ∷ 3 ∷ [])
   pub method-3 : ordering 3 (job 2 4 a-wants) 4 ≡ done (0 ∷ 2 ∷ 1 ∷ 3 ∷ [])
-  pub loads-1 : planAnswer (job 2 4 a-wants) (2 ∷ 0 ∷ 1 ∷ 3 ∷ []) four ≡ done (loads 4 10)
-  pub loads-2-3 : planAnswer (job 2 4 a-wants) (0 ∷ 2 ∷ 1 ∷ 3 ∷ []) four ≡ done (loads 4 10)
+  pub loads-1 : planAnswer (job 2 4 a-wants) 0 (2 ∷ 0 ∷ 1 ∷ 3 ∷ []) four ≡ done (loads 4 10)
+  pub loads-2-3 : planAnswer (job 2 4 a-wants) 0 (0 ∷ 2 ∷ 1 ∷ 3 ∷ []) four ≡ done (loads 4 10)
   -- "Wants {0} {1} {2} {0}, 2 places: step 2 drops 1; 3 loads."
-  pub drops-at-2 : planLists (job 2 64 (1 ∷ 2 ∷ 4 ∷ 1 ∷ [])) (0 ∷ 1 ∷ 2 ∷ 3 ∷ []) four .drops ≡ 0 ∷ 0 ∷ 2 ∷ 0 ∷ []
-  pub loads-3 : planAnswer (job 2 64 (1 ∷ 2 ∷ 4 ∷ 1 ∷ [])) (0 ∷ 1 ∷ 2 ∷ 3 ∷ []) four ≡ done (loads 3 5)
+  pub drops-at-2 : planLists (job 2 64 (1 ∷ 2 ∷ 4 ∷ 1 ∷ [])) 0 (0 ∷ 1 ∷ 2 ∷ 3 ∷ []) four .drops ≡ 0 ∷ 0 ∷ 2 ∷ 0 ∷ []
+  pub loads-3 : planAnswer (job 2 64 (1 ∷ 2 ∷ 4 ∷ 1 ∷ [])) 0 (0 ∷ 1 ∷ 2 ∷ 3 ∷ []) four ≡ done (loads 3 5)
   -- "Wants {0,1} {0,2} {0,2}, 2 places: step 2 drops nothing; 3 loads."
-  pub no-drops-at-2 : planLists (job 2 64 (3 ∷ 5 ∷ 5 ∷ [])) (0 ∷ 1 ∷ 2 ∷ []) four .drops ≡ 0 ∷ 2 ∷ 0 ∷ 0 ∷ []
-  pub loads-3-again : planAnswer (job 2 64 (3 ∷ 5 ∷ 5 ∷ [])) (0 ∷ 1 ∷ 2 ∷ []) four ≡ done (loads 3 5)
+  pub no-drops-at-2 : planLists (job 2 64 (3 ∷ 5 ∷ 5 ∷ [])) 0 (0 ∷ 1 ∷ 2 ∷ []) four .drops ≡ 0 ∷ 2 ∷ 0 ∷ 0 ∷ []
+  pub loads-3-again : planAnswer (job 2 64 (3 ∷ 5 ∷ 5 ∷ [])) 0 (0 ∷ 1 ∷ 2 ∷ []) four ≡ done (loads 3 5)
   -- "`04 01 00 00`: one test, no wants; plan `04 00`, 0 loads."
   pub one-test : readJob (0x04 ∷ 0x01 ∷ 0x00 ∷ 0x00 ∷ []) 1 ≡ done (request 0 (job 8 64 (0 ∷ [])))
   pub one-plan : jobToPlan (0x04 ∷ 0x01 ∷ 0x00 ∷ 0x00 ∷ []) 2 ≡ done (0x04 ∷ 0x00 ∷ [])
-  pub no-loads : planAnswer (job 8 64 (0 ∷ [])) (0 ∷ []) four ≡ done (loads 0 0)
+  pub no-loads : planAnswer (job 8 64 (0 ∷ [])) 0 (0 ∷ []) four ≡ done (loads 0 0)
   -- "One test wanting three curves: 2 places 7 at 0; 3 places, 3 loads."
-  pub too-large : planAnswer (job 2 64 (7 ∷ [])) (0 ∷ []) four ≡ refused 7 0
-  pub just-fits : planAnswer (job 3 64 (7 ∷ [])) (0 ∷ []) four ≡ done (loads 3 7)
+  pub too-large : planAnswer (job 2 64 (7 ∷ [])) 0 (0 ∷ []) four ≡ refused 7 0
+  pub just-fits : planAnswer (job 3 64 (7 ∷ [])) 0 (0 ∷ []) four ≡ done (loads 3 7)
   -- "`06 04 01 00 01 10`: 4 at 5; with `08` last it reads."
   pub unknown-curve : readJob (0x06 ∷ 0x04 ∷ 0x01 ∷ 0x00 ∷ 0x01 ∷ 0x10 ∷ []) 1 ≡ refused 4 5
   pub known-curve : readJob (0x06 ∷ 0x04 ∷ 0x01 ∷ 0x00 ∷ 0x01 ∷ 0x08 ∷ []) 1 ≡ done (request 0 (job 8 4 (8 ∷ [])))

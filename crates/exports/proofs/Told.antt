@@ -12,13 +12,13 @@ use lib.ListN.{length, length-append}
 use Rattle.job.specs.declared.Head.{Head}
 use Rattle.job.specs.Refusal.{Outcome, done, refused, _>>_, mapped, demand, room}
 use Rattle.job.specs.Words.{Job, capacity}
-use Rattle.job.specs.Handed.{listed, curvesKnown, testsKnown, wantsFit, jobKnownBy, countsKnown, allCurves}
+use Rattle.job.specs.Handed.{listed, curvesKnown, testsKnown, heldKnown, wantsFit, jobKnownBy, countsKnown, allCurves}
 use Rattle.job.specs.Order.{orderFrom}
 use Rattle.job.specs.Calls.{orderingKnown, checkingKnown, planningKnown}
 use Rattle.job.proofs.Laws.{both, demand-true, both-done, bind-done, mapped-done, done-same, done-both, done-room}
 use Rattle.job.proofs.JobExact.{job-by-exact}
 use Rattle.job.proofs.Refuses.{Refuses, refuses, refuses-more, refuses-demand, refuses-both, refuses-then, refuses-bind, refuses-mapped, refuses-each}
-use Rattle.job.proofs.Refuses.{HandedRefusal, job-by-refuses}
+use Rattle.job.proofs.Refuses.{HandedRefusal, job-by-refuses, HeldRefusal, held-refuses}
 use Rattle.job_bytes.specs.JobBytes.{Request, request, readBytes, readJob, readJobAnswer, jobBytes, writeJob, writeJobAnswer}
 use Rattle.job_bytes.proofs.JobBounds.{Bounded, read, read-bounded, figure-short, written-short}
 use Rattle.job_bytes.proofs.ReadRefuses.{ByReading, number-between, read-refuses}
@@ -91,6 +91,11 @@ module _ (method : ℕ) (j : Job) where
       small k i (inl n) = (omega (arith, n .0), omega (arith, n .1))
       small k i (inr n) = (omega (arith, n .0), omega (arith, n .1))
 
+-- 14 names a curve
+held-told : (curves held : ℕ) → Refuses Figures (heldKnown curves held)
+held-told curves held =
+    refuses-more HeldRefusal Figures (heldKnown curves held) (λ k i n. (omega (arith, n .0), omega (arith, n .1))) (held-refuses curves held)
+
 -- 8 names one of the positions, or the one behind them
 order-told : (n : ℕ) (before rest : List ℕ) → n ≤ 256 → length before ≤ n → Refuses Figures (orderFrom n before rest)
 unfolding orderFrom
@@ -103,13 +108,13 @@ order-told n before (t ∷ ts) l m =
     let b = both (ltb (length before) n) (ltb t n) (a .0) in
     order-told n (before ++ (t ∷ [])) ts l (omega (arith, length-append before (t ∷ []), ltb-true (length before) n (b .0))))
 
-steps-told : (places all : ℕ) (ms : List Move) → length ms ≤ 256 → Refuses Figures (checkedOutcome (checkFrom places all 0 0 ms))
+steps-told : (places all held : ℕ) (ms : List Move) → length ms ≤ 256 → Refuses Figures (checkedOutcome (checkFrom places all 0 held ms))
 unfolding checkedOutcome
-steps-told places all ms l = go (checkFrom places all 0 0 ms) refl
+steps-told places all held ms l = go (checkFrom places all 0 held ms) refl
   where
-    go : (c : Checked) → checkFrom places all 0 0 ms ≡ c → Refuses Figures (checkedOutcome c)
+    go : (c : Checked) → checkFrom places all 0 held ms ≡ c → Refuses Figures (checkedOutcome c)
     go (Ends h) e = tt
-    go (Breaks i) e = (omega arith, omega (arith, fault-within places all 0 0 ms i e))
+    go (Breaks i) e = (omega arith, omega (arith, fault-within places all 0 held ms i e))
 
 -- ---- jobs and orders
 
@@ -146,14 +151,16 @@ module _ (j : Job) where
   unfolding orderingKnown
   ordering-told method = refuses-then Figures _ _ (job-told method j) (λ e. fit-told (capacity (j .rig)) (j .wants) (few method j e))
 
-  module _ (order : List ℕ) where
-    checking-told : Refuses Figures (checkingKnown j order)
+  module _ (held : ℕ) (order : List ℕ) where
+    checking-told : Refuses Figures (checkingKnown j held order)
     unfolding checkingKnown
-    checking-told = refuses-then Figures _ _ (job-told 0 j) (λ e. order-told (length (j .wants)) [] order (few 0 j e) (omega arith))
+    checking-told =
+        refuses-then Figures _ _ (job-told 0 j)
+        (λ e. refuses-both Figures _ _ (held-told (j .rig .curves) held) (order-told (length (j .wants)) [] order (few 0 j e) (omega arith)))
 
-    planning-told : Refuses Figures (planningKnown j order)
+    planning-told : Refuses Figures (planningKnown j held order)
     unfolding planningKnown
-    planning-told = refuses-then Figures _ _ checking-told (λ e. fit-told (capacity (j .rig)) (j .wants) (known-exact j order e .0 .tests-bound))
+    planning-told = refuses-then Figures _ _ checking-told (λ e. fit-told (capacity (j .rig)) (j .wants) (known-exact j held order e .0 .tests-bound))
 
 module _ (method : ℕ) (j : Job) (old : List ℕ) where
   pub write-job-told : Told (writeJobAnswer method j old)
@@ -195,42 +202,42 @@ module _ (method : ℕ) (j : Job) (old : List ℕ) where
 
 -- ---- plans
 
-module _ (j : Job) (order : List ℕ) (p : Plan) where
-  few-loads : (n : ℕ) → checking j order p ≡ done n → n < 2 ^ 48
-  few-loads n e = omega (arith, check-few j order p n e, passed j order p n e .is-job .tests-bound)
+module _ (j : Job) (held : ℕ) (order : List ℕ) (p : Plan) where
+  few-loads : (n : ℕ) → checking j held order p ≡ done n → n < 2 ^ 48
+  few-loads n e = omega (arith, check-few j held order p n e, passed j held order p n e .is-job .tests-bound)
 
-  check-refuses : Refuses Figures (checking j order p)
+  check-refuses : Refuses Figures (checking j held order p)
   unfolding checking setsKnown endKnown
   check-refuses =
-      refuses-then Figures _ _ (checking-told j order)
-      (λ e. let l = known-exact j order e .0 .tests-bound in
+      refuses-then Figures _ _ (checking-told j held order)
+      (λ e. let l = known-exact j held order e .0 .tests-bound in
       refuses-both Figures _ _ (refuses-demand Figures _ 12 (min (min (length (p .drops)) (length (p .loads))) (length (j .wants))) (omega arith, omega arith))
-      (refuses-both Figures _ _ (steps-told (capacity (j .rig)) (allCurves (j .rig .curves)) (planMoves j order p)
-      (omega (arith, length-moves (inOrder (j .wants) order) (p .drops) (p .loads), steps-length j order e)))
+      (refuses-both Figures _ _ (steps-told (capacity (j .rig)) (allCurves (j .rig .curves)) held (planMoves j order p)
+      (omega (arith, length-moves (inOrder (j .wants) order) (p .drops) (p .loads), steps-length j held order e)))
       (refuses-both Figures _ _ (refuses-demand Figures _ 12 (length (j .wants)) (omega arith, omega arith)) tt)))
 
-  pub check-told : Told (checking j order p)
+  pub check-told : Told (checking j held order p)
   check-told = told _ few-loads check-refuses
 
-  pub write-plan-told : (old : List ℕ) → Told (writePlanAnswer j order p old)
+  pub write-plan-told : (old : List ℕ) → Told (writePlanAnswer j held order p old)
   unfolding writePlanAnswer
   write-plan-told old =
       told _
-      (λ n e. let b = mapped-done length (writePlan j order p (length old)) n e in
-      omega (arith, b .2, written-length j order p (length old) (b .0) (b .1)))
-      (refuses-mapped Figures _ _ (unfold writePlan in refuses-bind Figures (checking j order p) _ check-refuses
-      (λ m e. asked (length old) (length (planBytes order p)) _ (omega (arith, passed-length j order p m e)) tt)))
+      (λ n e. let b = mapped-done length (writePlan j held order p (length old)) n e in
+      omega (arith, b .2, written-length j held order p (length old) (b .0) (b .1)))
+      (refuses-mapped Figures _ _ (unfold writePlan in refuses-bind Figures (checking j held order p) _ check-refuses
+      (λ m e. asked (length old) (length (planBytes order p)) _ (omega (arith, passed-length j held order p m e)) tt)))
 
-module _ (j : Job) (order : List ℕ) (lent : SetLists) where
+module _ (j : Job) (held : ℕ) (order : List ℕ) (lent : SetLists) where
   -- a plan that was made passes the check
-  pub plan-told : Told (countOf (planAnswer j order lent))
+  pub plan-told : Told (countOf (planAnswer j held order lent))
   plan-told =
       told _
-      (λ n e. let x = mapped-done (λ (a : CountEnd). a .count) (planAnswer j order lent) n e in
-      omega (arith, few-loads j order _ (x .0 .count) (demand3 j order lent .passes (x .0) (x .1)), x .2))
+      (λ n e. let x = mapped-done (λ (a : CountEnd). a .count) (planAnswer j held order lent) n e in
+      omega (arith, few-loads j held order _ (x .0 .count) (demand3 j held order lent .passes (x .0) (x .1)), x .2))
       (refuses-mapped Figures _ _ (unfold planAnswer planning room in refuses-mapped Figures _ _
-      (refuses-then Figures _ _ (planning-told j order)
-      (λ e. let l = known-exact j order (planning-parts j order e .0) .0 .tests-bound in
+      (refuses-then Figures _ _ (planning-told j held order)
+      (λ e. let l = known-exact j held order (planning-parts j held order e .0) .0 .tests-bound in
       refuses-bind Figures _ _ (refuses-demand Figures _ 9 (length (j .wants)) (omega arith, omega arith)) (λ _ e. tt)))))
 
 module _ (curves tests : ℕ) (bs order : List ℕ) (lent : SetLists) where

@@ -175,19 +175,27 @@ pub extern "C" fn curveplan_plan_order(
     booked: usize,
     curves: usize,
     wants: &[u64],
+    held: u64,
     order: &[u16],
     drops: &mut [u64],
     loads: &mut [u64],
     end: &mut u64,
 ) -> u64
-    ensures answer { λ r. ⌜ r ≡ numbered (countOf (planAnswer (job places booked curves (was wants)) (was order) (setLists (was drops) (was loads)))) ⌝ }
+    ensures answer { λ r. ⌜ r ≡ numbered (countOf (planAnswer (job places booked curves (was wants)) held (was order) (setLists (was drops) (was loads)))) ⌝ }
     ensures lists { λ _. ⌜ setLists (after drops) (after loads)
-        ≡ planLists (job places booked curves (was wants)) (was order) (setLists (was drops) (was loads)) ⌝ }
+        ≡ planLists (job places booked curves (was wants)) held (was order) (setLists (was drops) (was loads)) ⌝ }
     ensures end { λ _. ⌜ after end
-        ≡ leavesOne (endOf (planAnswer (job places booked curves (was wants)) (was order) (setLists (was drops) (was loads)))) (was end) ⌝ }
+        ≡ leavesOne (endOf (planAnswer (job places booked curves (was wants)) held (was order) (setLists (was drops) (was loads)))) (was end) ⌝ }
 {
     with_end(
-        planning::plan(rig(places, booked, curves), wants, order, drops, loads),
+        planning::plan(
+            rig(places, booked, curves),
+            wants,
+            held,
+            order,
+            drops,
+            loads,
+        ),
         end,
     )
 }
@@ -198,14 +206,23 @@ pub extern "C" fn curveplan_check_plan(
     booked: usize,
     curves: usize,
     wants: &[u64],
+    held: u64,
     order: &[u16],
     drops: &[u64],
     loads: &[u64],
     end: u64,
 ) -> u64
-    ensures { λ r. ⌜ r ≡ numbered (checking (job places booked curves (was wants)) (was order) (planOf (was drops) (was loads) end)) ⌝ }
+    ensures { λ r. ⌜ r ≡ numbered (checking (job places booked curves (was wants)) held (was order) (planOf (was drops) (was loads) end)) ⌝ }
 {
-    counted(planning::check_plan(rig(places, booked, curves), wants, order, drops, loads, end))
+    counted(planning::check_plan(
+        rig(places, booked, curves),
+        wants,
+        held,
+        order,
+        drops,
+        loads,
+        end,
+    ))
 }
 
 #[no_mangle]
@@ -214,18 +231,22 @@ pub extern "C" fn curveplan_write_plan(
     booked: usize,
     curves: usize,
     wants: &[u64],
+    held: u64,
     order: &[u16],
     drops: &[u64],
     loads: &[u64],
     end: u64,
     out: &mut [u8],
 ) -> u64
-    ensures answer { λ r. ⌜ r ≡ numbered (writePlanAnswer (job places booked curves (was wants)) (was order) (planOf (was drops) (was loads) end) (was out)) ⌝ }
-    ensures bytes { λ _. ⌜ after out ≡ writePlanBuffer (job places booked curves (was wants)) (was order) (planOf (was drops) (was loads) end) (was out) ⌝ }
+    ensures answer { λ r. ⌜ r
+        ≡ numbered (writePlanAnswer (job places booked curves (was wants)) held (was order) (planOf (was drops) (was loads) end) (was out)) ⌝ }
+    ensures bytes { λ _. ⌜ after out
+        ≡ writePlanBuffer (job places booked curves (was wants)) held (was order) (planOf (was drops) (was loads) end) (was out) ⌝ }
 {
     counted(plan_bytes::write_plan(
         rig(places, booked, curves),
         wants,
+        held,
         order,
         drops,
         loads,

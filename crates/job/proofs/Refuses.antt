@@ -6,13 +6,14 @@ use mathlib.Core.Bool.{Bool, true, false}
 use mathlib.Core.List.{List, [], _∷_}
 use Prim.Native.Nat.{ℕ, suc, _+_, _≤_, _<_}
 use native.Mathlib.Omega.{arith}
+use lib.Count.{trailing-le}
 use lib.ListN.{length}
 use Rattle.job.specs.declared.Refusal.{Refusal}
 use Rattle.job.specs.Refusal.{Outcome, done, refused, number, _>>=_, _>>_, mapped, demand}
 use Rattle.job.specs.declared.Rig.{Rig}
 use Rattle.job.specs.Words.{Job}
 use Rattle.job.specs.Handed.{each, placesKnown, curvesKnown, testsKnown, methodKnown, wantsKnown, numbersKnown, bookedBelow, bookedKnown}
-use Rattle.job.specs.Handed.{jobKnownBy}
+use Rattle.job.specs.Handed.{heldKnown, jobKnownBy}
 use Rattle.job.proofs.Examination.{known-bounds, beforeBooked, by-parts}
 
 abbrev pub Refuses : {A : Type 0} → (ℕ → ℕ → Type 0) → Outcome A → Type 0
@@ -63,8 +64,8 @@ module _ (P : ℕ → ℕ → Type 0) where
       refuses-both (demand (ok x) k i) (each ok k (suc i) xs) (refuses-demand (ok x) k i (rw z at (p 0 (omega arith))))
       (refuses-each ok k (suc i) xs (λ t l. let n : i + suc t ≡ suc i + t = omega arith in rw n at (p (suc t) (omega arith))))
 
--- ---- the numbers of the table: 1 to 13, without 5
-pub in-table : (r : Refusal) → (1 ≤ number r) × (number r ≤ 13) × (number r ≡ 5 → ⊥)
+-- ---- the numbers of the table: 1 to 14, without 5
+pub in-table : (r : Refusal) → (1 ≤ number r) × (number r ≤ 14) × (number r ≡ 5 → ⊥)
 in-table (Refusal.Truncated i) = (omega arith, omega arith, λ e. omega arith)
 in-table (Refusal.BadHeader i) = (omega arith, omega arith, λ e. omega arith)
 in-table (Refusal.EmptyGroup i) = (omega arith, omega arith, λ e. omega arith)
@@ -77,6 +78,7 @@ in-table (Refusal.BadArgument i) = (omega arith, omega arith, λ e. omega arith)
 in-table (Refusal.BadPlanBytes i) = (omega arith, omega arith, λ e. omega arith)
 in-table (Refusal.PlanRejected i) = (omega arith, omega arith, λ e. omega arith)
 in-table (Refusal.TooManyBooked i) = (omega arith, omega arith, λ e. omega arith)
+in-table (Refusal.UnknownHeld i) = (omega arith, omega arith, λ e. omega arith)
 
 -- 02, wish 3: "Refusal 5 is withdrawn and its number not used again": NO REFUSAL that a function can answer has this number
 pub withdrawn : (r : Refusal) → number r ≡ 5 → ⊥
@@ -120,3 +122,11 @@ job-by-refuses method j =
     (refuses-both HandedRefusal _ _
     (refuses-more BeforeBooked HandedRefusal (beforeBooked method j) (λ k i n. inl (n .0, omega (arith, n .1))) (before-refuses method j))
     (booked-refuse (j .rig)))
+
+-- what is held is refused by 14, at a curve below 64, or at 64 where 64 bits do not hold it
+abbrev pub HeldRefusal : ℕ → ℕ → Type 0
+HeldRefusal k i = (k ≡ 14) × (i ≤ 64)
+
+pub held-refuses : (curves held : ℕ) → Refuses HeldRefusal (heldKnown curves held)
+unfolding heldKnown
+held-refuses curves held = refuses-demand HeldRefusal _ 14 _ (refl, trailing-le 64 _)

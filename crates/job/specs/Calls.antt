@@ -1,11 +1,11 @@
 -- What a call is handed is examined before anything is made: "Handed lists and counts: .. 10 in its own order, then for ordering 7, 9; planning 8, 7, 9;
--- writing a job 9; checking 8, 12", with 02's 13 "after 10". As far as nothing is lent: 9, and 12, which is of the plan, come behind.
+-- writing a job 9; checking 8, 12", with 02's 13 "after 10", and 14 "after 13". As far as nothing is lent: 9, and 12, which is of the plan, come behind.
 use mathlib.Core.List.{List}
 use Prim.Native.Nat.{ℕ}
 use lib.ListN.{length}
 use Rattle.job.specs.Refusal.{Outcome, _>>_}
 use Rattle.job.specs.Words.{Job, capacity}
-use Rattle.job.specs.Handed.{testsKnown, wantsFit, jobKnownBy, jobKnown}
+use Rattle.job.specs.Handed.{testsKnown, heldKnown, wantsFit, jobKnownBy, jobKnown}
 use Rattle.job.specs.Order.{orderKnown}
 
 -- "for ordering 7" behind 10, which the method belongs to, and 13
@@ -14,16 +14,17 @@ orderingKnown method j = do
   jobKnownBy method j
   wantsFit (capacity (j .rig)) (j .wants)
 
--- "checking 8" behind 10 and 13
-unfoldable pub checkingKnown : Job → List ℕ → Outcome (Unit {0})
-checkingKnown j order = do
+-- "checking 8" behind 10, 13 and 14
+unfoldable pub checkingKnown : Job → ℕ → List ℕ → Outcome (Unit {0})
+checkingKnown j held order = do
   jobKnown j
+  heldKnown (j .rig .curves) held
   orderKnown (length (j .wants)) order
 
--- "planning 8, 7" behind 10 and 13
-unfoldable pub planningKnown : Job → List ℕ → Outcome (Unit {0})
-planningKnown j order = do
-  checkingKnown j order
+-- "planning 8, 7" behind 10, 13 and 14
+unfoldable pub planningKnown : Job → ℕ → List ℕ → Outcome (Unit {0})
+planningKnown j held order = do
+  checkingKnown j held order
   wantsFit (capacity (j .rig)) (j .wants)
 
 -- of an order alone, for as many tests as it has entries: of 10 the number of tests, then 8

@@ -1,10 +1,11 @@
--- "Handed lists and counts: .. 10 in its own order", 13, and 7: numbers that are handed over directly are examined the same way as bytes.
+-- "Handed lists and counts: .. 10 in its own order", 13, 14, and 7: numbers that are handed over directly are examined the same way as bytes.
 use mathlib.Core.Bool.{Bool, false, _&&_, _||_}
 use mathlib.Core.List.{List, [], _∷_}
 use Prim.Native.Nat.{ℕ, suc}
 use lib.ListN.{length}
+use lib.Count.{trailingZeros}
 use lib.Dec.{leb, ltb, eqb}
-use Rattle.bitset.specs.Set.{size, inside, below}
+use Rattle.bitset.specs.Set.{_∖_, size, inside, below}
 use Rattle.job.specs.declared.Rig.{Rig}
 use Rattle.job.specs.Refusal.{Outcome, done, _>>_, demand}
 use Rattle.job.specs.Words.{Job}
@@ -59,6 +60,10 @@ unfoldable pub bookedKnown : Rig → Outcome (Unit {0})
 bookedKnown rig = do
   demand (leb (rig .booked) 63) 10 260
   bookedBelow rig 0
+
+-- 02, wish 6: "14, a held curve that the job doesn't have, with the lowest such curve"; "its lowest curve [is] its count of trailing zeros", of 64 bits
+unfoldable pub heldKnown : ℕ → ℕ → Outcome (Unit {0})
+heldKnown curves held = demand (inside held (allCurves curves)) 14 (trailingZeros 64 (held ∖ allCurves curves))
 
 -- 7: "a test wants more curves than places", with the lowest such test; `most` is what the drive can hold
 unfoldable pub wantsFit : ℕ → List ℕ → Outcome (Unit {0})

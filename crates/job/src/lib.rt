@@ -5,7 +5,7 @@ ghost use lib.ListN.{length};
 ghost use Rattle.lists.specs.Lent.{was};
 ghost use Rattle.job.specs.Refusal.{number, figure, examinedOutcome};
 ghost use Rattle.job.specs.Words.{jobOf, capacity};
-ghost use Rattle.job.specs.Handed.{between, numbersKnown, wantsKnown, wantsFit, bookedKnown, bookedBelow, jobKnownBy, countsKnown};
+ghost use Rattle.job.specs.Handed.{between, numbersKnown, wantsKnown, wantsFit, bookedKnown, bookedBelow, heldKnown, jobKnownBy, countsKnown};
 ghost use Rattle.job.specs.Order.{orderKnown};
 ghost use Rattle.job.specs.Calls.{orderingKnown, checkingKnown, planningKnown, orderAloneKnown};
 
@@ -49,6 +49,8 @@ pub enum Refusal {
     PlanRejected(usize),
     // 13, "booked not below places"
     TooManyBooked(usize),
+    // 14, "a held curve that the job doesn't have"
+    UnknownHeld(usize),
 }
 
 // The number of a refusal in document 01's table.
@@ -68,6 +70,7 @@ pub fn number_of(r: Refusal) -> u64
         Refusal::BadPlanBytes(_) => 11,
         Refusal::PlanRejected(_) => 12,
         Refusal::TooManyBooked(_) => 13,
+        Refusal::UnknownHeld(_) => 14,
     }
 }
 
@@ -88,6 +91,7 @@ pub fn figure_of(r: Refusal) -> u64
         Refusal::BadPlanBytes(i) => i as u64,
         Refusal::PlanRejected(i) => i as u64,
         Refusal::TooManyBooked(i) => i as u64,
+        Refusal::UnknownHeld(i) => i as u64,
     }
 }
 
@@ -218,7 +222,19 @@ pub fn examine_job(rig: Rig, method: usize, wants: &[u64]) -> Examined
     examine_booked(rig)
 }
 
-// ---- 7 and 8
+// ---- 14, 7 and 8
+
+// 14: "a held curve that the job doesn't have, with the lowest such curve".
+fn examine_held(curves: usize, held: u64) -> Examined
+    requires { ⌜ curves ≤ 64 ⌝ }
+    ensures { λ r. ⌜ examinedOutcome r ≡ heldKnown curves held ⌝ }
+{
+    let unknown = bitset::without(held, bitset::below(curves));
+    if unknown == 0 {
+        return Examined::Passed;
+    }
+    Examined::Refused(Refusal::UnknownHeld(bitset::lowest(unknown)))
+}
 
 // 7: "a test wants more curves than places", with the lowest such test; `most` is what the drive can hold.
 pub fn examine_sizes(most: usize, wants: &[u64]) -> Examined
@@ -281,21 +297,24 @@ pub fn examine_ordering(rig: Rig, method: usize, wants: &[u64]) -> Examined
     examine_fit(rig, wants)
 }
 
-// Of what the plan check is handed, but for the plan: 10, 13, 8.
-pub fn examine_checking(rig: Rig, wants: &[u64], order: &[u16]) -> Examined
-    ensures { λ r. ⌜ examinedOutcome r ≡ checkingKnown (jobOf rig (was wants)) (was order) ⌝ }
+// Of what the plan check is handed, but for the plan: 10, 13, 14, 8.
+pub fn examine_checking(rig: Rig, wants: &[u64], held: u64, order: &[u16]) -> Examined
+    ensures { λ r. ⌜ examinedOutcome r ≡ checkingKnown (jobOf rig (was wants)) held (was order) ⌝ }
 {
     if let Examined::Refused(r) = examine_job(rig, 0, wants) {
+        return Examined::Refused(r);
+    }
+    if let Examined::Refused(r) = examine_held(rig.curves, held) {
         return Examined::Refused(r);
     }
     examine_order(wants.len(), order)
 }
 
-// Of what planning is handed: 10, 13, 8, 7.
-pub fn examine_planning(rig: Rig, wants: &[u64], order: &[u16]) -> Examined
-    ensures { λ r. ⌜ examinedOutcome r ≡ planningKnown (jobOf rig (was wants)) (was order) ⌝ }
+// Of what planning is handed: 10, 13, 14, 8, 7.
+pub fn examine_planning(rig: Rig, wants: &[u64], held: u64, order: &[u16]) -> Examined
+    ensures { λ r. ⌜ examinedOutcome r ≡ planningKnown (jobOf rig (was wants)) held (was order) ⌝ }
 {
-    if let Examined::Refused(r) = examine_checking(rig, wants, order) {
+    if let Examined::Refused(r) = examine_checking(rig, wants, held, order) {
         return Examined::Refused(r);
     }
     examine_fit(rig, wants)

@@ -60,10 +60,16 @@ first-le wants (t ∷ ts) (d ∷ ds) (l ∷ ls) end nd nl ok e =
       end-le end,
     )
 
--- A PLAN THAT PASSES THE CHECK is written in at most 20 bytes for each test and one more: 5,121
-pub passed-length : (j : Job) (order : List ℕ) (p : Plan) (m : ℕ) → checking j order p ≡ done m → length (planBytes order p) ≤ 5121
-passed-length j order p m e =
-    let ok : Passes j order p = passed j order p m e in
+-- A PLAN THAT PASSES THE CHECK, whatever is held at the start, is written in at most 20 bytes for each test and 10 for the end step: 5,130
+pub passed-length : (j : Job) (held : ℕ) (order : List ℕ) (p : Plan) (m : ℕ) → checking j held order p ≡ done m → length (planBytes order p) ≤ 5130
+passed-length j held order p m e =
+    let ok : Passes j held order p = passed j held order p m e in
+    omega (arith, plan-le order p, order-length (length (j .wants)) order (ok .is-order), ok .is-job .tests-bound)
+
+-- FROM AN EMPTY DRIVE in at most 20 bytes for each test and one more: 5,121
+pub empty-length : (j : Job) (order : List ℕ) (p : Plan) (m : ℕ) → checking j 0 order p ≡ done m → length (planBytes order p) ≤ 5121
+empty-length j order p m e =
+    let ok : Passes j 0 order p = passed j 0 order p m e in
     let n = order-length (length (j .wants)) order (ok .is-order) in
     omega (
       arith,
@@ -72,12 +78,13 @@ passed-length j order p m e =
       ok .is-job .tests-bound,
     )
 
-pub written-length : (j : Job) (order : List ℕ) (p : Plan) (lent : ℕ) (bytes : List ℕ) → writePlan j order p lent ≡ done bytes → length bytes ≤ 5121
+pub written-length : (j : Job) (held : ℕ) (order : List ℕ) (p : Plan) (lent : ℕ) (bytes : List ℕ) → writePlan j held order p lent ≡ done bytes
+    → length bytes ≤ 5130
 unfolding writePlan
-written-length j order p lent bytes e =
-    let a = bind-done (checking j order p) _ bytes e in
+written-length j held order p lent bytes e =
+    let a = bind-done (checking j held order p) _ bytes e in
     let b = both-done (room lent (length (planBytes order p))) (done (planBytes order p)) bytes (a .2) in
-    omega (arith, passed-length j order p (a .0) (a .1), ap length (done-same (b .1)))
+    omega (arith, passed-length j held order p (a .0) (a .1), ap length (done-same (b .1)))
 
 -- A PLAN THAT READS has at most 20 bytes for each test, and 10 for the end step
 pub read-length : (curves tests : ℕ) (bs : List ℕ) (c : Contents) → Bytes bs → planSteps curves tests bs ≡ done c → length bs ≤ 20 * tests + 10

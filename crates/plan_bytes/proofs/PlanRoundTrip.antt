@@ -18,13 +18,13 @@ use Rattle.job.proofs.Laws.{both, done-same, refused≢done, demand-true, both-
 use Rattle.job_bytes.proofs.SetRoundTrip.{set-back, Bytes, SetRead, set-read}
 use Rattle.job_bytes.proofs.JobRoundTrip.{end-none}
 use native.Mathlib.Decide.{decLe}
-use Rattle.bitset.proofs.Parts.{_≼_, ≼-inside, empty-≼}
+use Rattle.bitset.proofs.Parts.{_≼_, ≼-inside, in-range as set-in-range}
 use Rattle.job.proofs.JobExact.{inside-below, job-counts}
 use Rattle.job.specs.Words.{Job, capacity, count}
 use Rattle.job.proofs.Orders.{one-same, order-length}
-use Rattle.drive.specs.Steps.{moves}
+use Rattle.drive.specs.Steps.{heldAfter, moves}
 use Rattle.drive.proofs.CheckExact.{AllKept, first-kept, moved-≼, held-≼}
-use Rattle.planning.specs.Plan.{Plan, heldAtEnd, steps, inOrder}
+use Rattle.planning.specs.Plan.{Plan, steps, inOrder}
 use Rattle.planning.specs.Planning.{planSets, checking}
 use Rattle.planning.proofs.CheckExact.{Passes, passed}
 use Rattle.plan_bytes.specs.PlanBytes.{setField, stepBytes, stepsBytes, endBytes, planBytes, Placed, Contents, testsOf, planIn, readSet, readStep}
@@ -214,26 +214,27 @@ module _ (places curves : ℕ) (wants : List ℕ) where
       test (no e) = omega arith
 
 -- A PLAN THAT IS WRITTEN READS BACK
-pub plan-back : (j : Job) (order : List ℕ) (p : Plan) (lent : ℕ) (bytes : List ℕ) → writePlan j order p lent ≡ done bytes
+pub plan-back : (j : Job) (held : ℕ) (order : List ℕ) (p : Plan) (lent : ℕ) (bytes : List ℕ) → writePlan j held order p lent ≡ done bytes
     → (c : Contents) × (planSteps (j .rig .curves) (length (j .wants)) bytes ≡ done c) × (testsOf c ≡ order) × (planIn c ≡ p)
 unfolding writePlan planSteps
-plan-back j order p lent bytes e =
+plan-back j held order p lent bytes e =
     let curves = j .rig .curves in
     let tests = length (j .wants) in
-    let a = bind-done (checking j order p) _ bytes e in
+    let a = bind-done (checking j held order p) _ bytes e in
     let b = both-done (room lent (length (planBytes order p))) (done (planBytes order p)) bytes (a .2) in
-    let ok : Passes j order p = passed j order p (a .0) (a .1) in
+    let ok : Passes j held order p = passed j held order p (a .0) (a .1) in
     let few = ok .is-job .curves-bounds .1 in
+    let own : held ≼ allCurves curves = set-in-range curves held (ok .is-holding) in
     let long = order-length tests order (ok .is-order) in
     let r : InRange curves tests few order (p .drops) (p .loads) =
-    in-range (capacity (j .rig)) curves (j .wants) few 0 order (p .drops) (p .loads) (ok .drop-sets ∙ sym long) (ok .load-sets ∙ sym long)
-    (empty-≼ (allCurves curves)) (ok .is-order .only) (ok .steps) in
-    let held : p .end < 2 ^ curves =
-    rw (ok .ends) (below (capacity (j .rig)) curves (j .wants) (heldAtEnd (planSets j order p)) (held-≼ (empty-≼ (allCurves curves)) (ok .steps))) in (
+    in-range (capacity (j .rig)) curves (j .wants) few held order (p .drops) (p .loads) (ok .drop-sets ∙ sym long) (ok .load-sets ∙ sym long)
+    own (ok .is-order .only) (ok .steps) in
+    let left : p .end < 2 ^ curves =
+    rw (ok .ends) (below (capacity (j .rig)) curves (j .wants) (heldAfter held (planSets j order p)) (held-≼ own (ok .steps))) in (
       contentsOf curves tests few order p,
       done-both _ _ (job-counts j (ok .is-job))
           ∙ ap (readPlanBytes curves tests) (sym (done-same (b .1)))
-          ∙ bytes-back curves tests few order p long r held,
+          ∙ bytes-back curves tests few order p long r left,
       of-tests curves tests few 0 order (p .drops) (p .loads) r,
       rw (of-drops curves tests few 0 order (p .drops) (p .loads) r, of-loads curves tests few 0 order (p .drops) (p .loads) r) refl,
     )
@@ -369,8 +370,8 @@ module _ (curves tests : ℕ) where
 
 -- .. so a plan that reads and passes the check is written as the bytes that it was read from
 pub plan-read : (j : Job) (bs : List ℕ) (c : Contents) → Bytes bs → planSteps (j .rig .curves) (length (j .wants)) bs ≡ done c
-    → (n : ℕ) → checking j (testsOf c) (planIn c) ≡ done n → writePlan j (testsOf c) (planIn c) (length bs) ≡ done bs
+    → (held n : ℕ) → checking j held (testsOf c) (planIn c) ≡ done n → writePlan j held (testsOf c) (planIn c) (length bs) ≡ done bs
 unfolding writePlan planSteps _>>=_
-plan-read j bs c all e n ok =
+plan-read j bs c all e held n ok =
     let s = plan-bytes-read (j .rig .curves) (length (j .wants)) bs c all (both-done (countsKnown (j .rig .curves) (length (j .wants))) _ c e .1) in
     rw ok (done-both _ _ (done-room (length bs) _ (omega (arith, ap length s))) ∙ ap done s)

@@ -110,12 +110,12 @@ module _ (order drops loads : List ℕ) (i : ℕ) where
   steps-none h = rw (drop-of-length-le order h) refl
 
 -- ---- what is written of a plan
-module _ (j : Job) (order : List ℕ) (p : Plan) where
-  pub unchecked : (k i : ℕ) → checking j order p ≡ refused k i → (lent : ℕ) → writePlan j order p lent ≡ refused k i
+module _ (j : Job) (held : ℕ) (order : List ℕ) (p : Plan) where
+  pub unchecked : (k i : ℕ) → checking j held order p ≡ refused k i → (lent : ℕ) → writePlan j held order p lent ≡ refused k i
   unfolding writePlan _>>=_
   unchecked k i e lent = rw e refl
 
-  pub plan-fitting : (m : ℕ) → checking j order p ≡ done m → (lent : ℕ) → writePlan j order p lent ≡ fitting (planBytes order p) lent
+  pub plan-fitting : (m : ℕ) → checking j held order p ≡ done m → (lent : ℕ) → writePlan j held order p lent ≡ fitting (planBytes order p) lent
   unfolding writePlan _>>=_
   plan-fitting m e lent = rw e refl
 
@@ -159,9 +159,9 @@ writable order p known sets =
     }
 
 -- ---- a plan that passes the check
-module _ (j : Job) (order : List ℕ) (p : Plan) (m : ℕ) (e : checking j order p ≡ done m) where
-  ok : Passes j order p
-  ok = passed j order p m e
+module _ (j : Job) (held : ℕ) (order : List ℕ) (p : Plan) (m : ℕ) (e : checking j held order p ≡ done m) where
+  ok : Passes j held order p
+  ok = passed j held order p m e
 
   n : length order ≡ length (j .wants)
   n = order-length (length (j .wants)) order (ok .is-order)
@@ -177,5 +177,5 @@ module _ (j : Job) (order : List ℕ) (p : Plan) (m : ℕ) (e : checking j order
   passed-writable = writable order p own-order own-sets
 
   -- A PLAN THAT PASSES THE CHECK IS WRITTEN THE SAME WITHOUT IT
-  pub passed-written : (lent : ℕ) → writePlan j order p lent ≡ writeSteps order p lent
-  passed-written lent = plan-fitting j order p m e lent ∙ sym (steps-fitting order p own-order own-sets lent)
+  pub passed-written : (lent : ℕ) → writePlan j held order p lent ≡ writeSteps order p lent
+  passed-written lent = plan-fitting j held order p m e lent ∙ sym (steps-fitting order p own-order own-sets lent)

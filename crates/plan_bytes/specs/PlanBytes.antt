@@ -41,20 +41,20 @@ endBytes (suc s) = 1 ∷ setBytes (suc s)
 abbrev pub planBytes : List ℕ → Plan → List ℕ
 planBytes order p = stepsBytes (steps order (p .drops) (p .loads)) ++ endBytes (p .end)
 
--- "writing a plan 8, 12, 9", after 10
-unfoldable pub writePlan : Job → List ℕ → Plan → ℕ → Outcome (List ℕ)
-writePlan j order p lent = do
-  _ ← checking j order p
+-- "writing a plan 8, 12, 9", after 10, 13 and 14; from what is held (02, wish 6), of which nothing is written
+unfoldable pub writePlan : Job → ℕ → List ℕ → Plan → ℕ → Outcome (List ℕ)
+writePlan j held order p lent = do
+  _ ← checking j held order p
   fitting (planBytes order p) lent
 
-module _ (j : Job) (order : List ℕ) (p : Plan) (old : List ℕ) where
+module _ (j : Job) (held : ℕ) (order : List ℕ) (p : Plan) (old : List ℕ) where
   -- what writing answers: the count of bytes
   unfoldable pub writePlanAnswer : Outcome ℕ
-  writePlanAnswer = mapped length (writePlan j order p (length old))
+  writePlanAnswer = mapped length (writePlan j held order p (length old))
 
   -- what the lent buffer holds afterwards
   unfoldable pub writePlanBuffer : List ℕ
-  writePlanBuffer = leaves (writePlan j order p (length old)) old
+  writePlanBuffer = leaves (writePlan j held order p (length old)) old
 
 -- ---- read
 

@@ -427,20 +427,21 @@ fn write_fitting(order: &[u16], drops: &[u64], loads: &[u64], end: u64, out: &mu
     Counted::Count(need)
 }
 
-// Writes a plan that passes the check as plan bytes, and answers their count: "writing a plan 8, 12, 9", after 10.
+// Writes a plan that passes the check from what is held as plan bytes, and answers their count: "writing a plan 8, 12, 9", after 10, 13 and 14.
 pub fn write_plan(
     rig: Rig,
     wants: &[u64],
+    held: u64,
     order: &[u16],
     drops: &[u64],
     loads: &[u64],
     end: u64,
     out: &mut [u8],
 ) -> Counted
-    ensures answer { λ r. ⌜ countOutcome r ≡ writePlanAnswer (jobOf rig (was wants)) (was order) (planOf (was drops) (was loads) end) (was out) ⌝ }
-    ensures bytes { λ _. ⌜ after out ≡ writePlanBuffer (jobOf rig (was wants)) (was order) (planOf (was drops) (was loads) end) (was out) ⌝ }
+    ensures answer { λ r. ⌜ countOutcome r ≡ writePlanAnswer (jobOf rig (was wants)) held (was order) (planOf (was drops) (was loads) end) (was out) ⌝ }
+    ensures bytes { λ _. ⌜ after out ≡ writePlanBuffer (jobOf rig (was wants)) held (was order) (planOf (was drops) (was loads) end) (was out) ⌝ }
 {
-    if let Counted::Refused(r) = check_plan(rig, wants, order, drops, loads, end) {
+    if let Counted::Refused(r) = check_plan(rig, wants, held, order, drops, loads, end) {
         return Counted::Refused(r);
     }
     write_fitting(order, drops, loads, end, out)

@@ -17,14 +17,14 @@ module _ (x : PlanCounted) (o : Outcome CountEnd) (told : planOutcome x ≡ o) w
   not-refused r n end p q = absurd (refused≢done {k = number r} {i = figure r} (sym (ap planOutcome p) ∙ told ∙ q))
 
   -- .. and the count is the rule's
-  pub count-is : (m held n end : ℕ) → x ≡ PlanCounted.Count m held → o ≡ done (record { count = n; end = end }) → eqb m n ≡ true
+  pub count-is : (m left n end : ℕ) → x ≡ PlanCounted.Count m left → o ≡ done (record { count = n; end = end }) → eqb m n ≡ true
   unfolding planOutcome
-  count-is m held n end p q = eq-eqb m n (ap (λ (a : CountEnd). a .count) (done-same (sym (ap planOutcome p) ∙ told ∙ q)))
+  count-is m left n end p q = eq-eqb m n (ap (λ (a : CountEnd). a .count) (done-same (sym (ap planOutcome p) ∙ told ∙ q)))
 
   -- the rule refuses, so no count was answered
-  pub not-counted : (m held k i : ℕ) {b : Bool} → x ≡ PlanCounted.Count m held → o ≡ refused k i → b ≡ true
+  pub not-counted : (m left k i : ℕ) {b : Bool} → x ≡ PlanCounted.Count m left → o ≡ refused k i → b ≡ true
   unfolding planOutcome
-  not-counted m held k i p q = absurd (refused≢done (sym q ∙ sym told ∙ ap planOutcome p))
+  not-counted m left k i p q = absurd (refused≢done (sym q ∙ sym told ∙ ap planOutcome p))
 
   -- .. and the number and the figure are the rule's
   pub number-is : (r : Refusal) (k i : ℕ) → x ≡ PlanCounted.Refused r → o ≡ refused k i → number r ≡ k

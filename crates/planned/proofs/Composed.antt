@@ -3,6 +3,7 @@ use mathlib.Core.Path.{_≡_, refl, ap, _∙_}
 use mathlib.Core.List.{List, []}
 use Prim.Native.Nat.{ℕ}
 use native.Mathlib.Omega.{arith}
+use lib.Pow.{pow-pos}
 use lib.ListN.{length}
 use Rattle.job.specs.Refusal.{Outcome, done, refused, _>>=_, _>>_}
 use Rattle.job.specs.Words.{capacity}
@@ -31,7 +32,7 @@ abbrev pub orderOf : Request → List ℕ
 orderOf q = orderBy (q .head .method) (capacity (q .head .rig)) (q .wants)
 
 abbrev pub setsOf : Request → List Sets
-setsOf q = ourPlan (jobIn q) (orderOf q)
+setsOf q = ourPlan (jobIn q) 0 (orderOf q)
 
 -- 02, wish 3: "A job with no tests .. empty order": and so an empty plan
 module _ (q : Request) (none : q .wants ≡ []) where
@@ -39,7 +40,7 @@ module _ (q : Request) (none : q .wants ≡ []) where
   order-empty = no-order _ (orderOf q) (ap length none) (order-complete (q .head .method) (capacity (q .head .rig)) (q .wants))
 
   pub plan-empty : setsOf q ≡ []
-  plan-empty = ap (ourPlan (jobIn q)) order-empty ∙ no-steps (jobIn q)
+  plan-empty = ap (ourPlan (jobIn q) 0) order-empty ∙ no-steps (jobIn q) 0
 
 module _ (q : Request) (r : ReadJob q) where
   abbrev fits : Outcome (Unit {0})
@@ -50,9 +51,9 @@ module _ (q : Request) (r : ReadJob q) where
   unfolding orderingKnown
   ordering-fits = done-both _ _ (job-by-exact (jobIn q) (q .head .method) .1 (r .is-job, r .method))
 
-  planning-fits : planningKnown (jobIn q) (orderOf q) ≡ fits
+  planning-fits : planningKnown (jobIn q) 0 (orderOf q) ≡ fits
   planning-fits =
-      planning-known (jobIn q) (orderOf q) (exact-known (jobIn q) (orderOf q) (r .is-job)
+      planning-known (jobIn q) 0 (orderOf q) (exact-known (jobIn q) 0 (orderOf q) (r .is-job) (pow-pos (q .head .rig .curves))
       (order-complete (q .head .method) (capacity (q .head .rig)) (q .wants)))
 
   order-done : fits ≡ done tt → orderRequest q ≡ done (orderOf q)
@@ -63,11 +64,11 @@ module _ (q : Request) (r : ReadJob q) where
   unfolding orderRequest
   too-large k i f = not-known (q .head .method) (jobIn q) (q .head .tests) k i (ordering-fits ∙ f)
 
-  planned : fits ≡ done tt → planning (jobIn q) (orderOf q) (q .head .tests) ≡ done (setsOf q)
-  planned f = plan-done (jobIn q) (orderOf q) (q .head .tests) (planning-fits ∙ f) (omega (arith, r .tests))
+  planned : fits ≡ done tt → planning (jobIn q) 0 (orderOf q) (q .head .tests) ≡ done (setsOf q)
+  planned f = plan-done (jobIn q) 0 (orderOf q) (q .head .tests) (planning-fits ∙ f) (omega (arith, r .tests))
 
-  pub checked : fits ≡ done tt → checking (jobIn q) (orderOf q) (handed (setsOf q)) ≡ done (loadCount (setsOf q))
-  checked f = our-check (jobIn q) (orderOf q) (planning-fits ∙ f)
+  pub checked : fits ≡ done tt → checking (jobIn q) 0 (orderOf q) (handed 0 (setsOf q)) ≡ done (loadCount (setsOf q))
+  checked f = our-check (jobIn q) 0 (orderOf q) (planning-fits ∙ f)
 
 -- ---- the whole, of bytes that read
 module _ (bs : List ℕ) (q : Request) (all : Bytes bs) (read : readBytes bs ≡ done q) where
@@ -75,7 +76,7 @@ module _ (bs : List ℕ) (q : Request) (all : Bytes bs) (read : readBytes bs ≡
   is = read-exact bs q all read
 
   pub job-planned : wantsFit (capacity (q .head .rig)) (q .wants) ≡ done tt
-      → planJob bs ≡ done (record { request = q; order = orderOf q; plan = handed (setsOf q) })
+      → planJob bs ≡ done (record { request = q; order = orderOf q; plan = handed 0 (setsOf q) })
   unfolding planJob orderAndPlan planInOrder _>>=_
   job-planned f = rw (read, order-done q is f, planned q is f) refl
 

@@ -51,12 +51,12 @@ pub record Given (bs : List ℕ) (h : Head) (m end : ℕ) (new : Lists) : Type 0
 
 module _ (bs : List ℕ) (all : Bytes bs) where
   module _ (old : Lists) (q : Request) (os : List ℕ) (sets : List Sets) (read : readBytes bs ≡ done q) (ordered : orderRequest q ≡ done os)
-      (planned : planning (jobIn q) os (q .head .tests) ≡ done sets) where
+      (planned : planning (jobIn q) 0 os (q .head .tests) ≡ done sets) where
     abbrev n : ℕ
     n = q .head .tests
 
     abbrev here : Planned
-    here = record { request = q; order = os; plan = handed sets }
+    here = record { request = q; order = os; plan = handed 0 sets }
 
     is : planJob bs ≡ done here
     unfolding planJob orderAndPlan planInOrder _>>=_
@@ -71,7 +71,7 @@ module _ (bs : List ℕ) (all : Bytes bs) where
     first-of =
         let r : ReadJob q = read-exact bs q all read in
         let lo = order-long q (r .tests) os ordered in
-        let lp = plan-length (jobIn q) os n sets planned ∙ r .tests in
+        let lp = plan-length (jobIn q) 0 os n sets planned ∙ r .tests in
         let ld = length-map sets (λ s. s .drops) ∙ lp in
         let ll = length-map sets (λ s. s .loads) ∙ lp in
         record {
@@ -90,7 +90,7 @@ module _ (bs : List ℕ) (all : Bytes bs) where
   entries-first old p e =
       let a = bind-done (readBytes bs) _ p e in
       let b = bind-done (orderRequest (a .0)) _ p (a .2) in
-      let c = bind-done (planning (jobIn (a .0)) (b .0) (a .0 .head .tests)) _ p (b .2) in
+      let c = bind-done (planning (jobIn (a .0)) 0 (b .0) (a .0 .head .tests)) _ p (b .2) in
       subst (λ (p : Planned). First p (leavesLists bs old)) (done-same (c .2)) (first-of old (a .0) (b .0) (c .0) (a .1) (b .1) (c .1))
 
   -- of what `plan_job` answered

@@ -3,6 +3,7 @@ use mathlib.Core.Path.{_≡_, refl, sym, ap, _∙_}
 use mathlib.Core.List.{List}
 use Prim.Native.Nat.{ℕ, _≤_, _<_}
 use native.Mathlib.Omega.{arith}
+use lib.Pow.{pow-pos}
 use lib.ListN.{length, take}
 use borrow.Author.Tests.{lt-leb}
 use Rattle.job.specs.declared.Head.{Head}
@@ -35,9 +36,10 @@ ordering-room : (m : ℕ) (j : Job) (a b : ℕ) → length (j .wants) ≤ a → 
 unfolding ordering
 ordering-room m j a b l k = rw (done-room a (length (j .wants)) l, done-room b (length (j .wants)) k) refl
 
-pub planning-room : (j : Job) (order : List ℕ) (a b : ℕ) → length (j .wants) ≤ a → length (j .wants) ≤ b → planning j order a ≡ planning j order b
+pub planning-room : (j : Job) (held : ℕ) (order : List ℕ) (a b : ℕ) → length (j .wants) ≤ a → length (j .wants) ≤ b
+    → planning j held order a ≡ planning j held order b
 unfolding planning
-planning-room j order a b l k = rw (done-room a (length (j .wants)) l, done-room b (length (j .wants)) k) refl
+planning-room j held order a b l k = rw (done-room a (length (j .wants)) l, done-room b (length (j .wants)) k) refl
 
 -- what a value becomes after another step
 mapped-after : {A B C : Type 0} (f : B → C) (g : A → B) (o : Outcome A) → mapped (λ x. f (g x)) o ≡ mapped f (_>>=_ o (λ x. done (g x)))
@@ -71,13 +73,14 @@ module _ (q : Request) (tests : length (q .wants) ≡ q .head .tests) where
   order-long os e = ap length (sym (by-method os e .1)) ∙ order-entries (q .head .method) (capacity (j .rig)) (q .wants) ∙ tests
 
   -- and nothing is left that planning could refuse
-  pub order-known : (os : List ℕ) → orderRequest q ≡ done os → planningKnown j os ≡ done tt
+  pub order-known : (os : List ℕ) → orderRequest q ≡ done os → planningKnown j 0 os ≡ done tt
   unfolding orderingKnown
   order-known os e =
       let g = by-method os e in
       let b = both-done (jobKnownBy (q .head .method) j) _ tt (g .0) in
       let is = job-by-exact j (q .head .method) .0 (b .0) in
-      rw (sym (g .1)) (planning-known j order (exact-known j order (is .0) (order-complete (q .head .method) (capacity (j .rig)) (q .wants))) ∙ b .1)
+      let k = exact-known j 0 order (is .0) (pow-pos (j .rig .curves)) (order-complete (q .head .method) (capacity (j .rig)) (q .wants)) in
+      rw (sym (g .1)) (planning-known j 0 order k ∙ b .1)
 
   module _ (O : List ℕ) (long : n ≤ length O) where
     there : ordering (q .head .method) j (length O) ≡ orderRequest q
@@ -105,20 +108,20 @@ module _ (q : Request) (tests : length (q .wants) ≡ q .head .tests) where
 
   -- ---- planning in a given order
   module _ (order : List ℕ) (lent : SetLists) (long : n ≤ entries lent) where
-    plan-there : planning j order (entries lent) ≡ planning j order n
-    plan-there = planning-room j order (entries lent) n (omega arith) (omega arith)
+    plan-there : planning j 0 order (entries lent) ≡ planning j 0 order n
+    plan-there = planning-room j 0 order (entries lent) n (omega arith) (omega arith)
 
-    pub plan-answer : planAnswer j order lent ≡ mapped counted (planInOrder q order)
+    pub plan-answer : planAnswer j 0 order lent ≡ mapped counted (planInOrder q order)
     unfolding planAnswer planInOrder
-    plan-answer = rw plan-there (mapped-after counted (λ sets. record { request = q; order = order; plan = handed sets }) (planning j order n))
+    plan-answer = rw plan-there (mapped-after counted (λ sets. record { request = q; order = order; plan = handed 0 sets }) (planning j 0 order n))
 
-    pub plan-left : planLists j order lent ≡ leavesPlan (λ p. p .plan) (planInOrder q order) lent
+    pub plan-left : planLists j 0 order lent ≡ leavesPlan (λ p. p .plan) (planInOrder q order) lent
     unfolding planLists planInOrder
     plan-left =
         rw (
           plan-there,
-          mapped-after (λ (p : Planned). p .plan .drops) (λ sets. record { request = q; order = order; plan = handed sets }) (planning j order n),
-          mapped-after (λ (p : Planned). p .plan .loads) (λ sets. record { request = q; order = order; plan = handed sets }) (planning j order n),
+          mapped-after (λ (p : Planned). p .plan .drops) (λ sets. record { request = q; order = order; plan = handed 0 sets }) (planning j 0 order n),
+          mapped-after (λ (p : Planned). p .plan .loads) (λ sets. record { request = q; order = order; plan = handed 0 sets }) (planning j 0 order n),
         ) refl
 
   -- ---- both
@@ -156,14 +159,14 @@ module _ (bs : List ℕ) (old : Lists) (wants : List ℕ) (w : wants ≡ leaves 
 module _ (bs : List ℕ) (q : Request) (e : readBytes bs ≡ done q) (x : PlanCounted) (c : planOutcome x ≡ mapped counted (orderAndPlan q)) where
   -- what is planned is what was asked
   asked : (o : Outcome (List Sets)) (order : List ℕ) (p : Planned)
-      → _>>=_ o (λ sets. done (record { request = q; order = order; plan = handed sets })) ≡ done p → p .request ≡ q
+      → _>>=_ o (λ sets. done (record { request = q; order = order; plan = handed 0 sets })) ≡ done p → p .request ≡ q
   unfolding _>>=_
   asked (done sets) order p e = sym (ap (λ (p : Planned). p .request) (done-same e))
   asked (refused k i) order p e = absurd (refused≢done e)
 
   same-request : (o : Outcome (List ℕ)) (p : Planned) → _>>=_ o (planInOrder q) ≡ done p → p .request ≡ q
   unfolding _>>=_ planInOrder
-  same-request (done order) p e = asked (planning (jobIn q) order (q .head .tests)) order p e
+  same-request (done order) p e = asked (planning (jobIn q) 0 order (q .head .tests)) order p e
   same-request (refused k i) p e = absurd (refused≢done e)
 
   pub tells-refusal : (r : Refusal) → x ≡ PlanCounted.Refused r → plannedOutcome (JobPlanned.Refused r) ≡ mapped told (planJob bs)

@@ -17,11 +17,11 @@ pub record Planned : Type 0 where
 unfoldable pub orderRequest : Request → Outcome (List ℕ)
 orderRequest q = ordering (q .head .method) (jobIn q) (q .head .tests)
 
--- the plan for an order of the tests
+-- the plan for an order of the tests: "The drive is empty before step 0", so nothing is held
 unfoldable pub planInOrder : Request → List ℕ → Outcome Planned
 planInOrder q order = do
-  sets ← planning (jobIn q) order (q .head .tests)
-  done (record { request = q; order = order; plan = handed sets })
+  sets ← planning (jobIn q) 0 order (q .head .tests)
+  done (record { request = q; order = order; plan = handed 0 sets })
 
 -- the order by the method, then the plan for it
 unfoldable pub orderAndPlan : Request → Outcome Planned

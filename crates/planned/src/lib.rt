@@ -40,9 +40,9 @@ fn order_and_plan(
     if let Counted::Refused(r) = ordering::order_tests(head.rig, head.method, wants, order) {
         return PlanCounted::Refused(r);
     }
-    // "planning 8, 7": nothing of it is left, since ordering has asked for 10 and 7, and its order names each test once
+    // "planning 8, 7": nothing of it is left, since ordering has asked for 10 and 7, and its order names each test once. "The drive is empty before step 0."
     let capacity = job::capacity(head.rig);
-    planning::plan_tests(capacity, wants, &order[..n], drops, loads)
+    planning::plan_tests(capacity, wants, 0, &order[..n], drops, loads)
 }
 
 // Reading before that.

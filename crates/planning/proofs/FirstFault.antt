@@ -8,35 +8,36 @@ use native.Mathlib.Omega.{arith}
 use native.Mathlib.Decide.{ℕ-discrete}
 use lib.ListN.{length}
 use Rattle.job.specs.Refusal.{Outcome, done, refused, _>>_}
-use Rattle.job.specs.Words.{Job, capacity, IsJob, IsOrder}
-use Rattle.job.specs.Handed.{allCurves, jobKnown}
+use Rattle.job.specs.Words.{Job, capacity, IsJob, IsHolding, IsOrder}
+use Rattle.job.specs.Handed.{allCurves, heldKnown, jobKnown}
 use Rattle.job.specs.Order.{orderKnown}
 use Rattle.job.specs.Calls.{checkingKnown}
 use Rattle.job.proofs.Laws.{refused≢done, refused-same, refused-split}
 use Rattle.job.proofs.Faults.{First}
-use Rattle.job.proofs.Refuses.{refuses, HandedRefusal, job-by-refuses}
+use Rattle.job.proofs.Refuses.{refuses, HandedRefusal, job-by-refuses, HeldRefusal, held-refuses}
 use Rattle.job.proofs.OrderExact.{order-refuses}
 use Rattle.drive.specs.declared.Checked.{Checked}
 use Rattle.drive.specs.declared.Checked.the-variants.{Ends, Breaks}
-use Rattle.drive.specs.Steps.{Move, curveCount}
+use Rattle.drive.specs.Steps.{Move, heldAfter, curveCount}
 use Rattle.drive.proofs.CheckExact.{AllKept, FirstFault, check-exact, check-held, fault-exact}
-use Rattle.planning.specs.Plan.{Plan, heldAtEnd}
+use Rattle.planning.specs.Plan.{Plan}
 use Rattle.planning.specs.Planning.{setsKnown, checkedOutcome, planMoves, planSets, endKnown, checking}
 use Rattle.planning.proofs.Sequence.{known-exact, exact-known, stepsChecked, end-known, end-other, check-sets, check-broken, check-other-end}
 use Rattle.planning.proofs.CheckExact.{steps-ended}
 use Rattle.planning.proofs.EntryFault.{EntryFault, sets-exact, entries-exact}
 
 -- what the plan check refuses by 12 at step i
-pub record Rejected (j : Job) (order : List ℕ) (p : Plan) (i : ℕ) : Type 0 where
+pub record Rejected (j : Job) (held : ℕ) (order : List ℕ) (p : Plan) (i : ℕ) : Type 0 where
   pub is-job : IsJob j
+  pub is-holding : IsHolding j held
   pub is-order : IsOrder (length (j .wants)) order
   -- "first step breaking a rule; before that, first missing or surplus position of the drops or loads, the smaller"; 02, wish 1: "a plan whose end set is not
   -- what is held, with the number of tests as its step"
   pub fault : First (EntryFault (length (j .wants)) (length (p .drops)) (length (p .loads))) i
       ⊎ ((length (p .drops) ≡ length (j .wants)) × (length (p .loads) ≡ length (j .wants))
-      × (FirstFault (capacity (j .rig)) (allCurves (j .rig .curves)) 0 (planMoves j order p) i
-      ⊎ ((i ≡ length (j .wants)) × AllKept (capacity (j .rig)) (allCurves (j .rig .curves)) 0 (planMoves j order p)
-      × (p .end ≡ heldAtEnd (planSets j order p) → ⊥))))
+      × (FirstFault (capacity (j .rig)) (allCurves (j .rig .curves)) held (planMoves j order p) i
+      ⊎ ((i ≡ length (j .wants)) × AllKept (capacity (j .rig)) (allCurves (j .rig .curves)) held (planMoves j order p)
+      × (p .end ≡ heldAfter held (planSets j order p) → ⊥))))
 
 -- steps that break a rule
 broke : (c : Checked) (i : ℕ) → checkedOutcome c ≡ refused 12 i → c ≡ Breaks i
@@ -44,7 +45,7 @@ unfolding checkedOutcome
 broke (Ends e) i p = absurd (refused≢done (sym p))
 broke (Breaks j) i p = ap Breaks (refused-same p)
 
-module _ (j : Job) (order : List ℕ) (p : Plan) (i : ℕ) where
+module _ (j : Job) (held : ℕ) (order : List ℕ) (p : Plan) (i : ℕ) where
   abbrev cap : ℕ
   cap = capacity (j .rig)
 
@@ -65,28 +66,28 @@ module _ (j : Job) (order : List ℕ) (p : Plan) (i : ℕ) where
 
   -- the end set, the check of the steps before it, and the sets before that
   abbrev end-check : Outcome ℕ
-  end-check = _>>_ (endKnown j order p) (done (curveCount (p .loads)))
+  end-check = _>>_ (endKnown j held order p) (done (curveCount (p .loads)))
 
   abbrev step-check : Outcome ℕ
-  step-check = _>>_ (checkedOutcome (stepsChecked j order p)) end-check
+  step-check = _>>_ (checkedOutcome (stepsChecked j held order p)) end-check
 
   abbrev set-check : Outcome ℕ
   set-check = _>>_ (setsKnown n d l) step-check
 
   -- what is wrong behind the lengths
   abbrev StepFault : Type 0
-  StepFault = FirstFault cap all 0 ms i ⊎ ((i ≡ n) × AllKept cap all 0 ms × (p .end ≡ heldAtEnd (planSets j order p) → ⊥))
+  StepFault = FirstFault cap all held ms i ⊎ ((i ≡ n) × AllKept cap all held ms × (p .end ≡ heldAfter held (planSets j order p) → ⊥))
 
   -- an end set that is not what is held
-  other-end : endKnown j order p ≡ refused 12 i → (i ≡ n) × (p .end ≡ heldAtEnd (planSets j order p) → ⊥)
-  other-end e = go (ℕ-discrete (p .end) (heldAtEnd (planSets j order p)))
+  other-end : endKnown j held order p ≡ refused 12 i → (i ≡ n) × (p .end ≡ heldAfter held (planSets j order p) → ⊥)
+  other-end e = go (ℕ-discrete (p .end) (heldAfter held (planSets j order p)))
     where
-      go : Dec (p .end ≡ heldAtEnd (planSets j order p)) → (i ≡ n) × (p .end ≡ heldAtEnd (planSets j order p) → ⊥)
-      go (yes q) = absurd (refused≢done (sym e ∙ end-known j order p q))
-      go (no q) = (refused-same (sym e ∙ end-other j order p q), q)
+      go : Dec (p .end ≡ heldAfter held (planSets j order p)) → (i ≡ n) × (p .end ≡ heldAfter held (planSets j order p) → ⊥)
+      go (yes q) = absurd (refused≢done (sym e ∙ end-known j held order p q))
+      go (no q) = (refused-same (sym e ∙ end-other j held order p q), q)
 
-  -- job and order are not refused by 12
-  known-refuses : checkingKnown j order ≡ refused 12 i → ⊥
+  -- job, holding and order are not refused by 12
+  known-refuses : checkingKnown j held order ≡ refused 12 i → ⊥
   unfolding checkingKnown
   known-refuses e = go (refused-split (jobKnown j) _ 12 i e)
     where
@@ -94,58 +95,66 @@ module _ (j : Job) (order : List ℕ) (p : Plan) (i : ℕ) where
       other (inl k) = omega (arith, k .0)
       other (inr k) = omega (arith, k .0)
 
-      go : (jobKnown j ≡ refused 12 i) ⊎ ((x : Unit {0}) × (jobKnown j ≡ done x) × (orderKnown n order ≡ refused 12 i)) → ⊥
-      go (inl e) = other (refuses HandedRefusal _ 12 i (job-by-refuses 0 j) e)
-      go (inr x) = omega (arith, refuses (λ k i. k ≡ 8) _ 12 i (order-refuses n [] order) (x .2))
+      behind : (heldKnown (j .rig .curves) held ≡ refused 12 i)
+          ⊎ ((x : Unit {0}) × (heldKnown (j .rig .curves) held ≡ done x) × (orderKnown n order ≡ refused 12 i))
+          → ⊥
+      behind (inl e) = omega (arith, refuses HeldRefusal _ 12 i (held-refuses (j .rig .curves) held) e .0)
+      behind (inr x) = omega (arith, refuses (λ k i. k ≡ 8) _ 12 i (order-refuses n [] order) (x .2))
 
-  by-end : (endKnown j order p ≡ refused 12 i) ⊎ ((x : Unit {0}) × (endKnown j order p ≡ done x) × (done (curveCount (p .loads)) ≡ refused 12 i))
-      → (i ≡ n) × (p .end ≡ heldAtEnd (planSets j order p) → ⊥)
+      go : (jobKnown j ≡ refused 12 i)
+          ⊎ ((x : Unit {0}) × (jobKnown j ≡ done x) × (_>>_ (heldKnown (j .rig .curves) held) (orderKnown n order) ≡ refused 12 i))
+          → ⊥
+      go (inl e) = other (refuses HandedRefusal _ 12 i (job-by-refuses 0 j) e)
+      go (inr x) = behind (refused-split (heldKnown (j .rig .curves) held) _ 12 i (x .2))
+
+  by-end : (endKnown j held order p ≡ refused 12 i) ⊎ ((x : Unit {0}) × (endKnown j held order p ≡ done x) × (done (curveCount (p .loads)) ≡ refused 12 i))
+      → (i ≡ n) × (p .end ≡ heldAfter held (planSets j order p) → ⊥)
   by-end (inl e) = other-end e
   by-end (inr e) = absurd (refused≢done (sym (e .2)))
 
-  by-steps : (checkedOutcome (stepsChecked j order p) ≡ refused 12 i)
-      ⊎ ((x : Unit {0}) × (checkedOutcome (stepsChecked j order p) ≡ done x) × (end-check ≡ refused 12 i))
+  by-steps : (checkedOutcome (stepsChecked j held order p) ≡ refused 12 i)
+      ⊎ ((x : Unit {0}) × (checkedOutcome (stepsChecked j held order p) ≡ done x) × (end-check ≡ refused 12 i))
       → StepFault
   by-steps (inl e) =
       let z : i ≡ 0 + i = omega arith in
-      inl (fault-exact cap all 0 0 ms i .0 (broke (stepsChecked j order p) i e ∙ ap Breaks z))
+      inl (fault-exact cap all 0 held ms i .0 (broke (stepsChecked j held order p) i e ∙ ap Breaks z))
   by-steps (inr e) =
-      let s = steps-ended (stepsChecked j order p) (e .1) in
-      let x = by-end (refused-split (endKnown j order p) (done (curveCount (p .loads))) 12 i (e .2)) in
-      inr (x .0, check-held cap all 0 0 ms (s .0) (s .1) .1, x .1)
+      let s = steps-ended (stepsChecked j held order p) (e .1) in
+      let x = by-end (refused-split (endKnown j held order p) (done (curveCount (p .loads))) 12 i (e .2)) in
+      inr (x .0, check-held cap all 0 held ms (s .0) (s .1) .1, x .1)
 
-  rejected : checking j order p ≡ refused 12 i → Rejected j order p i
+  rejected : checking j held order p ≡ refused 12 i → Rejected j held order p i
   unfolding checking
-  rejected e = by-known (refused-split (checkingKnown j order) _ 12 i e)
+  rejected e = by-known (refused-split (checkingKnown j held order) _ 12 i e)
     where
       by-sets : (setsKnown n d l ≡ refused 12 i) ⊎ ((x : Unit {0}) × (setsKnown n d l ≡ done x) × (step-check ≡ refused 12 i))
           → First (EntryFault n d l) i ⊎ ((d ≡ n) × (l ≡ n) × StepFault)
       by-sets (inl e) = inl (sets-exact n d l i .0 e)
       by-sets (inr e) =
           let x = entries-exact n d l .0 (e .1) in
-          inr (x .0, x .1, by-steps (refused-split (checkedOutcome (stepsChecked j order p)) end-check 12 i (e .2)))
+          inr (x .0, x .1, by-steps (refused-split (checkedOutcome (stepsChecked j held order p)) end-check 12 i (e .2)))
 
-      by-known : (checkingKnown j order ≡ refused 12 i) ⊎ ((x : Unit {0}) × (checkingKnown j order ≡ done x) × (set-check ≡ refused 12 i))
-          → Rejected j order p i
+      by-known : (checkingKnown j held order ≡ refused 12 i) ⊎ ((x : Unit {0}) × (checkingKnown j held order ≡ done x) × (set-check ≡ refused 12 i))
+          → Rejected j held order p i
       by-known (inl e) = absurd (known-refuses e)
       by-known (inr x) =
-          let k = known-exact j order (x .1) in
-          record { is-job = k .0; is-order = k .1; fault = by-sets (refused-split (setsKnown n d l) step-check 12 i (x .2)) }
+          let k = known-exact j held order (x .1) in
+          record { is-job = k .0; is-holding = k .1; is-order = k .2; fault = by-sets (refused-split (setsKnown n d l) step-check 12 i (x .2)) }
 
-  rejecting : Rejected j order p i → checking j order p ≡ refused 12 i
+  rejecting : Rejected j held order p i → checking j held order p ≡ refused 12 i
   rejecting r = go (r .fault)
     where
-      known : checkingKnown j order ≡ done tt
-      known = exact-known j order (r .is-job) (r .is-order)
+      known : checkingKnown j held order ≡ done tt
+      known = exact-known j held order (r .is-job) (r .is-holding) (r .is-order)
 
-      go : First (EntryFault n d l) i ⊎ ((d ≡ n) × (l ≡ n) × StepFault) → checking j order p ≡ refused 12 i
-      go (inl f) = check-sets j order p known 12 i (sets-exact n d l i .1 f)
+      go : First (EntryFault n d l) i ⊎ ((d ≡ n) × (l ≡ n) × StepFault) → checking j held order p ≡ refused 12 i
+      go (inl f) = check-sets j held order p known 12 i (sets-exact n d l i .1 f)
       go (inr (x, y, inl f)) =
           let z : 0 + i ≡ i = omega arith in
-          check-broken j order p known (entries-exact n d l .1 (x, y)) i (fault-exact cap all 0 0 ms i .1 f ∙ ap Breaks z)
+          check-broken j held order p known (entries-exact n d l .1 (x, y)) i (fault-exact cap all 0 held ms i .1 f ∙ ap Breaks z)
       go (inr (x, y, inr (e, ok, o))) =
-          check-other-end j order p known (entries-exact n d l .1 (x, y)) _ (check-exact cap all 0 0 ms .1 ok) o ∙ ap (refused 12) (sym e)
+          check-other-end j held order p known (entries-exact n d l .1 (x, y)) _ (check-exact cap all 0 held ms .1 ok) o ∙ ap (refused 12) (sym e)
 
   -- REFUSAL 12 IS EXACT
-  pub rejected-exact : checking j order p ≡ refused 12 i ↔ Rejected j order p i
+  pub rejected-exact : checking j held order p ≡ refused 12 i ↔ Rejected j held order p i
   rejected-exact = (rejected, rejecting)

@@ -4,6 +4,8 @@
 --     FirstFault  refusal 12 names the first step that breaks a rule
 --     Demand3     DEMAND 3, the proof
 --     WithoutTests  a job without tests
+--     Rest        a list that is stopped halfway
+--     Saved       what is held costs no load, and saves at most one for each of its curves
 --     OtherPlans  plans that are not ours and pass the check, with plans that do not
 --     Turns       one turn of a loop
 --     Sequence    planning and checking, examination by examination
@@ -13,6 +15,8 @@ pub mod EntryFault
 pub mod FirstFault
 pub mod Demand3
 pub mod WithoutTests
+pub mod Rest
+pub mod Saved
 pub mod OtherPlans
 pub mod Turns
 pub mod Sequence

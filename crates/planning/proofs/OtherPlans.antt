@@ -9,14 +9,14 @@ use Rattle.job.specs.Refusal.{Outcome, done, refused, _>>=_, _>>_, mapped, dema
 use Rattle.lists.specs.Choice.{keep, choose, bestOf}
 use Rattle.job.specs.Words.{Job, jobOf}
 use Rattle.job.specs.Handed.{between, listed, each, placesKnown, curvesKnown, testsKnown, methodKnown, wantsKnown, wantsFit, numbersKnown}
-use Rattle.job.specs.Handed.{bookedBelow, bookedKnown, jobKnownBy}
+use Rattle.job.specs.Handed.{bookedBelow, bookedKnown, heldKnown, jobKnownBy}
 use Rattle.job.specs.Order.{orderFrom}
 use Rattle.job.specs.Calls.{checkingKnown, planningKnown}
 use Rattle.drive.specs.Steps.{heldAfter, dropsOf, loadsOf, moves, curveCount}
 use Rattle.drive.specs.Check.{orBreaks, keeps, checkFrom}
 use Rattle.drive.specs.Uses.{later, useBy, nextUse, further}
 use Rattle.drive.specs.Plan.{chosenBy, furthest, andThen, victims, dropsFor, planFrom}
-use Rattle.planning.specs.Plan.{planOf, heldAtEnd, setLists, inOrder}
+use Rattle.planning.specs.Plan.{planOf, setLists, inOrder}
 use Rattle.planning.specs.Planning.{ourPlan, planning, planAnswer, setsKnown, checkedOutcome, endKnown, checking}
 
 abbrev job : Job
@@ -26,15 +26,15 @@ abbrev asListed : List ℕ
 asListed = 0 ∷ 1 ∷ 2 ∷ []
 
 abbrev checked : List ℕ → List ℕ → ℕ → Outcome ℕ
-checked drops loads end = checking job asListed (planOf drops loads end)
+checked drops loads end = checking job 0 asListed (planOf drops loads end)
 
 pub record OtherPlans : Type 0 where
   -- our plan: two loads
-  our-drops : dropsOf (ourPlan job asListed) ≡ 0 ∷ 0 ∷ 0 ∷ []
-  our-loads : loadsOf (ourPlan job asListed) ≡ 1 ∷ 2 ∷ 0 ∷ []
-  our-end : heldAtEnd (ourPlan job asListed) ≡ 3
+  our-drops : dropsOf (ourPlan job 0 asListed) ≡ 0 ∷ 0 ∷ 0 ∷ []
+  our-loads : loadsOf (ourPlan job 0 asListed) ≡ 1 ∷ 2 ∷ 0 ∷ []
+  our-end : heldAfter 0 (ourPlan job 0 asListed) ≡ 3
   ours-passes : checked (0 ∷ 0 ∷ 0 ∷ []) (1 ∷ 2 ∷ 0 ∷ []) 3 ≡ done 2
-  ours-counts : planAnswer job asListed (setLists (0 ∷ 0 ∷ 0 ∷ []) (0 ∷ 0 ∷ 0 ∷ [])) ≡ done (record { count = 2; end = 3 })
+  ours-counts : planAnswer job 0 asListed (setLists (0 ∷ 0 ∷ 0 ∷ []) (0 ∷ 0 ∷ 0 ∷ [])) ≡ done (record { count = 2; end = 3 })
   -- curve 1 is loaded early, in step 0
   early : checked (0 ∷ 0 ∷ 0 ∷ []) (3 ∷ 0 ∷ 0 ∷ []) 3 ≡ done 2
   -- curve 2, which no test wants, is loaded in step 0 and dropped in step 1
@@ -62,8 +62,8 @@ pub record OtherPlans : Type 0 where
 
 pub other-plans : OtherPlans
 unfolding ones inside _>>=_ _>>_ mapped demand room keep choose bestOf between listed each placesKnown curvesKnown testsKnown methodKnown wantsKnown
-    wantsFit numbersKnown bookedBelow bookedKnown jobKnownBy orderFrom checkingKnown planningKnown inOrder heldAfter moves curveCount orBreaks keeps checkFrom
-    later useBy nextUse further chosenBy furthest andThen victims dropsFor planFrom ourPlan planning planAnswer setsKnown checkedOutcome endKnown checking
+    wantsFit numbersKnown bookedBelow bookedKnown heldKnown jobKnownBy orderFrom checkingKnown planningKnown inOrder heldAfter moves curveCount orBreaks keeps
+    checkFrom later useBy nextUse further chosenBy furthest andThen victims dropsFor planFrom ourPlan planning planAnswer setsKnown checkedOutcome endKnown checking
 other-plans =
     record {
       our-drops = refl;

@@ -18,13 +18,10 @@ pub record Plan : Type 0 where
 abbrev pub planOf : List ℕ → List ℕ → ℕ → Plan
 planOf drops loads end = record { drops = drops; loads = loads; end = end }
 
--- what is held at the end: what the steps leave in the drive, which is empty before the first
-abbrev pub heldAtEnd : List Sets → ℕ
-heldAtEnd ss = heldAfter 0 ss
-
--- steps as a plan that is handed over; wish 1: "After the last test the plan now gets an end step that drops all that is held"
-abbrev pub handed : List Sets → Plan
-handed ss = planOf (dropsOf ss) (loadsOf ss) (heldAtEnd ss)
+-- steps as a plan that is handed over, from what is held before the first; wish 1: "After the last test the plan now gets an end step that drops all that is
+-- held"
+abbrev pub handed : ℕ → List Sets → Plan
+handed held ss = planOf (dropsOf ss) (loadsOf ss) (heldAfter held ss)
 
 -- the lists of drops and loads that are lent to a call
 pub record SetLists : Type 0 where
@@ -52,9 +49,9 @@ pub record CountEnd : Type 0 where
   pub count : ℕ
   pub end : ℕ
 
--- the load count and the end set of some steps
-abbrev pub countEnd : List Sets → CountEnd
-countEnd ss = record { count = loadCount ss; end = heldAtEnd ss }
+-- the load count and the end set of some steps, from what is held before the first
+abbrev pub countEnd : ℕ → List Sets → CountEnd
+countEnd held ss = record { count = loadCount ss; end = heldAfter held ss }
 
 -- "Any answer that is an enum has a definition that gives this paper's number and values": of a function that answers a count and an end set
 unfoldable pub planOutcome : PlanCounted → Outcome CountEnd

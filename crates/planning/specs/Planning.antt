@@ -1,4 +1,6 @@
--- Planning and checking: "planning 8, 7, 9"; "checking 8, 12", after 10 and 13; with the end set of 02, wish 1.
+-- Planning and checking: "planning 8, 7, 9"; "checking 8, 12", after 10, 13 and 14; with the end set of 02, wish 1. `held` is what wish 6 calls "the curves now
+-- held": "The new rest is planned from the curves now held, without unloading"; "Plans from an empty drive are the case of nothing held", 0; "The plan check
+-- takes the holding as well."
 use mathlib.Core.Bool.{_&&_}
 use mathlib.Core.List.{List}
 use Prim.Native.Nat.{ℕ, min}
@@ -11,30 +13,30 @@ use Rattle.job.specs.Calls.{checkingKnown, planningKnown}
 use Rattle.drive.specs.declared.Sets.{Sets}
 use Rattle.drive.specs.declared.Checked.{Checked}
 use Rattle.drive.specs.declared.Checked.the-variants.{Ends, Breaks}
-use Rattle.drive.specs.Steps.{Move, setsOf, moves, curveCount}
+use Rattle.drive.specs.Steps.{Move, setsOf, heldAfter, moves, curveCount}
 use Rattle.drive.specs.Check.{checkFrom}
 use Rattle.drive.specs.Plan.{furthest, planFrom}
-use Rattle.planning.specs.Plan.{Plan, heldAtEnd, handed, SetLists, entries, leavesPlan, CountEnd, countEnd, inOrder}
+use Rattle.planning.specs.Plan.{Plan, handed, SetLists, entries, leavesPlan, CountEnd, countEnd, inOrder}
 
--- "Our plan": "The drive is empty before step 0."
-unfoldable pub ourPlan : Job → List ℕ → List Sets
-ourPlan j order = planFrom (furthest (j .rig .curves)) (capacity (j .rig)) 0 (inOrder (j .wants) order)
+-- "Our plan", from what is held; "If more is held than now fits, the first step drops down by the usual rule"
+unfoldable pub ourPlan : Job → ℕ → List ℕ → List Sets
+ourPlan j held order = planFrom (furthest (j .rig .curves)) (capacity (j .rig)) held (inOrder (j .wants) order)
 
 -- into lists of which the shortest has so many entries (the last examination is bound, `_ ←`, so that no plan is computed under a refusal)
-unfoldable pub planning : Job → List ℕ → ℕ → Outcome (List Sets)
-planning j order lent = do
-  planningKnown j order
+unfoldable pub planning : Job → ℕ → List ℕ → ℕ → Outcome (List Sets)
+planning j held order lent = do
+  planningKnown j held order
   _ ← room lent (length (j .wants))
-  done (ourPlan j order)
+  done (ourPlan j held order)
 
-module _ (j : Job) (order : List ℕ) (lent : SetLists) where
+module _ (j : Job) (held : ℕ) (order : List ℕ) (lent : SetLists) where
   -- what planning answers: "the load count .. beside its plan", and wish 1: the end set "beside the load count"
   unfoldable pub planAnswer : Outcome CountEnd
-  planAnswer = mapped countEnd (planning j order (entries lent))
+  planAnswer = mapped (countEnd held) (planning j held order (entries lent))
 
   -- what the lent drops and loads hold afterwards
   unfoldable pub planLists : SetLists
-  planLists = leavesPlan handed (planning j order (entries lent)) lent
+  planLists = leavesPlan (handed held) (planning j held order (entries lent)) lent
 
 -- 12: "before that, first missing or surplus position of the drops or loads, the smaller". A list with an entry for each of the n steps has no such position;
 -- one that is shorter lacks the entry at its length, and one that is longer has the entry n too many.
@@ -55,14 +57,14 @@ abbrev pub planSets : Job → List ℕ → Plan → List Sets
 planSets j order p = setsOf (planMoves j order p)
 
 -- 12, wish 1: "The check fails a plan whose end set is not what is held, with the number of tests as its step."
-unfoldable pub endKnown : Job → List ℕ → Plan → Outcome (Unit {0})
-endKnown j order p = demand (eqb (p .end) (heldAtEnd (planSets j order p))) 12 (length (j .wants))
+unfoldable pub endKnown : Job → ℕ → List ℕ → Plan → Outcome (Unit {0})
+endKnown j held order p = demand (eqb (p .end) (heldAfter held (planSets j order p))) 12 (length (j .wants))
 
 -- the plan check: it answers the plan's load count
-unfoldable pub checking : Job → List ℕ → Plan → Outcome ℕ
-checking j order p = do
-  checkingKnown j order
+unfoldable pub checking : Job → ℕ → List ℕ → Plan → Outcome ℕ
+checking j held order p = do
+  checkingKnown j held order
   setsKnown (length (j .wants)) (length (p .drops)) (length (p .loads))
-  checkedOutcome (checkFrom (capacity (j .rig)) (allCurves (j .rig .curves)) 0 0 (planMoves j order p))
-  endKnown j order p
+  checkedOutcome (checkFrom (capacity (j .rig)) (allCurves (j .rig .curves)) 0 held (planMoves j order p))
+  endKnown j held order p
   done (curveCount (p .loads))

@@ -67,19 +67,20 @@ fn count_curves(sets: &[u64]) -> usize
     count
 }
 
-// Whether a plan from anywhere keeps the rules: its load count, or the first fault. "checking 8, 12", after 10 and 13; 02, wish 1: "The check fails a plan
-// whose end set is not what is held, with the number of tests as its step."
+// Whether a plan from anywhere keeps the rules, with so much held before its first step: its load count, or the first fault. "checking 8, 12", after 10, 13 and
+// 14; 02, wish 1: "The check fails a plan whose end set is not what is held, with the number of tests as its step."
 pub fn check_plan(
     rig: Rig,
     wants: &[u64],
+    held: u64,
     order: &[u16],
     drops: &[u64],
     loads: &[u64],
     end: u64,
 ) -> Counted
-    ensures { λ r. ⌜ countOutcome r ≡ checking (jobOf rig (was wants)) (was order) (planOf (was drops) (was loads) end) ⌝ }
+    ensures { λ r. ⌜ countOutcome r ≡ checking (jobOf rig (was wants)) held (was order) (planOf (was drops) (was loads) end) ⌝ }
 {
-    if let Examined::Refused(r) = job::examine_checking(rig, wants, order) {
+    if let Examined::Refused(r) = job::examine_checking(rig, wants, held, order) {
         return Counted::Refused(r);
     }
     let tests = wants.len();
@@ -90,11 +91,10 @@ pub fn check_plan(
     in_order(wants, order, &mut steps);
     let all = bitset::below(rig.curves);
     let capacity = job::capacity(rig);
-    // "The drive is empty before step 0."
-    match drive::check_steps(capacity, all, 0, &steps[..tests], drops, loads) {
+    match drive::check_steps(capacity, all, held, &steps[..tests], drops, loads) {
         Checked::Breaks(i) => Counted::Refused(Refusal::PlanRejected(i)),
-        Checked::Ends(held) => {
-            if end != held {
+        Checked::Ends(left) => {
+            if end != left {
                 return Counted::Refused(Refusal::PlanRejected(tests));
             }
             Counted::Count(count_curves(loads))
@@ -102,17 +102,18 @@ pub fn check_plan(
     }
 }
 
-// Our plan for wants and an order that were examined before, into the first entries of the drops and loads lent; answers the load count and the end set. 10 for
-// more than 256 tests, and 9.
+// Our plan for wants, a holding and an order that were examined before, into the first entries of the drops and loads lent; answers the load count and the end
+// set. 10 for more than 256 tests, and 9.
 pub fn plan_tests(
     capacity: usize,
     wants: &[u64],
+    held: u64,
     order: &[u16],
     drops: &mut [u64],
     loads: &mut [u64],
 ) -> PlanCounted
-    ensures answer { λ r. ⌜ planOutcome r ≡ testsAnswer capacity (was wants) (was order) (setLists (was drops) (was loads)) ⌝ }
-    ensures lists { λ _. ⌜ setLists (after drops) (after loads) ≡ testsLists capacity (was wants) (was order) (setLists (was drops) (was loads)) ⌝ }
+    ensures answer { λ r. ⌜ planOutcome r ≡ testsAnswer capacity (was wants) held (was order) (setLists (was drops) (was loads)) ⌝ }
+    ensures lists { λ _. ⌜ setLists (after drops) (after loads) ≡ testsLists capacity (was wants) held (was order) (setLists (was drops) (was loads)) ⌝ }
 {
     let tests = order.len();
     if job::MOST_TESTS < tests {
@@ -126,26 +127,27 @@ pub fn plan_tests(
     }
     let mut steps = [0u64; job::MOST_TESTS];
     in_order(wants, order, &mut steps);
-    // "The drive is empty before step 0." Wish 1: the end step "drops all that is held".
-    let held = drive::plan_steps(capacity, 0, &steps[..tests], drops, loads);
-    PlanCounted::Count(count_curves(&loads[..tests]), held)
+    // 02, wish 1: the end step "drops all that is held".
+    let end = drive::plan_steps(capacity, held, &steps[..tests], drops, loads);
+    PlanCounted::Count(count_curves(&loads[..tests]), end)
 }
 
-// Our plan for one job and one order of its tests. "planning 8, 7, 9", after 10 and 13.
+// Our plan for one job and one order of its tests, from the curves now held. "planning 8, 7, 9", after 10, 13 and 14.
 pub fn plan(
     rig: Rig,
     wants: &[u64],
+    held: u64,
     order: &[u16],
     drops: &mut [u64],
     loads: &mut [u64],
 ) -> PlanCounted
-    ensures answer { λ r. ⌜ planOutcome r ≡ planAnswer (jobOf rig (was wants)) (was order) (setLists (was drops) (was loads)) ⌝ }
-    ensures lists { λ _. ⌜ setLists (after drops) (after loads) ≡ planLists (jobOf rig (was wants)) (was order) (setLists (was drops) (was loads)) ⌝ }
-    ensures demand3 { λ r. ⌜ Demand3 (jobOf rig (was wants)) (was order) (planOutcome r) (setLists (after drops) (after loads)) ⌝ }
+    ensures answer { λ r. ⌜ planOutcome r ≡ planAnswer (jobOf rig (was wants)) held (was order) (setLists (was drops) (was loads)) ⌝ }
+    ensures lists { λ _. ⌜ setLists (after drops) (after loads) ≡ planLists (jobOf rig (was wants)) held (was order) (setLists (was drops) (was loads)) ⌝ }
+    ensures demand3 { λ r. ⌜ Demand3 (jobOf rig (was wants)) held (was order) (planOutcome r) (setLists (after drops) (after loads)) ⌝ }
 {
-    if let Examined::Refused(r) = job::examine_planning(rig, wants, order) {
+    if let Examined::Refused(r) = job::examine_planning(rig, wants, held, order) {
         return PlanCounted::Refused(r);
     }
     let capacity = job::capacity(rig);
-    plan_tests(capacity, wants, order, drops, loads)
+    plan_tests(capacity, wants, held, order, drops, loads)
 }

@@ -4,12 +4,14 @@ use mathlib.Core.Logic.{_⊎_, inl, inr}
 use mathlib.Core.List.{List, [], _∷_, _++_}
 use Prim.Native.Nat.{ℕ, _+_, _-_, _≤_, _<_, min}
 use native.Mathlib.Omega.{arith}
+use lib.Pow.{pow-pos}
 use lib.ListN.{length, length-append, length-map}
-use Rattle.job.specs.Refusal.{Outcome, done, refused, _>>=_}
-use Rattle.job.specs.Handed.{jobKnown, countsKnown, allCurves}
+use Rattle.job.specs.Refusal.{Outcome, done, refused, _>>=_, _>>_}
+use Rattle.job.specs.Handed.{jobKnown, heldKnown, countsKnown, allCurves}
 use Rattle.job.proofs.Laws.{done-both, done-room, both-done, mapped-done}
 use Rattle.job.proofs.Refuses.{Refuses, refuses, refuses-demand, refuses-both, refuses-bind, refuses-mapped}
 use Rattle.job.proofs.JobExact.{job-exact, job-counts}
+use Rattle.job.proofs.HeldExact.{held-exact}
 use Rattle.job.specs.Words.{capacity}
 use Rattle.job.specs.Order.{orderFrom, orderKnown}
 use Rattle.job.specs.Calls.{checkingKnown}
@@ -97,13 +99,15 @@ module _ (j : Request) (r : ReadJob j) where
           rw (refuses (λ (k i : ℕ). k ≡ 11) (readPlanBytes c t plan) k i (plan-eleven c t plan) e)
           (at-offset i (omega (arith, plan-figure c t plan k i e, r .tests, r .is-job .tests-bound)))
 
-  check-small : (order : List ℕ) (p : Plan) → length order ≤ 256 → Refuses OfPlan (checking (jobIn j) order p)
+  check-small : (order : List ℕ) (p : Plan) → length order ≤ 256 → Refuses OfPlan (checking (jobIn j) 0 order p)
   unfolding checking checkingKnown setsKnown endKnown
   check-small order p m =
       let n = length (j .wants) in
       let l : n ≤ 256 = r .is-job .tests-bound in
-      refuses-both OfPlan _ _ (rw (done-both (jobKnown (jobIn j)) (orderKnown n order) (job-exact (jobIn j) .1 (r .is-job)))
-      (order-small n [] order (omega arith)))
+      refuses-both OfPlan _ _ (rw (
+        done-both (jobKnown (jobIn j)) (_>>_ (heldKnown c 0) (orderKnown n order)) (job-exact (jobIn j) .1 (r .is-job)),
+        done-both (heldKnown c 0) (orderKnown n order) (held-exact c 0 .1 (pow-pos c)),
+      ) (order-small n [] order (omega arith)))
       (refuses-both OfPlan _ _ (refuses-demand OfPlan _ 12 (min (min (length (p .drops)) (length (p .loads))) n) (at-step _ (omega arith)))
       (refuses-both OfPlan _ _ (steps-small (capacity (j .head .rig)) (allCurves c) (planMoves (jobIn j) order p)
       (omega (arith, length-moves (inOrder (j .wants) order) (p .drops) (p .loads), length-inOrder (j .wants) order)))
@@ -114,10 +118,10 @@ module _ (j : Request) (r : ReadJob j) where
   audit-small plan =
       refuses-bind OfPlan (planSteps c t plan) _ (plan-small plan)
       (λ ss e.
-      refuses-bind OfPlan (checking (jobIn j) (testsOf ss) (planIn ss)) _
+      refuses-bind OfPlan (checking (jobIn j) 0 (testsOf ss) (planIn ss)) _
       (check-small (testsOf ss) (planIn ss) (omega
       (arith, steps-count c t plan ss e, length-map (ss .steps) (λ s. s .step .test), r .tests, r .is-job .tests-bound)))
-      (λ m f. rw (passed-planned (jobIn j) (testsOf ss) (planIn ss) m f t (omega (arith, r .tests))) tt))
+      (λ m f. rw (passed-planned (jobIn j) 0 (testsOf ss) (planIn ss) m f t (omega (arith, r .tests))) tt))
 
 -- A REFUSED JOB has a number from 1 to 4, 6 or 13 ..
 pub audit-job-refuses : (job plan : List ℕ) → Refuses OfJob (audit job plan)
@@ -191,7 +195,7 @@ audit-longest job plan all = go (audit job plan) refl
         counts-short (a .loads) (a .fewest)
         (omega (
           arith,
-          check-few (jobIn (s .request)) (testsOf (s .contents)) (planIn (s .contents)) (a .loads) (s .passes),
+          check-few (jobIn (s .request)) 0 (testsOf (s .contents)) (planIn (s .contents)) (a .loads) (s .passes),
           read-exact job (s .request) all (s .job-read) .is-job .tests-bound,
         ))
         (audit-fewer job plan a all e)

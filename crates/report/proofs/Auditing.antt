@@ -39,17 +39,17 @@ mapped-bind f (refused k i) = refl
 -- ---- the fewest loads
 
 module _ (j : Job) (order : List ℕ) (lent : SetLists) (k n : ℕ) (fits : length (j .wants) ≤ n) (long : length (j .wants) ≤ entries lent)
-    (x : PlanCounted) (e : planOutcome x ≡ planAnswer j order lent) where
+    (x : PlanCounted) (e : planOutcome x ≡ planAnswer j 0 order lent) where
   abbrev beside : Outcome Audit
-  beside = mapped (λ q. record { loads = k; fewest = loadCount q }) (planning j order n)
+  beside = mapped (λ q. record { loads = k; fewest = loadCount q }) (planning j 0 order n)
 
   counts : mapped (λ m. record { loads = k; fewest = m .count }) (planOutcome x) ≡ beside
   unfolding planAnswer
   counts =
       rw (
         e,
-        mapped-twice {C = Audit} countEnd (λ m. record { loads = k; fewest = m .count }) (planning j order (entries lent)),
-        planning-room j order (entries lent) n long fits,
+        mapped-twice {C = Audit} (countEnd 0) (λ m. record { loads = k; fewest = m .count }) (planning j 0 order (entries lent)),
+        planning-room j 0 order (entries lent) n long fits,
       ) refl
 
   pub fewest-refused : (r : Refusal) → x ≡ PlanCounted.Refused r → auditedOutcome (Audited.PlanRefused r) ≡ done beside
@@ -62,15 +62,15 @@ module _ (j : Job) (order : List ℕ) (lent : SetLists) (k n : ℕ) (fits : leng
 
 -- ---- the plan check
 
-module _ (q : Request) (order : List ℕ) (p : Plan) (x : Counted) (e : countOutcome x ≡ checking (jobIn q) order p) where
+module _ (q : Request) (order : List ℕ) (p : Plan) (x : Counted) (e : countOutcome x ≡ checking (jobIn q) 0 order p) where
   pub steps-refused : (r : Refusal) → x ≡ Counted.Refused r → auditedOutcome (Audited.PlanRefused r) ≡ done (auditSteps q order p)
   unfolding auditedOutcome auditSteps countOutcome _>>=_
   steps-refused r f = rw (← e, f) refl
 
   pub steps-counted : (n : ℕ) → x ≡ Counted.Count n
-      → mapped (λ s. record { loads = n; fewest = loadCount s }) (planning (jobIn q) order (q .head .tests)) ≡ auditSteps q order p
+      → mapped (λ s. record { loads = n; fewest = loadCount s }) (planning (jobIn q) 0 order (q .head .tests)) ≡ auditSteps q order p
   unfolding auditSteps countOutcome _>>=_
-  steps-counted n f = rw (← e, f) (mapped-bind (λ s. record { loads = n; fewest = loadCount s }) (planning (jobIn q) order (q .head .tests)))
+  steps-counted n f = rw (← e, f) (mapped-bind (λ s. record { loads = n; fewest = loadCount s }) (planning (jobIn q) 0 order (q .head .tests)))
 
 -- ---- the plan's bytes
 

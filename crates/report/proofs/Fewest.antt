@@ -48,30 +48,32 @@ listed-small p wants (o ∷ os) s t h = go (eqb o t) refl h (listed-small p want
     go true e g r = rw (eqb-true o t e) at (s .0)
     go false e g r = r (omega arith)
 
-module _ (j : Job) (order : List ℕ) (p : Plan) (m : ℕ) (e : checking j order p ≡ done m) where
+module _ (j : Job) (held : ℕ) (order : List ℕ) (p : Plan) (m : ℕ) (e : checking j held order p ≡ done m) where
   -- EVERY TEST OF A PLAN THAT PASSES FITS
   pub passed-fits : wantsFit (capacity (j .rig)) (j .wants) ≡ done tt
   unfolding wantsFit
   passed-fits =
-      let ok = passed j order p m e in
+      let ok = passed j held order p m e in
       true-each (λ w. leb (size w) (capacity (j .rig))) 7 0 (j .wants)
       (λ t l. le-leb (size (getD (j .wants) t 0)) (capacity (j .rig))
       (listed-small (capacity (j .rig)) (j .wants) order (rw (wants-of (inOrder (j .wants) order) (p .drops) (p .loads)) at (steps-small (ok .steps))) t
       (omega (arith, ok .is-order .once t l))))
 
-  passed-known : planningKnown j order ≡ done tt
-  passed-known = let ok = passed j order p m e in planning-known j order (exact-known j order (ok .is-job) (ok .is-order)) ∙ passed-fits
+  passed-known : planningKnown j held order ≡ done tt
+  passed-known =
+      let ok = passed j held order p m e in
+      planning-known j held order (exact-known j held order (ok .is-job) (ok .is-holding) (ok .is-order)) ∙ passed-fits
 
   -- so planning the same order is done
-  pub passed-planned : (n : ℕ) → length (j .wants) ≤ n → planning j order n ≡ done (ourPlan j order)
-  passed-planned n l = plan-done j order n passed-known l
+  pub passed-planned : (n : ℕ) → length (j .wants) ≤ n → planning j held order n ≡ done (ourPlan j held order)
+  passed-planned n l = plan-done j held order n passed-known l
 
   -- THE FEWEST: our plan for the order passes, and no plan that passes has fewer loads
-  pub ours-passes : checking j order (handed (ourPlan j order)) ≡ done (loadCount (ourPlan j order))
-  ours-passes = our-check j order passed-known
+  pub ours-passes : checking j held order (handed held (ourPlan j held order)) ≡ done (loadCount (ourPlan j held order))
+  ours-passes = our-check j held order passed-known
 
-pub ours-least : (j : Job) (order : List ℕ) (p : Plan) (m : ℕ) → checking j order p ≡ done m → loadCount (ourPlan j order) ≤ m
-ours-least j order p m e = omega (arith, our-least j order p m e, check-count j order p m e)
+pub ours-least : (j : Job) (held : ℕ) (order : List ℕ) (p : Plan) (m : ℕ) → checking j held order p ≡ done m → loadCount (ourPlan j held order) ≤ m
+ours-least j held order p m e = omega (arith, our-least j held order p m e, check-count j held order p m e)
 
 -- ---- what an audit says that is done
 
@@ -81,24 +83,24 @@ pub record Says (job plan : List ℕ) (a : Audit) : Type 0 where
   pub job-read : readBytes job ≡ done request
   pub plan-read : planSteps (request .head .rig .curves) (request .head .tests) plan ≡ done contents
   -- the plan passes, with the loads answered
-  pub passes : checking (jobIn request) (testsOf contents) (planIn contents) ≡ done (a .loads)
+  pub passes : checking (jobIn request) 0 (testsOf contents) (planIn contents) ≡ done (a .loads)
   -- a plan for the same job and order passes with the fewest loads answered
-  pub reached : (other : Plan) × (checking (jobIn request) (testsOf contents) other ≡ done (a .fewest))
+  pub reached : (other : Plan) × (checking (jobIn request) 0 (testsOf contents) other ≡ done (a .fewest))
   -- and none that passes has fewer
-  pub least : (other : Plan) (m : ℕ) → checking (jobIn request) (testsOf contents) other ≡ done m → a .fewest ≤ m
+  pub least : (other : Plan) (m : ℕ) → checking (jobIn request) 0 (testsOf contents) other ≡ done m → a .fewest ≤ m
 
 -- a job that was read, and steps of which the check passes
 said : (q : Request) (order : List ℕ) (p : Plan) (a : Audit) → length (q .wants) ≤ q .head .tests → auditSteps q order p ≡ done a
-    → (checking (jobIn q) order p ≡ done (a .loads)) × (a .fewest ≡ loadCount (ourPlan (jobIn q) order))
+    → (checking (jobIn q) 0 order p ≡ done (a .loads)) × (a .fewest ≡ loadCount (ourPlan (jobIn q) 0 order))
 unfolding auditSteps _>>=_
-said q order p a l e = go (checking (jobIn q) order p) refl e
+said q order p a l e = go (checking (jobIn q) 0 order p) refl e
   where
-    go : (o : Outcome ℕ) → checking (jobIn q) order p ≡ o
-        → _>>=_ o (λ count. _>>=_ (planning (jobIn q) order (q .head .tests)) (λ sets. done (record { loads = count; fewest = loadCount sets }))) ≡ done a
-        → (checking (jobIn q) order p ≡ done (a .loads)) × (a .fewest ≡ loadCount (ourPlan (jobIn q) order))
+    go : (o : Outcome ℕ) → checking (jobIn q) 0 order p ≡ o
+        → _>>=_ o (λ count. _>>=_ (planning (jobIn q) 0 order (q .head .tests)) (λ sets. done (record { loads = count; fewest = loadCount sets }))) ≡ done a
+        → (checking (jobIn q) 0 order p ≡ done (a .loads)) × (a .fewest ≡ loadCount (ourPlan (jobIn q) 0 order))
     go (done m) h f =
-        let g : done (record { loads = m; fewest = loadCount (ourPlan (jobIn q) order) }) ≡ done a =
-        rw (passed-planned (jobIn q) order p m h (q .head .tests) l) at f in
+        let g : done (record { loads = m; fewest = loadCount (ourPlan (jobIn q) 0 order) }) ≡ done a =
+        rw (passed-planned (jobIn q) 0 order p m h (q .head .tests) l) at f in
         let same = done-same g in
         (h ∙ ap (λ (x : Audit). done (x .loads)) same, sym (ap (λ (x : Audit). x .fewest) same))
     go (refused k i) h f = absurd (refused≢done f)
@@ -117,8 +119,11 @@ audit-says job plan a all e =
       job-read = r .1;
       plan-read = s .1;
       passes = t .0;
-      reached = (handed (ourPlan (jobIn q) (testsOf (s .0))), ours-passes (jobIn q) (testsOf (s .0)) (planIn (s .0)) (a .loads) (t .0) ∙ ap done (sym (t .1)));
-      least = λ other m h. omega (arith, ours-least (jobIn q) (testsOf (s .0)) other m h, t .1);
+      reached = (
+        handed 0 (ourPlan (jobIn q) 0 (testsOf (s .0))),
+        ours-passes (jobIn q) 0 (testsOf (s .0)) (planIn (s .0)) (a .loads) (t .0) ∙ ap done (sym (t .1)),
+      );
+      least = λ other m h. omega (arith, ours-least (jobIn q) 0 (testsOf (s .0)) other m h, t .1);
     }
 
 pub audit-fewer : (job plan : List ℕ) (a : Audit) → Bytes job → audit job plan ≡ done (done a) → a .fewest ≤ a .loads

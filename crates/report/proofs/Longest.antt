@@ -61,18 +61,18 @@ bound h order drops loads end t p m n o c =
 
 -- of a job that was read, all of whose tests fit
 planned-bound : (q : Request) → ReadJob q → wantsFit (capacity (q .head .rig)) (q .wants) ≡ done tt
-    → length (planText (shown (q .head) (orderOf q) (handed (setsOf q) .drops) (handed (setsOf q) .loads) (handed (setsOf q) .end))) ≤ 105000
+    → length (planText (shown (q .head) (orderOf q) (handed 0 (setsOf q) .drops) (handed 0 (setsOf q) .loads) (handed 0 (setsOf q) .end))) ≤ 105000
 planned-bound q r f =
     let whole = order-complete (q .head .method) (capacity (q .head .rig)) (q .wants) in
     let long = order-length (length (q .wants)) (orderOf q) whole in
     let tests = r .is-job .tests-bound in
-    bound (q .head) (orderOf q) (handed (setsOf q) .drops) (handed (setsOf q) .loads) (handed (setsOf q) .end)
+    bound (q .head) (orderOf q) (handed 0 (setsOf q) .drops) (handed 0 (setsOf q) .loads) (handed 0 (setsOf q) .end)
     (omega (arith, r .tests))
     (omega (arith, r .is-job .places-bounds .1))
     (omega (arith, r .method))
     (omega arith)
     (λ i l. omega (arith, own-tests (length (q .wants)) (orderOf q) whole i l))
-    (omega (arith, check-few (jobIn q) (orderOf q) (handed (setsOf q)) _ (checked q r f)))
+    (omega (arith, check-few (jobIn q) 0 (orderOf q) (handed 0 (setsOf q)) _ (checked q r f)))
 
 -- the line of a refusal
 refusal-bound : (k i : ℕ) → k < 100 → i < 10000 → length (printed (refused k i)) ≤ 105000
@@ -95,7 +95,7 @@ sheet-longest bs all = go (readBytes bs) refl
     fits : (q : Request) → readBytes bs ≡ done q → (o : Outcome (Unit {0})) → wantsFit (capacity (q .head .rig)) (q .wants) ≡ o
         → length (printed (planJob bs)) ≤ 105000
     fits q r (done tt) f =
-        rw (job-planned bs q all r f) (rw (same-text (record { request = q; order = orderOf q; plan = handed (setsOf q) }))
+        rw (job-planned bs q all r f) (rw (same-text (record { request = q; order = orderOf q; plan = handed 0 (setsOf q) }))
         (planned-bound q (read-exact bs q all r) f))
     fits q r (refused k i) f =
         let is : ReadJob q = read-exact bs q all r in

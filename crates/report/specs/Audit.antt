@@ -16,11 +16,11 @@ pub record Audit : Type 0 where
   pub loads : ℕ
   pub fewest : ℕ
 
--- the steps of a plan for a job: 8, 12, then planning the same order (which refuses nothing then: `Fewest`)
+-- the steps of a plan for a job, from an empty drive: 8, 12, then planning the same order (which refuses nothing then: `Fewest`)
 unfoldable pub auditSteps : Request → List ℕ → Plan → Outcome Audit
 auditSteps q order p = do
-  count ← checking (jobIn q) order p
-  sets ← planning (jobIn q) order (q .head .tests)
+  count ← checking (jobIn q) 0 order p
+  sets ← planning (jobIn q) 0 order (q .head .tests)
   done (record { loads = count; fewest = loadCount sets })
 
 -- a plan's bytes for a job: 11 before that

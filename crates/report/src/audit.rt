@@ -34,17 +34,17 @@ pub enum Audited {
 fn beside_fewest(head: Head, wants: &[u64], order: &[u16], count: usize) -> Audited
     requires { ⌜ (length (now wants) ≡ head .tests) × (head .tests ≤ 256) ⌝ }
     ensures { λ r. ⌜ auditedOutcome r
-        ≡ done (mapped (λ p. record { loads = count; fewest = loadCount p }) (planning (jobOf (head .rig) (was wants)) (was order) (head .tests))) ⌝ }
+        ≡ done (mapped (λ p. record { loads = count; fewest = loadCount p }) (planning (jobOf (head .rig) (was wants)) 0 (was order) (head .tests))) ⌝ }
 {
     let mut drops = [0u64; MOST_TESTS];
     let mut loads = [0u64; MOST_TESTS];
-    match planning::plan(head.rig, wants, order, &mut drops, &mut loads) {
+    match planning::plan(head.rig, wants, 0, order, &mut drops, &mut loads) {
         PlanCounted::Refused(r) => Audited::PlanRefused(r),
         PlanCounted::Count(fewest, _) => Audited::Counts(count, fewest),
     }
 }
 
-// The steps and the end set of a plan: the plan check, then the fewest loads.
+// The steps and the end set of a plan from an empty drive: the plan check, then the fewest loads.
 fn audit_steps(
     head: Head,
     wants: &[u64],
@@ -56,7 +56,7 @@ fn audit_steps(
     requires { ⌜ (length (now wants) ≡ head .tests) × (head .tests ≤ 256) ⌝ }
     ensures { λ r. ⌜ auditedOutcome r ≡ done (auditSteps (record { head = head; wants = was wants }) (was order) (planOf (was drops) (was loads) end)) ⌝ }
 {
-    match planning::check_plan(head.rig, wants, order, drops, loads, end) {
+    match planning::check_plan(head.rig, wants, 0, order, drops, loads, end) {
         Counted::Refused(r) => Audited::PlanRefused(r),
         Counted::Count(count) => beside_fewest(head, wants, order, count),
     }

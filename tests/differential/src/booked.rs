@@ -7,6 +7,7 @@ use crate::generate::{
     one_of, permutation, random_set, spoil_end, spoil_order, spoil_plan, spoil_tests, spoil_wants,
     Case, Job, Size, SomePlan, FUNCTIONS, JOB, PLAN_MADE, SHEET, WILD, WILD_BOOKED, WILD_METHODS,
 };
+use crate::holding;
 use crate::random::Random;
 use crate::reference::{self, less_booked, Answer, Plan, PlannedJob, Refusal};
 
@@ -193,12 +194,16 @@ fn any_order(random: &mut Random, tests: usize) -> Vec<u16> {
     order
 }
 
-/// A job and a plan for it: both sound, or with faults in either.
-fn planned(random: &mut Random) -> (Job, SomePlan) {
+/// A job, a holding and a plan for them: all sound, or with faults. Mostly nothing is held.
+fn planned(random: &mut Random) -> (Job, u64, SomePlan) {
     let sound = job(random);
-    let mut made = fitting_or_not(random, &sound);
+    let held = match random.below(4) {
+        0 => holding::any(random, &sound),
+        _ => 0,
+    };
+    let mut made = fitting_or_not(random, &sound, held);
     if random.chance(1, 3) {
-        return (sound, made);
+        return (sound, held, made);
     }
     let mut spoilt = spoilt_job(random);
     if random.chance(2, 3) {
@@ -210,12 +215,12 @@ fn planned(random: &mut Random) -> (Job, SomePlan) {
         0 => made.order = any_order(random, spoilt.wants.len()),
         1 => {
             spoil_plan(random, &mut made.drops, &mut made.loads, sound.curves);
-            made.end = reference::held_behind(&made.drops, &made.loads);
+            made.end = reference::held_behind(held, &made.drops, &made.loads);
         }
         2 => spoil_end(random, &mut made.end, sound.curves),
         _ => {}
     }
-    (spoilt, made)
+    (spoilt, held, made)
 }
 
 /// A case with booked places. `None`: the function does not take them.
@@ -274,11 +279,16 @@ pub fn case(function: usize, random: &mut Random) -> Option<Case> {
             };
             widen(random, &mut job);
             let tests = job.wants.len();
+            let held = match random.below(3) {
+                0 => holding::any(random, &job),
+                _ => 0,
+            };
             Case::PlanOrder {
                 places: job.places,
                 booked: job.booked,
                 curves: job.curves,
                 wants: job.wants,
+                held,
                 order: match random.below(2) {
                     0 => permutation(random, tests),
                     _ => any_order(random, tests),
@@ -288,12 +298,13 @@ pub fn case(function: usize, random: &mut Random) -> Option<Case> {
             }
         }
         "check_plan" => {
-            let (job, made) = planned(random);
+            let (job, held, made) = planned(random);
             Case::CheckPlan {
                 places: job.places,
                 booked: job.booked,
                 curves: job.curves,
                 wants: job.wants,
+                held,
                 order: made.order,
                 drops: made.drops,
                 loads: made.loads,
@@ -301,7 +312,7 @@ pub fn case(function: usize, random: &mut Random) -> Option<Case> {
             }
         }
         "write_plan" => {
-            let (job, made) = planned(random);
+            let (job, held, made) = planned(random);
             let tests = made.order.len();
             let written = (made.drops.len(), made.loads.len()) == (tests, tests);
             let needed = if written { made.bytes().len() } else { 20 };
@@ -310,6 +321,7 @@ pub fn case(function: usize, random: &mut Random) -> Option<Case> {
                 booked: job.booked,
                 curves: job.curves,
                 wants: job.wants,
+                held,
                 order: made.order,
                 drops: made.drops,
                 loads: made.loads,
@@ -595,29 +607,32 @@ fn refused_unbooked(case: &Case) -> Option<Refusal> {
             places,
             curves,
             wants,
+            held,
             order,
             drops_len,
             loads_len,
             ..
         } => no(reference::plan(
-            *places, 0, *curves, wants, order, *drops_len, *loads_len,
+            *places, 0, *curves, wants, *held, order, *drops_len, *loads_len,
         )),
         Case::CheckPlan {
             places,
             curves,
             wants,
+            held,
             order,
             drops,
             loads,
             end,
             ..
         } => no(reference::check_plan(
-            *places, 0, *curves, wants, order, drops, loads, *end,
+            *places, 0, *curves, wants, *held, order, drops, loads, *end,
         )),
         Case::WritePlan {
             places,
             curves,
             wants,
+            held,
             order,
             drops,
             loads,
@@ -625,7 +640,7 @@ fn refused_unbooked(case: &Case) -> Option<Refusal> {
             out_len,
             ..
         } => no(reference::write_plan(
-            *places, 0, *curves, wants, order, drops, loads, *end, *out_len,
+            *places, 0, *curves, wants, *held, order, drops, loads, *end, *out_len,
         )),
         Case::Examine {
             places,
@@ -646,7 +661,7 @@ fn refused_unbooked(case: &Case) -> Option<Refusal> {
 
 /// The fault of the booked places and another one, the one that is answered first; a name of this
 /// list, of which a function has those that it can refuse.
-pub const TWICE: [&str; 18] = [
+pub const TWICE: [&str; 20] = [
     "10:0+10:260",
     "10:1+10:260",
     "10:2+10:260",
@@ -661,10 +676,12 @@ pub const TWICE: [&str; 18] = [
     "10:260+8",
     "10:260+9",
     "10:260+12",
+    "10:260+14",
     "13+7",
     "13+8",
     "13+9",
     "13+12",
+    "13+14",
 ];
 
 /// Those of them that a function with such refusals can have.
@@ -828,12 +845,13 @@ fn plan_kinds_of(ours: &Plan, raw: &Plan) -> Vec<&'static str> {
     kinds
 }
 
-/// Of our plan for a list and order.
+/// Of our plan for a list, holding and order.
 pub fn plan_kinds(
     places: usize,
     booked: usize,
     curves: usize,
     wants: &[u64],
+    held: u64,
     order: &[u16],
     ours: &Plan,
 ) -> Vec<&'static str> {
@@ -841,7 +859,7 @@ pub fn plan_kinds(
         return vec![];
     }
     let tests = wants.len();
-    let raw = reference::plan(places, 0, curves, wants, order, tests, tests);
+    let raw = reference::plan(places, 0, curves, wants, held, order, tests, tests);
     plan_kinds_of(ours, &raw.expect("more places refuse no more"))
 }
 
@@ -885,8 +903,8 @@ fn raw_planned(planned: &PlannedJob) -> (Vec<u16>, Plan) {
         3 => packages(job.places, job.places, &job.wants),
         _ => order.clone(),
     };
-    let tests = job.tests;
-    let plan = reference::plan(job.places, 0, job.curves, &job.wants, &order, tests, tests);
+    let (curves, tests) = (job.curves, job.tests);
+    let plan = reference::plan(job.places, 0, curves, &job.wants, 0, &order, tests, tests);
     (order, plan.expect("more places refuse no more"))
 }
 
@@ -952,7 +970,7 @@ pub fn audit_kinds(
     let (order, wants) = (steps.order(), &read.wants);
     Some(match audit {
         Ok(audit) => {
-            let fewest = reference::fewest_loads(read.places, 0, wants, &order);
+            let fewest = reference::fewest_loads(read.places, 0, wants, 0, &order);
             assert!(fewest <= audit.fewest, "more places never mean more loads");
             ["same", "fewest"][(fewest < audit.fewest) as usize]
         }
@@ -963,6 +981,7 @@ pub fn audit_kinds(
                 0,
                 read.curves,
                 wants,
+                0,
                 &order,
                 &steps.drops(),
                 &steps.loads(),

@@ -34,10 +34,12 @@ fn curves_in(sets: &[u64]) -> u64 {
     sets.iter().map(|&set| parts::size(set)).sum()
 }
 
-/// What holds of every plan that passes: what was loaded is dropped again, by a step or at the end.
-fn assert_ends_empty(drops: &[u64], loads: &[u64], end: u64) {
-    assert_eq!(curves_in(drops) + curves_in(&[end]), curves_in(loads));
-    assert_eq!(held_behind(drops, loads), end);
+/// What holds of every plan that passes: what was held or loaded is dropped again, by a step or at the
+/// end.
+fn assert_ends_empty(held: u64, drops: &[u64], loads: &[u64], end: u64) {
+    let dropped = curves_in(drops) + curves_in(&[end]);
+    assert_eq!(dropped, curves_in(&[held]) + curves_in(loads));
+    assert_eq!(held_behind(held, drops, loads), end);
 }
 
 #[test]
@@ -49,24 +51,24 @@ fn plan_passes_and_loads_least() {
         let tests = wants.len();
         without_tests += (tests == 0) as usize;
         let order = permutation(&mut random, tests);
-        let made = plan(places, booked, curves, &wants, &order, tests, tests).unwrap();
+        let made = plan(places, booked, curves, &wants, 0, &order, tests, tests).unwrap();
         let (drops, loads, end) = (&made.drops, &made.loads, made.end);
         assert_eq!(
-            check_plan(places, booked, curves, &wants, &order, drops, loads, end),
+            check_plan(places, booked, curves, &wants, 0, &order, drops, loads, end),
             Ok(made.count)
         );
         assert!(passes(
-            places, booked, curves, &wants, &order, drops, loads, end
+            places, booked, curves, &wants, 0, &order, drops, loads, end
         ));
-        assert_ends_empty(drops, loads, end);
+        assert_ends_empty(0, drops, loads, end);
         assert_eq!(
-            least_loads(places, booked, curves, &wants, &order),
+            least_loads(places, booked, curves, &wants, 0, &order),
             Some(made.count),
             "{places} places, {booked} booked, {curves} curves, wants {wants:?}, order {order:?}"
         );
-        assert_eq!(fewest_loads(places, booked, &wants, &order), made.count);
+        assert_eq!(fewest_loads(places, booked, &wants, 0, &order), made.count);
         // With all places at hand some need fewer loads.
-        let unbooked = least_loads(places, 0, curves, &wants, &order).unwrap();
+        let unbooked = least_loads(places, 0, curves, &wants, 0, &order).unwrap();
         assert!(unbooked <= made.count);
         with_fewer += (booked > 0) as usize;
         need_more += (unbooked < made.count) as usize;
@@ -80,19 +82,19 @@ fn plan_passes_and_loads_least() {
 
 /// Both rules' plans pass, told in two ways, and load equally often. Answers whether they differ.
 fn load_alike(places: usize, booked: usize, curves: usize, wants: &[u64], order: &[u16]) -> bool {
-    let (lowest, highest) = ties::both_plans(places, booked, curves, wants, order).unwrap();
+    let (lowest, highest) = ties::both_plans(places, booked, curves, wants, 0, order).unwrap();
     for made in [&lowest, &highest] {
         let (drops, loads, end) = (&made.drops, &made.loads, made.end);
-        let checked = check_plan(places, booked, curves, wants, order, drops, loads, end);
+        let checked = check_plan(places, booked, curves, wants, 0, order, drops, loads, end);
         assert_eq!(checked, Ok(made.count));
         assert!(passes(
-            places, booked, curves, wants, order, drops, loads, end
+            places, booked, curves, wants, 0, order, drops, loads, end
         ));
-        assert_ends_empty(drops, loads, end);
+        assert_ends_empty(0, drops, loads, end);
         assert_eq!(curves_in(loads), made.count);
     }
     assert_eq!(lowest.count, highest.count);
-    assert_eq!(fewest_loads(places, booked, wants, order), highest.count);
+    assert_eq!(fewest_loads(places, booked, wants, 0, order), highest.count);
     assert_parting(wants, order, &lowest, &highest);
     lowest != highest
 }
@@ -100,7 +102,7 @@ fn load_alike(places: usize, booked: usize, curves: usize, wants: &[u64], order:
 /// Where the two plans part, one drops the lowest and the other the highest of the tied curves, and
 /// nothing else differs. Where they do not part, they are the same.
 fn assert_parting(wants: &[u64], order: &[u16], lowest: &Plan, highest: &Plan) {
-    let Some(parting) = ties::parting(wants, order, lowest, highest) else {
+    let Some(parting) = ties::parting(wants, 0, order, lowest, highest) else {
         assert_eq!(lowest, highest);
         return;
     };
@@ -134,8 +136,8 @@ fn both_tie_rules_load_least_in_small_jobs() {
         };
         let order = permutation(&mut random, wants.len());
         differ += load_alike(places, booked, curves, &wants, &order) as usize;
-        let least = least_loads(places, booked, curves, &wants, &order);
-        assert_eq!(least, Some(fewest_loads(places, booked, &wants, &order)));
+        let least = least_loads(places, booked, curves, &wants, 0, &order);
+        assert_eq!(least, Some(fewest_loads(places, booked, &wants, 0, &order)));
         if wants.is_empty() {
             without_tests += 1;
             assert_eq!(least, Some(0));
@@ -182,9 +184,9 @@ fn both_tie_rules_load_alike_in_large_jobs() {
             let order = permutation(&mut random, tests);
             jobs += 1;
             differ += load_alike(places, booked, curves, &wants, &order) as usize;
-            let plans = ties::both_plans(places, booked, curves, &wants, &order);
+            let plans = ties::both_plans(places, booked, curves, &wants, 0, &order);
             let (lowest, highest) = plans.unwrap();
-            if let Some(parting) = ties::parting(&wants, &order, &lowest, &highest) {
+            if let Some(parting) = ties::parting(&wants, 0, &order, &lowest, &highest) {
                 kinds.extend(parting.kinds());
             }
         }
@@ -246,7 +248,7 @@ fn any_choice_among_the_furthest_loads_alike() {
         let job = generate::job(&mut random, size);
         let (places, booked, curves, wants) = (job.places, job.booked, job.curves, &job.wants);
         let order = permutation(&mut random, wants.len());
-        let Some((lowest, highest)) = ties::both_plans(places, booked, curves, wants, &order)
+        let Some((lowest, highest)) = ties::both_plans(places, booked, curves, wants, 0, &order)
         else {
             continue; // a test is too wide
         };
@@ -258,7 +260,7 @@ fn any_choice_among_the_furthest_loads_alike() {
         let any = sorted_plan(capacity, wants, &order, |_| random.word());
         assert_eq!(any.count, highest.count);
         let checked = check_plan(
-            places, booked, curves, wants, &order, &any.drops, &any.loads, any.end,
+            places, booked, curves, wants, 0, &order, &any.drops, &any.loads, any.end,
         );
         assert_eq!(checked, Ok(any.count));
         others += (any != lowest && any != highest) as usize;
@@ -276,11 +278,13 @@ fn the_stays_tell_the_loads_of_our_plan() {
         let tests = job.wants.len();
         let order = permutation(&mut random, tests);
         let (places, booked) = (job.places, job.booked);
-        if let Ok(made) = plan(places, booked, job.curves, &job.wants, &order, tests, tests) {
+        if let Ok(made) = plan(
+            places, booked, job.curves, &job.wants, 0, &order, tests, tests,
+        ) {
             planned += 1;
-            let fewest = fewest_loads(places, booked, &job.wants, &order);
+            let fewest = fewest_loads(places, booked, &job.wants, 0, &order);
             assert_eq!(fewest, made.count);
-            assert_ends_empty(&made.drops, &made.loads, made.end);
+            assert_ends_empty(0, &made.drops, &made.loads, made.end);
         }
     }
     assert!(planned > 2_000);
@@ -300,14 +304,14 @@ fn no_plan_passes_exactly_if_a_test_is_too_wide() {
             .map(|_| random.word() & random.word() & all)
             .collect();
         let order = permutation(&mut random, tests);
-        let least = least_loads(places, booked, curves, &wants, &order);
-        match plan(places, booked, curves, &wants, &order, tests, tests) {
+        let least = least_loads(places, booked, curves, &wants, 0, &order);
+        match plan(places, booked, curves, &wants, 0, &order, tests, tests) {
             Ok(made) => assert_eq!(least, Some(made.count)),
             Err(no) => {
                 refused += 1;
                 assert_eq!(no.number, 7);
                 assert_eq!(least, None);
-                let unbooked = least_loads(places, 0, curves, &wants, &order);
+                let unbooked = least_loads(places, 0, curves, &wants, 0, &order);
                 by_booked += unbooked.is_some() as usize;
             }
         }
@@ -326,6 +330,7 @@ fn the_two_checks_agree() {
             booked,
             curves,
             wants,
+            held,
             order,
             drops,
             loads,
@@ -334,31 +339,36 @@ fn the_two_checks_agree() {
         else {
             unreachable!()
         };
-        let check =
-            |end: u64| check_plan(places, booked, curves, &wants, &order, &drops, &loads, end);
+        let check = |end: u64| {
+            check_plan(
+                places, booked, curves, &wants, held, &order, &drops, &loads, end,
+            )
+        };
         let answer = check(end);
         if matches!(
             answer,
             Err(Refusal {
-                number: 10 | 13,
+                number: 10 | 13 | 14,
                 ..
             })
         ) {
             continue;
         }
-        let pass = passes(places, booked, curves, &wants, &order, &drops, &loads, end);
+        let pass = passes(
+            places, booked, curves, &wants, held, &order, &drops, &loads, end,
+        );
         assert_eq!(answer.is_ok(), pass);
         if pass {
             good += 1;
             assert_eq!(answer, Ok(curves_in(&loads)));
-            assert_ends_empty(&drops, &loads, end);
+            assert_ends_empty(held, &drops, &loads, end);
         } else {
             bad += 1;
         }
         // Of all end sets only what is held passes, and only behind sound steps.
-        let held = held_behind(&drops, &loads);
-        let ended = check(held);
-        if end != held {
+        let left = held_behind(held, &drops, &loads);
+        let ended = check(left);
+        if end != left {
             assert!(!pass);
             if ended.is_ok() {
                 at_the_end += 1;
@@ -389,11 +399,11 @@ fn least_by_the_check(
         let drops: Vec<u64> = (0..tests).map(|step| set(1 + step)).collect();
         let loads: Vec<u64> = (0..tests).map(|step| set(1 + tests + step)).collect();
         let end = set(0);
-        let answer = check_plan(places, booked, curves, wants, order, &drops, &loads, end);
-        let pass = passes(places, booked, curves, wants, order, &drops, &loads, end);
+        let answer = check_plan(places, booked, curves, wants, 0, order, &drops, &loads, end);
+        let pass = passes(places, booked, curves, wants, 0, order, &drops, &loads, end);
         assert_eq!(answer.is_ok(), pass);
         if let Ok(count) = answer {
-            assert_ends_empty(&drops, &loads, end);
+            assert_ends_empty(0, &drops, &loads, end);
             least = Some(least.map_or(count, |known: u64| known.min(count)));
         }
     }
@@ -418,8 +428,11 @@ fn no_small_plan_at_all_beats_ours() {
                 .collect();
             let order = permutation(&mut random, tests);
             let least = least_by_the_check(places, booked, curves, &wants, &order, curves + 1);
-            assert_eq!(least, least_loads(places, booked, curves, &wants, &order));
-            let made = plan(places, booked, curves, &wants, &order, tests, tests).unwrap();
+            assert_eq!(
+                least,
+                least_loads(places, booked, curves, &wants, 0, &order)
+            );
+            let made = plan(places, booked, curves, &wants, 0, &order, tests, tests).unwrap();
             assert_eq!(least, Some(made.count));
         }
     }
@@ -440,7 +453,7 @@ fn another_end_set_is_refused_behind_everything_else() {
         } = generate::some_plan(&mut random, &job);
         let check = |drops: &[u64], loads: &[u64], end: u64| {
             check_plan(
-                job.places, job.booked, job.curves, &job.wants, &order, drops, loads, end,
+                job.places, job.booked, job.curves, &job.wants, 0, &order, drops, loads, end,
             )
         };
         if check(&drops, &loads, end).is_err() {
@@ -457,7 +470,7 @@ fn another_end_set_is_refused_behind_everything_else() {
             for length in [0, needed.saturating_sub(1), needed, 6_000] {
                 let (places, booked, curves) = (job.places, job.booked, job.curves);
                 let answer = write_plan(
-                    places, booked, curves, &job.wants, &order, &drops, &loads, other, length,
+                    places, booked, curves, &job.wants, 0, &order, &drops, &loads, other, length,
                 );
                 assert_eq!(answer, Err(refusal(12, tests)));
             }
@@ -529,7 +542,9 @@ fn plan_bytes_round_trip_and_part() {
         let tests = job.wants.len();
         let order = permutation(&mut random, tests);
         let (places, booked) = (job.places, job.booked);
-        let Ok(made) = plan(places, booked, job.curves, &job.wants, &order, tests, tests) else {
+        let Ok(made) = plan(
+            places, booked, job.curves, &job.wants, 0, &order, tests, tests,
+        ) else {
             continue;
         };
         let bytes = write_plan(
@@ -537,6 +552,7 @@ fn plan_bytes_round_trip_and_part() {
             booked,
             job.curves,
             &job.wants,
+            0,
             &order,
             &made.drops,
             &made.loads,
@@ -785,7 +801,7 @@ fn every_job_without_tests() {
         assert_eq!(written(needed - 1), Err(refusal(9, needed)));
         let order = order_tests(places, booked, curves, method, &[], 0);
         assert_eq!(order, Ok(vec![]));
-        let made = plan(places, booked, curves, &[], &[], 0, 0).unwrap();
+        let made = plan(places, booked, curves, &[], 0, &[], 0, 0).unwrap();
         assert_eq!((made.drops, made.loads), (vec![], vec![]));
         assert_eq!((made.end, made.count), (0, 0));
         assert_eq!(call(&bytes, 0), (0, vec![]));
@@ -895,15 +911,16 @@ fn refused_without_tests(case: &Case) -> Option<Result<(), Refusal>> {
             booked,
             curves,
             wants,
+            held,
             order,
             drops_len,
             loads_len,
         } => {
             let (p, b, c) = (*places, *booked, *curves);
-            let answer = plan(p, b, c, wants, order, *drops_len, *loads_len);
+            let answer = plan(p, b, c, wants, *held, order, *drops_len, *loads_len);
             answer.map(|plan| {
                 assert!(plan.drops.is_empty() && plan.loads.is_empty());
-                assert_eq!((plan.end, plan.count), (0, 0));
+                assert_eq!((plan.end, plan.count), (*held, 0));
             })
         }
         Case::CheckPlan {
@@ -911,13 +928,14 @@ fn refused_without_tests(case: &Case) -> Option<Result<(), Refusal>> {
             booked,
             curves,
             wants,
+            held,
             order,
             drops,
             loads,
             end,
         } => {
             let (p, b, c) = (*places, *booked, *curves);
-            let answer = check_plan(p, b, c, wants, order, drops, loads, *end);
+            let answer = check_plan(p, b, c, wants, *held, order, drops, loads, *end);
             answer.map(|count| assert_eq!(count, 0))
         }
         Case::WritePlan {
@@ -925,6 +943,7 @@ fn refused_without_tests(case: &Case) -> Option<Result<(), Refusal>> {
             booked,
             curves,
             wants,
+            held,
             order,
             drops,
             loads,
@@ -932,8 +951,8 @@ fn refused_without_tests(case: &Case) -> Option<Result<(), Refusal>> {
             out_len,
         } => {
             let (p, b, c) = (*places, *booked, *curves);
-            let answer = write_plan(p, b, c, wants, order, drops, loads, *end, *out_len);
-            answer.map(|bytes| assert!(bytes.is_empty()))
+            let answer = write_plan(p, b, c, wants, *held, order, drops, loads, *end, *out_len);
+            answer.map(|bytes| assert_eq!(bytes.len(), empty::end_length(*held)))
         }
         Case::ReadPlan {
             curves,
@@ -1011,12 +1030,13 @@ fn the_first_fault_without_tests_decides() {
                 Ok(()) => &[],
                 Err(no) => match (no.number, no.figure) {
                     (8, 0) => &["8"],
-                    (9, 1..=5) => &["9"],
+                    (9, 1..=10) => &["9"],
                     (10, 0) => &["10:0"],
                     (10, 1) => &["10:1"],
                     (10, 3) => &["10:3"],
                     (10, 260) => &["10:260"],
                     (13, 0) => &["13"],
+                    (14, 0..=63) => &["14"],
                     (11, _) => &["11"],
                     (12, 0) => &["12:lengths", "12:end"],
                     _ => panic!("{no:?} of {text}"),

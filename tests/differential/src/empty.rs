@@ -5,6 +5,8 @@ use crate::generate::{
     self, any_booked, any_number, any_set, lent, with_booked, with_ending, Case, Ending, Job, Size,
     SomePlan, ENDINGS, FUNCTIONS, WILD, WILD_METHODS,
 };
+use crate::holding;
+use crate::parts;
 use crate::random::Random;
 use crate::reference;
 
@@ -161,6 +163,33 @@ fn order(random: &mut Random) -> Vec<u16> {
     })
 }
 
+/// What is held: half of the time nothing, else some curves of a job with so many, at times with others.
+fn held(random: &mut Random, curves: usize) -> u64 {
+    if random.chance(1, 2) {
+        return 0;
+    }
+    let job = Job {
+        places: 8,
+        booked: 0,
+        curves,
+        method: 0,
+        wants: vec![],
+    };
+    match random.below(3) {
+        0 => holding::foreign(random, &job),
+        _ => holding::own(random, &job),
+    }
+}
+
+/// What is held, or anything, or nothing.
+fn end(random: &mut Random, held: u64) -> u64 {
+    match random.below(8) {
+        0 | 1 => any_set(random),
+        2 => 0,
+        _ => held,
+    }
+}
+
 fn sets(random: &mut Random) -> Vec<u64> {
     entries(random, |random| match random.below(2) {
         0 => 0,
@@ -258,6 +287,7 @@ pub fn case(function: usize, random: &mut Random) -> Option<Case> {
                 booked,
                 curves,
                 wants: vec![],
+                held: held(random, curves),
                 order: order(random),
                 drops_len: any_length(random),
                 loads_len: any_length(random),
@@ -265,29 +295,37 @@ pub fn case(function: usize, random: &mut Random) -> Option<Case> {
         }
         "check_plan" => {
             let (places, booked, curves, _) = numbers(random);
+            let held = held(random, curves);
             Case::CheckPlan {
                 places,
                 booked,
                 curves,
                 wants: vec![],
+                held,
                 order: order(random),
                 drops: sets(random),
                 loads: sets(random),
-                end: sets(random).first().copied().unwrap_or(0),
+                end: end(random, held),
             }
         }
         "write_plan" => {
             let (places, booked, curves, _) = numbers(random);
+            let held = held(random, curves);
+            let end = end(random, held);
             Case::WritePlan {
                 places,
                 booked,
                 curves,
                 wants: vec![],
+                held,
                 order: order(random),
                 drops: sets(random),
                 loads: sets(random),
-                end: sets(random).first().copied().unwrap_or(0),
-                out_len: any_length(random),
+                end,
+                out_len: match random.below(2) {
+                    0 => lent(random, end_length(end)),
+                    _ => any_length(random),
+                },
             }
         }
         "read_plan" => {
@@ -393,10 +431,18 @@ pub fn job_length(places: usize, booked: usize, curves: usize, method: usize) ->
     1 + fields.iter().filter(|stands| **stands).count()
 }
 
+/// The bytes of a plan without tests: an end step, if it drops something.
+pub fn end_length(end: u64) -> usize {
+    match end {
+        0 => 0,
+        _ => 1 + parts::set_bytes(end).len(),
+    }
+}
+
 /// All that is faulty in a case without tests, in the sequence of the papers, so that the first is
-/// answered: 10 with its figure; 13 wherever booked is not below places; 12 for entries in the drops
-/// or loads, or for an end set that is not empty; the others by their number. Faults in job bytes and
-/// what a text tells are left out.
+/// answered: 10 with its figure; 13 wherever booked is not below places; 14 wherever a curve is held
+/// that is not below curves; 12 for entries in the drops or loads, or for an end set that is not what
+/// is held; the others by their number. Faults in job bytes and what a text tells are left out.
 pub fn faults(case: &Case) -> Vec<&'static str> {
     let mut faults = Vec::new();
     let mut note = |faulty: bool, name: &'static str| {
@@ -440,20 +486,46 @@ pub fn faults(case: &Case) -> Vec<&'static str> {
         _ => {}
     }
     match case {
-        Case::PlanOrder { order, .. }
-        | Case::CheckPlan { order, .. }
-        | Case::WritePlan { order, .. } => note(!order.is_empty(), "8"),
+        Case::PlanOrder {
+            curves,
+            held,
+            order,
+            ..
+        }
+        | Case::CheckPlan {
+            curves,
+            held,
+            order,
+            ..
+        }
+        | Case::WritePlan {
+            curves,
+            held,
+            order,
+            ..
+        } => {
+            note(!parts::inside(*held, parts::below(*curves)), "14");
+            note(!order.is_empty(), "8");
+        }
         _ => {}
     }
     match case {
         Case::CheckPlan {
-            drops, loads, end, ..
+            held,
+            drops,
+            loads,
+            end,
+            ..
         }
         | Case::WritePlan {
-            drops, loads, end, ..
+            held,
+            drops,
+            loads,
+            end,
+            ..
         } => {
             note(!(drops.is_empty() && loads.is_empty()), "12:lengths");
-            note(*end != 0, "12:end");
+            note(end != held, "12:end");
         }
         Case::ReadPlan { curves, plan, .. } | Case::StepBytes { curves, plan, .. } => {
             let read = reference::read_steps((*curves).clamp(1, 64), 0, plan);
@@ -471,6 +543,9 @@ pub fn faults(case: &Case) -> Vec<&'static str> {
             note(*out_len < needed, "9");
         }
         _ => {}
+    }
+    if let Case::WritePlan { end, out_len, .. } = case {
+        note(*out_len < end_length(*end), "9");
     }
     faults
 }

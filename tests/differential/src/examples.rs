@@ -106,7 +106,7 @@ fn job_a_by_every_method() {
 /// The plan of document 01 still passes, and has as many loads.
 #[test]
 fn job_a_by_the_lowest_tie_rule() {
-    let lowest = plan_by(TieRule::Lowest, 2, 0, 4, &a_wants(), &as_listed(4), 4, 4).unwrap();
+    let lowest = plan_by(TieRule::Lowest, 2, 0, 4, &a_wants(), 0, &as_listed(4), 4, 4).unwrap();
     let written = plan_bytes(&as_listed(4), &lowest.drops, &lowest.loads, lowest.end);
     assert_eq!(written, bytes(A_OF_01));
     assert_eq!(lowest.count, 5);
@@ -137,7 +137,7 @@ fn job_a_plan_bytes() {
     assert_eq!(loads, sets(&[&[0, 1], &[2], &[0], &[3]]));
     assert_eq!(order, as_listed(4));
     assert_eq!(steps.end_set(), sets(&[&[0, 3]])[0]);
-    let check = |end: u64| check_plan(2, 0, 4, &a_wants(), &order, &drops, &loads, end);
+    let check = |end: u64| check_plan(2, 0, 4, &a_wants(), 0, &order, &drops, &loads, end);
     assert_eq!(check(0x09), Ok(5));
     for end in [
         0,
@@ -247,7 +247,7 @@ fn job_a_orders() {
     ] {
         let order = order_tests(2, 0, 4, method, &a_wants(), 4).unwrap();
         assert_eq!(order, expected);
-        let made = plan(2, 0, 4, &a_wants(), &order, 4, 4).unwrap();
+        let made = plan(2, 0, 4, &a_wants(), 0, &order, 4, 4).unwrap();
         assert_eq!(made.count, if method == 0 { 5 } else { 4 });
         // Test 3 runs last, with curve 3.
         assert_eq!(set_of(made.end).len(), 2);
@@ -258,6 +258,7 @@ fn job_a_orders() {
                 0,
                 4,
                 &a_wants(),
+                0,
                 &order,
                 &made.drops,
                 &made.loads,
@@ -271,7 +272,7 @@ fn job_a_orders() {
 #[test]
 fn never_used_again_goes_first() {
     let wants = sets(&[&[0], &[1], &[2], &[0]]);
-    let made = plan(2, 0, 3, &wants, &as_listed(4), 4, 4).unwrap();
+    let made = plan(2, 0, 3, &wants, 0, &as_listed(4), 4, 4).unwrap();
     assert_eq!(made.drops, sets(&[&[], &[], &[1], &[]]));
     assert_eq!(made.end, sets(&[&[0, 2]])[0]);
     assert_eq!(made.count, 3);
@@ -282,9 +283,9 @@ fn never_used_again_goes_first() {
 fn dropped(rule: TieRule, places: usize, wants: &[&[u8]]) -> (Vec<u64>, u64, u64) {
     let (wants, order) = (sets(wants), as_listed(wants.len()));
     let room = wants.len();
-    let made = plan_by(rule, places, 0, 64, &wants, &order, room, room).unwrap();
+    let made = plan_by(rule, places, 0, 64, &wants, 0, &order, room, room).unwrap();
     let (drops, loads, end) = (&made.drops, &made.loads, made.end);
-    let checked = check_plan(places, 0, 64, &wants, &order, drops, loads, end);
+    let checked = check_plan(places, 0, 64, &wants, 0, &order, drops, loads, end);
     assert_eq!(checked, Ok(made.count));
     let job = write_job(places, 0, 64, 0, &wants, 999).unwrap();
     let plan = plan_bytes(&order, drops, loads, end);
@@ -446,7 +447,7 @@ fn ties_of_tests_and_packages_stay() {
 #[test]
 fn places_are_not_compared_with_loads_so_far() {
     let wants = sets(&[&[0, 1], &[0, 2], &[0, 2]]);
-    let made = plan(2, 0, 3, &wants, &as_listed(3), 3, 3).unwrap();
+    let made = plan(2, 0, 3, &wants, 0, &as_listed(3), 3, 3).unwrap();
     assert_eq!(made.drops[2], 0);
     assert_eq!(made.end, sets(&[&[0, 2]])[0]);
     assert_eq!(made.count, 3);
@@ -463,10 +464,10 @@ fn one_test_without_wants() {
         "1 tests, 8 places, method 0\n0: test 0 drop none load none\nloads 0\n"
     );
     // Nothing is held, so there is no end step, and none passes.
-    assert_eq!(plan(8, 0, 64, &[0], &[0], 1, 1).unwrap().end, 0);
-    assert_eq!(check_plan(8, 0, 64, &[0], &[0], &[0], &[0], 0), Ok(0));
+    assert_eq!(plan(8, 0, 64, &[0], 0, &[0], 1, 1).unwrap().end, 0);
+    assert_eq!(check_plan(8, 0, 64, &[0], 0, &[0], &[0], &[0], 0), Ok(0));
     assert_eq!(
-        check_plan(8, 0, 64, &[0], &[0], &[0], &[0], 1),
+        check_plan(8, 0, 64, &[0], 0, &[0], &[0], &[0], 1),
         Err(no(12, 1))
     );
     assert_eq!(step_bytes(64, 1, &bytes("04 00"), 1), (2, 0));
@@ -498,15 +499,15 @@ fn a_list_without_tests() {
         count: 0,
     };
     for rule in [TieRule::Lowest, TieRule::Highest] {
-        let made = plan_by(rule, 8, 0, 64, &[], &[], 0, 0);
+        let made = plan_by(rule, 8, 0, 64, &[], 0, &[], 0, 0);
         assert_eq!(made, Ok(nothing.clone()));
     }
-    assert_eq!(plan(8, 0, 64, &[], &[], 3, 0), Ok(nothing));
-    assert_eq!(check_plan(8, 0, 64, &[], &[], &[], &[], 0), Ok(0));
-    assert!(passes(8, 0, 64, &[], &[], &[], &[], 0));
-    assert_eq!(least_loads(8, 0, 10, &[], &[]), Some(0));
-    assert_eq!(fewest_loads(8, 0, &[], &[]), 0);
-    let written = write_plan(8, 0, 64, &[], &[], &[], &[], 0, 0);
+    assert_eq!(plan(8, 0, 64, &[], 0, &[], 3, 0), Ok(nothing));
+    assert_eq!(check_plan(8, 0, 64, &[], 0, &[], &[], &[], 0), Ok(0));
+    assert!(passes(8, 0, 64, &[], 0, &[], &[], &[], 0));
+    assert_eq!(least_loads(8, 0, 10, &[], 0, &[]), Some(0));
+    assert_eq!(fewest_loads(8, 0, &[], 0, &[]), 0);
+    let written = write_plan(8, 0, 64, &[], 0, &[], &[], &[], 0, 0);
     assert_eq!(written, Ok(vec![]));
     let steps = read_plan(64, 0, &[], 0, 0, 0).unwrap();
     assert_eq!((steps.tests.len(), steps.end_set()), (0, 0));
@@ -615,11 +616,11 @@ fn refusals_of_lists_without_tests() {
         assert_eq!(examine(places, 0, curves, &[]), Err(refused));
         // 10 goes before everything else.
         for order in [&[][..], &[0]] {
-            assert_eq!(plan(places, 0, curves, &[], order, 0, 0), Err(refused));
+            assert_eq!(plan(places, 0, curves, &[], 0, order, 0, 0), Err(refused));
             for list in [&[][..], &[1]] {
-                let checked = check_plan(places, 0, curves, &[], order, list, list, 1);
+                let checked = check_plan(places, 0, curves, &[], 0, order, list, list, 1);
                 assert_eq!(checked, Err(refused));
-                let written = write_plan(places, 0, curves, &[], order, list, list, 1, 0);
+                let written = write_plan(places, 0, curves, &[], 0, order, list, list, 1, 0);
                 assert_eq!(written, Err(refused));
             }
         }
@@ -639,11 +640,11 @@ fn refusals_of_lists_without_tests() {
     assert!(package_order(0, &[]).is_empty());
     // An order with an entry; the lists and the end set come behind it.
     for order in [&[0][..], &[1], &[u16::MAX], &[0, 0]] {
-        assert_eq!(plan(8, 0, 64, &[], order, 0, 0), Err(no(8, 0)));
+        assert_eq!(plan(8, 0, 64, &[], 0, order, 0, 0), Err(no(8, 0)));
         for (drops, loads, end) in [(&[][..], &[][..], 0), (&[0], &[1], 1)] {
-            let checked = check_plan(8, 0, 64, &[], order, drops, loads, end);
+            let checked = check_plan(8, 0, 64, &[], 0, order, drops, loads, end);
             assert_eq!(checked, Err(no(8, 0)));
-            let written = write_plan(8, 0, 64, &[], order, drops, loads, end, 0);
+            let written = write_plan(8, 0, 64, &[], 0, order, drops, loads, end, 0);
             assert_eq!(written, Err(no(8, 0)));
         }
     }
@@ -657,9 +658,9 @@ fn refusals_of_lists_without_tests() {
             (&[], &[1, 2]),
         ] {
             let sound = drops.is_empty() && loads.is_empty() && end == 0;
-            let checked = check_plan(8, 0, 64, &[], &[], drops, loads, end);
+            let checked = check_plan(8, 0, 64, &[], 0, &[], drops, loads, end);
             assert_eq!(checked, if sound { Ok(0) } else { Err(no(12, 0)) });
-            let written = write_plan(8, 0, 64, &[], &[], drops, loads, end, 0);
+            let written = write_plan(8, 0, 64, &[], 0, &[], drops, loads, end, 0);
             assert_eq!(written, if sound { Ok(vec![]) } else { Err(no(12, 0)) });
         }
     }
@@ -704,7 +705,10 @@ fn plan_bytes_without_tests() {
         assert_eq!((steps.tests.len(), steps.end_set()), (0, end));
         assert_eq!(step_bytes(4, 0, &plan, 0), (0, 3));
         assert_eq!(step_bytes(4, 0, &plan, 1), (3, 0));
-        assert_eq!(check_plan(8, 0, 4, &[], &[], &[], &[], end), Err(no(12, 0)));
+        assert_eq!(
+            check_plan(8, 0, 4, &[], 0, &[], &[], &[], end),
+            Err(no(12, 0))
+        );
         let audited = audit(&job, &plan);
         assert_eq!(audit_text(&audited), "plan refused 12 at 0\n");
     }
@@ -730,25 +734,25 @@ fn fast_calls_without_tests() {
 fn nothing_is_held_where_all_was_dropped_before() {
     // A plan of two tests, the last without wants, that leaves nothing for the end.
     let (wants, order) = ([1, 0], [0, 1]);
-    let check = |end: u64| check_plan(1, 0, 1, &wants, &order, &[0, 1], &[1, 0], end);
+    let check = |end: u64| check_plan(1, 0, 1, &wants, 0, &order, &[0, 1], &[1, 0], end);
     assert_eq!(check(0), Ok(1));
     assert_eq!(check(1), Err(no(12, 2)));
-    let written = write_plan(1, 0, 1, &wants, &order, &[0, 1], &[1, 0], 0, 8);
+    let written = write_plan(1, 0, 1, &wants, 0, &order, &[0, 1], &[1, 0], 0, 8);
     assert_eq!(written, Ok(bytes("06 01 01 00 05 01 01 01")));
     // Ours keeps the curve until the end.
-    let ours = plan(1, 0, 1, &wants, &order, 2, 2).unwrap();
+    let ours = plan(1, 0, 1, &wants, 0, &order, 2, 2).unwrap();
     assert_eq!((ours.drops, ours.end), (vec![0, 0], 1));
 }
 
 #[test]
 fn one_test_with_three_curves() {
     let wants = sets(&[&[0, 1, 2]]);
-    assert_eq!(plan(2, 0, 3, &wants, &[0], 1, 1), Err(no(7, 0)));
+    assert_eq!(plan(2, 0, 3, &wants, 0, &[0], 1, 1), Err(no(7, 0)));
     assert_eq!(order_tests(2, 0, 3, 0, &wants, 1), Err(no(7, 0)));
     let job = write_job(2, 0, 3, 0, &wants, 99).unwrap();
     assert_eq!(call(&job, 99), (7 * 65_536, vec![]));
     assert_eq!(sheet(&job), "refused 7 at 0\n");
-    let made = plan(3, 0, 3, &wants, &[0], 1, 1).unwrap();
+    let made = plan(3, 0, 3, &wants, 0, &[0], 1, 1).unwrap();
     assert_eq!((made.count, made.end), (3, 7));
 }
 
@@ -794,15 +798,15 @@ fn refusals_of_job_bytes() {
 fn refusals_of_orders() {
     let wants = [0, 0, 0];
     for order in [&[0, 1, 1][..], &[0, 1]] {
-        assert_eq!(plan(1, 0, 1, &wants, order, 3, 3), Err(no(8, 2)));
+        assert_eq!(plan(1, 0, 1, &wants, 0, order, 3, 3), Err(no(8, 2)));
         assert_eq!(
-            check_plan(1, 0, 1, &wants, order, &[], &[], 1),
+            check_plan(1, 0, 1, &wants, 0, order, &[], &[], 1),
             Err(no(8, 2))
         );
     }
-    assert_eq!(plan(1, 0, 1, &wants, &[0, 1, 2, 0], 3, 3), Err(no(8, 3)));
-    assert_eq!(plan(1, 0, 1, &wants, &[0, 3, 2, 0], 3, 3), Err(no(8, 1)));
-    assert_eq!(plan(1, 0, 1, &wants, &[], 3, 3), Err(no(8, 0)));
+    assert_eq!(plan(1, 0, 1, &wants, 0, &[0, 1, 2, 0], 3, 3), Err(no(8, 3)));
+    assert_eq!(plan(1, 0, 1, &wants, 0, &[0, 3, 2, 0], 3, 3), Err(no(8, 1)));
+    assert_eq!(plan(1, 0, 1, &wants, 0, &[], 3, 3), Err(no(8, 0)));
 }
 
 #[test]
@@ -872,7 +876,8 @@ fn refusals_of_plan_bytes() {
 fn refusals_of_the_check() {
     let wants = sets(&[&[0], &[1]]);
     let order = [0, 1];
-    let check = |drops: &[u64], loads: &[u64]| check_plan(1, 0, 2, &wants, &order, drops, loads, 2);
+    let check =
+        |drops: &[u64], loads: &[u64]| check_plan(1, 0, 2, &wants, 0, &order, drops, loads, 2);
     assert_eq!(check(&[0, 1], &[1, 2]), Ok(2));
     assert_eq!(check(&[0], &[1, 2, 3]), Err(no(12, 1)));
     assert_eq!(check(&[0, 1, 0], &[1, 2]), Err(no(12, 2)));
@@ -881,13 +886,13 @@ fn refusals_of_the_check() {
     assert_eq!(check(&[0, 0], &[1, 2]), Err(no(12, 1))); // more than the places
     assert_eq!(check(&[0, 1], &[0, 2]), Err(no(12, 0))); // wants not held
     assert_eq!(check(&[0, 1], &[1 << 2, 2]), Err(no(12, 0))); // a foreign load
-    let again = check_plan(1, 0, 1, &[1, 1], &order, &[0, 1], &[1, 1], 1);
+    let again = check_plan(1, 0, 1, &[1, 1], 0, &order, &[0, 1], &[1, 1], 1);
     assert_eq!(again, Ok(2)); // leaves and comes back in one step
-    let held = check_plan(1, 0, 1, &[1, 1], &order, &[0, 0], &[1, 1], 1);
+    let held = check_plan(1, 0, 1, &[1, 1], 0, &order, &[0, 0], &[1, 1], 1);
     assert_eq!(held, Err(no(12, 1)));
     // Another end set, alone and beside the faults above.
     let ended = |drops: &[u64], loads: &[u64], end: u64| {
-        check_plan(1, 0, 2, &wants, &order, drops, loads, end)
+        check_plan(1, 0, 2, &wants, 0, &order, drops, loads, end)
     };
     for end in [0, 1, 3, 4, 6, u64::MAX] {
         assert_eq!(ended(&[0, 1], &[1, 2], end), Err(no(12, 2)));
@@ -897,15 +902,15 @@ fn refusals_of_the_check() {
         assert_eq!(ended(&[2, 1], &[1, 2], end), Err(no(12, 0)));
         assert_eq!(ended(&[0, 0], &[1, 2], end), Err(no(12, 1)));
         // 12 goes before 9.
-        let written = write_plan(1, 0, 2, &wants, &order, &[0, 1], &[1, 2], end, 0);
+        let written = write_plan(1, 0, 2, &wants, 0, &order, &[0, 1], &[1, 2], end, 0);
         assert_eq!(written, Err(no(12, 2)));
     }
-    let written = write_plan(1, 0, 2, &wants, &order, &[0, 1], &[1, 2], 2, 12);
+    let written = write_plan(1, 0, 2, &wants, 0, &order, &[0, 1], &[1, 2], 2, 12);
     assert_eq!(written, Err(no(9, 13)));
     // Behind 8 and 10.
-    let order_first = check_plan(1, 0, 2, &wants, &[0, 0], &[0, 1], &[1, 2], 9);
+    let order_first = check_plan(1, 0, 2, &wants, 0, &[0, 0], &[0, 1], &[1, 2], 9);
     assert_eq!(order_first, Err(no(8, 1)));
-    let numbers_first = check_plan(1, 0, 0, &wants, &[0, 0], &[0, 1], &[1, 2], 9);
+    let numbers_first = check_plan(1, 0, 0, &wants, 0, &[0, 0], &[0, 1], &[1, 2], 9);
     assert_eq!(numbers_first, Err(no(10, 1)));
 }
 
@@ -920,7 +925,7 @@ fn full_size() {
     assert_eq!(read_job(&longest, 256).unwrap().tests, 256);
     assert_eq!(call(&job, 5_121).0, 11 + 255 * 2 + 10);
     assert_eq!(
-        plan(64, 0, 64, &wants, &as_listed(256), 256, 256)
+        plan(64, 0, 64, &wants, 0, &as_listed(256), 256, 256)
             .unwrap()
             .end,
         u64::MAX

@@ -70,13 +70,13 @@ fn job_a_with_a_booked_place() {
 fn too_wide_by_the_booked_place() {
     let wants = [7];
     assert_eq!(order_tests(3, 1, 3, 0, &wants, 1), Err(refusal(7, 0)));
-    assert_eq!(plan(3, 1, 3, &wants, &[0], 1, 1), Err(refusal(7, 0)));
+    assert_eq!(plan(3, 1, 3, &wants, 0, &[0], 1, 1), Err(refusal(7, 0)));
     assert_eq!(
-        check_plan(3, 1, 3, &wants, &[0], &[0], &[7], 7),
+        check_plan(3, 1, 3, &wants, 0, &[0], &[0], &[7], 7),
         Err(refusal(12, 0))
     );
-    assert_eq!(check_plan(4, 1, 3, &wants, &[0], &[0], &[7], 7), Ok(3));
-    assert_eq!(plan(4, 1, 3, &wants, &[0], 1, 1).unwrap().count, 3);
+    assert_eq!(check_plan(4, 1, 3, &wants, 0, &[0], &[0], &[7], 7), Ok(3));
+    assert_eq!(plan(4, 1, 3, &wants, 0, &[0], 1, 1).unwrap().count, 3);
     assert_eq!(sheet(&bytes("15 03 01 00 01 01 07")), "refused 7 at 0\n");
     assert_eq!(
         call(&bytes("15 03 01 00 01 01 07"), 99),
@@ -349,6 +349,7 @@ struct Handed {
     curves: usize,
     method: usize,
     wants: Vec<u64>,
+    held: u64,
     order: Vec<u16>,
     drops: Vec<u64>,
     loads: Vec<u64>,
@@ -371,10 +372,11 @@ const METHOD: Fault = ((10, 3), |handed| handed.method = 4);
 const FOREIGN: Fault = ((10, 6), |handed| handed.wants[2] |= 1 << 63);
 const RANGE: Fault = ((10, 260), |handed| handed.booked = 64);
 const BOOKED: Fault = ((13, 0), |handed| handed.booked = handed.booked.max(5));
+const HELD: Fault = ((14, 6), |handed| handed.held |= 0b1100_0010);
 const ORDER: Fault = ((8, 1), |handed| handed.order[1] = 0);
 const WIDE: Fault = ((7, 3), |handed| handed.wants[3] |= 0b11_1111);
 const LENGTHS: Fault = ((12, 3), |handed| handed.drops.truncate(3));
-const STEP: Fault = ((12, 0), |handed| handed.drops[0] = 1);
+const STEP: Fault = ((12, 0), |handed| handed.drops[0] = 2);
 const END: Fault = ((12, 4), |handed| handed.end ^= 1 << 5);
 
 /// Whatever faults there are together, the first of this sequence is answered, and without any there is
@@ -382,13 +384,16 @@ const END: Fault = ((12, 4), |handed| handed.end ^= 1 << 5);
 fn sequence(faults: &[Fault], answer: impl Fn(&Handed) -> Answer<()>) {
     let wants = vec![0b0011, 0b0110, 0b0011, 0b1000];
     let order = vec![0, 1, 2, 3];
-    let made = plan(5, 3, 6, &wants, &order, 4, 4).unwrap();
+    // More is held than fits.
+    let held = 0b11_0001;
+    let made = plan(5, 3, 6, &wants, held, &order, 4, 4).unwrap();
     let sound = Handed {
         places: 5,
         booked: 3,
         curves: 6,
         method: 1,
         wants,
+        held,
         order,
         drops: made.drops,
         loads: made.loads,
@@ -425,23 +430,26 @@ fn the_sequence_of_handed_numbers() {
     sequence(&[&numbers[..], &[WIDE, short(4)]].concat(), |h| {
         order_tests(h.places, h.booked, h.curves, h.method, &h.wants, h.lent).map(|_| ())
     });
-    let numbers = [PLACES, CURVES, TESTS, FOREIGN, RANGE, BOOKED];
+    let numbers = [PLACES, CURVES, TESTS, FOREIGN, RANGE, BOOKED, HELD];
     sequence(&[&numbers[..], &[ORDER, WIDE, short(4)]].concat(), |h| {
-        let (places, booked, curves) = (h.places, h.booked, h.curves);
-        plan(places, booked, curves, &h.wants, &h.order, h.lent, h.lent).map(|_| ())
+        let (places, booked, curves, held) = (h.places, h.booked, h.curves, h.held);
+        plan(
+            places, booked, curves, &h.wants, held, &h.order, h.lent, h.lent,
+        )
+        .map(|_| ())
     });
     let checked = [&numbers[..], &[ORDER, LENGTHS, STEP, END]].concat();
     sequence(&checked, |h| {
         let (places, booked, curves, end) = (h.places, h.booked, h.curves, h.end);
         check_plan(
-            places, booked, curves, &h.wants, &h.order, &h.drops, &h.loads, end,
+            places, booked, curves, &h.wants, h.held, &h.order, &h.drops, &h.loads, end,
         )
         .map(|_| ())
     });
-    sequence(&[&checked[..], &[short(25)]].concat(), |h| {
+    sequence(&[&checked[..], &[short(27)]].concat(), |h| {
         let (places, booked, curves, end) = (h.places, h.booked, h.curves, h.end);
         write_plan(
-            places, booked, curves, &h.wants, &h.order, &h.drops, &h.loads, end, h.lent,
+            places, booked, curves, &h.wants, h.held, &h.order, &h.drops, &h.loads, end, h.lent,
         )
         .map(|_| ())
     });
@@ -483,14 +491,14 @@ fn every_number_of_booked_places() {
                 wants[0] = u64::MAX;
                 assert_eq!(order_tests(places, booked, 64, 0, &wants, 0), Err(refused));
                 assert_eq!(
-                    plan(places, booked, 64, &wants, &[9; 3], 0, 0),
+                    plan(places, booked, 64, &wants, 0, &[9; 3], 0, 0),
                     Err(refused)
                 );
                 wants[0] = 0;
-                let checked = check_plan(places, booked, 64, &wants, &[], &[], &[1], 1);
+                let checked = check_plan(places, booked, 64, &wants, 0, &[], &[], &[1], 1);
                 assert_eq!(checked, Err(refused));
                 assert_eq!(
-                    write_plan(places, booked, 64, &wants, &[], &[], &[1], 1, 0),
+                    write_plan(places, booked, 64, &wants, 0, &[], &[], &[1], 1, 0),
                     Err(refused)
                 );
             }
@@ -520,15 +528,15 @@ fn alike(places: usize, booked: usize, curves: usize, wants: &[u64], random: &mu
         assert_eq!(call(&job, PLAN_MADE), call(&other, PLAN_MADE));
         assert_eq!(sheet(&job), sheet(&other));
         let order = order.unwrap_or(any_order.clone());
-        let made = plan(places, booked, curves, wants, &order, tests, tests);
-        assert_eq!(made, plan(fewer, 0, curves, wants, &order, tests, tests));
+        let made = plan(places, booked, curves, wants, 0, &order, tests, tests);
+        assert_eq!(made, plan(fewer, 0, curves, wants, 0, &order, tests, tests));
         let Ok(made) = made else {
             continue;
         };
         let (drops, loads) = (&made.drops, &made.loads);
         for end in [made.end, !made.end] {
-            let answer = check_plan(places, booked, curves, wants, &order, drops, loads, end);
-            let other = check_plan(fewer, 0, curves, wants, &order, drops, loads, end);
+            let answer = check_plan(places, booked, curves, wants, 0, &order, drops, loads, end);
+            let other = check_plan(fewer, 0, curves, wants, 0, &order, drops, loads, end);
             assert_eq!(answer, other);
         }
         let bytes = plan_bytes(&order, drops, loads, made.end);
@@ -568,6 +576,7 @@ fn booked_places_are_fewer_places_in_the_check() {
             booked,
             curves,
             wants,
+            held,
             order,
             drops,
             loads,
@@ -577,20 +586,24 @@ fn booked_places_are_fewer_places_in_the_check() {
             unreachable!()
         };
         let check = |places: usize, booked: usize| {
-            check_plan(places, booked, curves, &wants, &order, &drops, &loads, end)
+            check_plan(
+                places, booked, curves, &wants, held, &order, &drops, &loads, end,
+            )
         };
         let answer = check(places, booked);
         if matches!(
             answer,
             Err(Refusal {
-                number: 10 | 13,
+                number: 10 | 13 | 14,
                 ..
             })
         ) {
             continue;
         }
         assert_eq!(answer, check(places - booked, 0));
-        let pass = passes(places, booked, curves, &wants, &order, &drops, &loads, end);
+        let pass = passes(
+            places, booked, curves, &wants, held, &order, &drops, &loads, end,
+        );
         assert_eq!(answer.is_ok(), pass);
         match answer {
             Ok(_) => good += 1,
@@ -617,15 +630,15 @@ fn every_small_list_loads_least() {
                 .collect();
             for places in 1..=5 {
                 for booked in 0..places {
-                    let least = least_loads(places, booked, curves, &wants, &order);
-                    let made = plan(places, booked, curves, &wants, &order, tests, tests);
+                    let least = least_loads(places, booked, curves, &wants, 0, &order);
+                    let made = plan(places, booked, curves, &wants, 0, &order, tests, tests);
                     let wide = wants
                         .iter()
                         .position(|want| want.count_ones() as usize + booked > places);
                     match (made, wide) {
                         (Ok(made), None) => {
                             assert_eq!(least, Some(made.count));
-                            let unbooked = least_loads(places, 0, curves, &wants, &order);
+                            let unbooked = least_loads(places, 0, curves, &wants, 0, &order);
                             more_by_booked += (unbooked < least) as usize;
                         }
                         (Err(refused), Some(test)) => {

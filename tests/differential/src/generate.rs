@@ -3,6 +3,7 @@
 use crate::booked;
 use crate::degrees;
 use crate::empty;
+use crate::holding;
 use crate::parts;
 use crate::random::Random;
 use crate::reference::{self, TieRule};
@@ -36,6 +37,8 @@ pub enum Case {
         booked: usize,
         curves: usize,
         wants: Vec<u64>,
+        /// What the drive holds at the start.
+        held: u64,
         order: Vec<u16>,
         drops_len: usize,
         loads_len: usize,
@@ -45,6 +48,7 @@ pub enum Case {
         booked: usize,
         curves: usize,
         wants: Vec<u64>,
+        held: u64,
         order: Vec<u16>,
         drops: Vec<u64>,
         loads: Vec<u64>,
@@ -55,6 +59,7 @@ pub enum Case {
         booked: usize,
         curves: usize,
         wants: Vec<u64>,
+        held: u64,
         order: Vec<u16>,
         drops: Vec<u64>,
         loads: Vec<u64>,
@@ -438,12 +443,16 @@ impl Case {
                 list("set", hex_sets(&[*set]))
             }
             Case::Sets { a, b, .. } => list("a, b", hex_sets(&[*a, *b])),
-            Case::PlanOrder { wants, order, .. } => {
+            Case::PlanOrder {
+                wants, held, order, ..
+            } => {
                 list("wants", hex_sets(wants));
+                list("held", hex_sets(&[*held]));
                 list("order", hex_order(order));
             }
             Case::CheckPlan {
                 wants,
+                held,
                 order,
                 drops,
                 loads,
@@ -452,6 +461,7 @@ impl Case {
             }
             | Case::WritePlan {
                 wants,
+                held,
                 order,
                 drops,
                 loads,
@@ -459,6 +469,7 @@ impl Case {
                 ..
             } => {
                 list("wants", hex_sets(wants));
+                list("held", hex_sets(&[*held]));
                 list("order", hex_order(order));
                 list("drops", hex_sets(drops));
                 list("loads", hex_sets(loads));
@@ -497,7 +508,8 @@ pub const JOB: usize = 2_311;
 /// map and set.
 pub const PLAN_READ: usize = 5_130;
 
-/// The longest plan that passes, so the longest of the C call: the first step drops nothing.
+/// The longest plan that passes from an empty drive, so the longest of the C call: the first step drops
+/// nothing. From a holding the longest is one of those above.
 pub const PLAN_MADE: usize = 5_121;
 
 /// How large a case is.
@@ -593,7 +605,7 @@ pub fn random_set(random: &mut Random, curves: usize, number: usize) -> u64 {
 }
 
 /// Some subset of a set.
-fn some_of(random: &mut Random, set: u64) -> u64 {
+pub(crate) fn some_of(random: &mut Random, set: u64) -> u64 {
     match random.below(4) {
         0 => 0,
         1 => set & random.word(),
@@ -1067,7 +1079,7 @@ pub(crate) fn lent(random: &mut Random, needed: usize) -> usize {
 }
 
 /// A length on the bound of what is needed.
-fn around(random: &mut Random, needed: usize) -> usize {
+pub(crate) fn around(random: &mut Random, needed: usize) -> usize {
     random.pick(&[needed, needed, needed - 1, needed + 1])
 }
 
@@ -1219,12 +1231,17 @@ pub(crate) fn spoil_order(random: &mut Random, order: &mut Vec<u16>, tests: usiz
     }
 }
 
-/// Drops, loads and end set of some plan that passes, if the tests fit: with early loads, drops that
-/// were not needed, and curves that leave and come back in one step.
-fn free_plan(random: &mut Random, job: &Job, order: &[u16]) -> (Vec<u64>, Vec<u64>, u64) {
+/// Drops, loads and end set of some plan that passes from a holding, if the tests fit: with early loads,
+/// drops that were not needed, and curves that leave and come back in one step.
+fn free_plan(
+    random: &mut Random,
+    job: &Job,
+    held: u64,
+    order: &[u16],
+) -> (Vec<u64>, Vec<u64>, u64) {
     let all = all_curves(job.curves);
     let capacity = job.capacity() as u32;
-    let mut held = 0u64;
+    let mut held = held;
     let mut drops = Vec::new();
     let mut loads = Vec::new();
     for &test in order {
@@ -1354,11 +1371,11 @@ impl SomePlan {
     }
 }
 
-/// The plan in this order under a tie rule, if the tests fit.
-fn plan_by(rule: TieRule, job: &Job, order: &[u16]) -> Option<SomePlan> {
+/// The plan from a holding in this order under a tie rule, if the tests fit.
+pub(crate) fn plan_by(rule: TieRule, job: &Job, held: u64, order: &[u16]) -> Option<SomePlan> {
     let (places, booked, room) = (job.places, job.booked, job.wants.len());
     let plan = reference::plan_by(
-        rule, places, booked, job.curves, &job.wants, order, room, room,
+        rule, places, booked, job.curves, &job.wants, held, order, room, room,
     )
     .ok()?;
     Some(SomePlan {
@@ -1369,16 +1386,22 @@ fn plan_by(rule: TieRule, job: &Job, order: &[u16]) -> Option<SomePlan> {
     })
 }
 
-/// An order of the job and a plan for it: ours, the one of the other tie rule or any other.
+/// An order of the job and a plan for it from an empty drive: ours, the one of the other tie rule or
+/// any other.
 pub fn some_plan(random: &mut Random, job: &Job) -> SomePlan {
+    some_plan_from(random, job, 0)
+}
+
+/// The same from a holding.
+pub fn some_plan_from(random: &mut Random, job: &Job, held: u64) -> SomePlan {
     let order = permutation(random, job.wants.len());
     if random.chance(1, 2) {
         let rule = random.pick(&[TieRule::Lowest, TieRule::Highest]);
-        if let Some(plan) = plan_by(rule, job, &order) {
+        if let Some(plan) = plan_by(rule, job, held, &order) {
             return plan;
         }
     }
-    let (drops, loads, end) = free_plan(random, job, &order);
+    let (drops, loads, end) = free_plan(random, job, held, &order);
     SomePlan {
         order,
         drops,
@@ -1388,11 +1411,11 @@ pub fn some_plan(random: &mut Random, job: &Job) -> SomePlan {
 }
 
 /// The same; at times as if none were booked, so that it may hold too much.
-pub(crate) fn fitting_or_not(random: &mut Random, job: &Job) -> SomePlan {
+pub(crate) fn fitting_or_not(random: &mut Random, job: &Job, held: u64) -> SomePlan {
     if random.chance(1, 5) {
-        some_plan(random, &job.unbooked())
+        some_plan_from(random, &job.unbooked(), held)
     } else {
-        some_plan(random, job)
+        some_plan_from(random, job, held)
     }
 }
 
@@ -1401,7 +1424,7 @@ fn longest_made(random: &mut Random) -> (Job, SomePlan) {
     let each = random.between(1, 4);
     let job = longest_job(random, each);
     let listed: Vec<u16> = (0..256).collect();
-    let plan = plan_by(TieRule::Highest, &job, &listed).expect("its tests fit");
+    let plan = plan_by(TieRule::Highest, &job, 0, &listed).expect("its tests fit");
     assert_eq!(plan.bytes().len(), PLAN_MADE);
     (job, plan)
 }
@@ -1838,14 +1861,14 @@ fn audited(random: &mut Random, size: Size) -> (Vec<u8>, Vec<u8>, Option<Ending>
     }
     let job = job(random, size);
     let tests = job.wants.len();
-    let mut made = fitting_or_not(random, &job);
+    let mut made = fitting_or_not(random, &job, 0);
     if random.chance(1, 3) {
         spoil_plan(random, &mut made.drops, &mut made.loads, job.curves);
         // In bytes every step has its sets.
         made.drops.resize(tests, 0);
         made.loads.resize(tests, 0);
         if random.chance(1, 2) {
-            made.end = reference::held_behind(&made.drops, &made.loads);
+            made.end = reference::held_behind(0, &made.drops, &made.loads);
         }
     }
     if random.chance(1, 8) {
@@ -2039,6 +2062,9 @@ pub fn case(seed: u64, number: u64, only: Option<usize>) -> Case {
             return case;
         }
     }
+    if let Some(case) = holding::case(function, random) {
+        return case;
+    }
     let size = size(random);
     case_of(function, size, random)
 }
@@ -2101,6 +2127,7 @@ pub fn case_of(function: usize, size: Size, random: &mut Random) -> Case {
                 let test = random.below(job.wants.len());
                 job.wants[test] = u64::MAX;
             }
+            let held = holding::any(random, &job);
             let tests = job.wants.len();
             let mut order = permutation(random, tests);
             if random.chance(1, 8) && job.method != 3 {
@@ -2125,6 +2152,7 @@ pub fn case_of(function: usize, size: Size, random: &mut Random) -> Case {
                 booked: job.booked,
                 curves: job.curves,
                 wants: job.wants,
+                held,
                 order,
                 drops_len,
                 loads_len,
@@ -2137,6 +2165,7 @@ pub fn case_of(function: usize, size: Size, random: &mut Random) -> Case {
                 booked: job.booked,
                 curves: job.curves,
                 wants: job.wants,
+                held: 0,
                 order: made.order,
                 drops: made.drops,
                 loads: made.loads,
@@ -2145,12 +2174,14 @@ pub fn case_of(function: usize, size: Size, random: &mut Random) -> Case {
             }
         }
         4 | 5 => {
-            let (mut job, made) = if large(size) && random.chance(1, 4) {
-                longest_made(random)
+            let (mut job, held, made) = if large(size) && random.chance(1, 4) {
+                let (job, made) = longest_made(random);
+                (job, 0, made)
             } else {
                 let job = job(random, size);
-                let made = fitting_or_not(random, &job);
-                (job, made)
+                let held = holding::any(random, &job);
+                let made = fitting_or_not(random, &job, held);
+                (job, held, made)
             };
             let SomePlan {
                 mut order,
@@ -2160,7 +2191,7 @@ pub fn case_of(function: usize, size: Size, random: &mut Random) -> Case {
             } = made;
             spoil_plan(random, &mut drops, &mut loads, job.curves);
             if random.chance(1, 2) {
-                end = reference::held_behind(&drops, &loads);
+                end = reference::held_behind(held, &drops, &loads);
             }
             if random.chance(1, 3) {
                 spoil_end(random, &mut end, job.curves);
@@ -2190,6 +2221,7 @@ pub fn case_of(function: usize, size: Size, random: &mut Random) -> Case {
                     booked,
                     curves,
                     wants,
+                    held,
                     order,
                     drops,
                     loads,
@@ -2202,6 +2234,7 @@ pub fn case_of(function: usize, size: Size, random: &mut Random) -> Case {
                 booked,
                 curves,
                 &wants,
+                held,
                 &order,
                 &drops,
                 &loads,
@@ -2224,6 +2257,7 @@ pub fn case_of(function: usize, size: Size, random: &mut Random) -> Case {
                 booked,
                 curves,
                 wants,
+                held,
                 order,
                 drops,
                 loads,

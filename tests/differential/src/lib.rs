@@ -1,14 +1,16 @@
 //! An independent implementation of the curve planner's papers (`reference`) and of the small public
 //! functions below it (`parts`), where its tie rule matters (`ties`), two fast implementations for the
 //! benchmark (`tuned`, and in C `fast`), random inputs (`generate`), among them lists without tests
-//! (`empty`), lists with large degrees (`degrees`) and drives with booked places (`booked`), and the
-//! library under test (`product`, only with the feature of that name).
+//! (`empty`), lists with large degrees (`degrees`), drives with booked places (`booked`) and drives that
+//! hold something at the start (`holding`), and the library under test (`product`, only with the feature
+//! of that name).
 
 pub mod booked;
 pub mod degrees;
 pub mod empty;
 pub mod fast;
 pub mod generate;
+pub mod holding;
 pub mod parts;
 pub mod random;
 pub mod reference;
@@ -24,6 +26,8 @@ mod consistency;
 mod examples;
 #[cfg(test)]
 mod fewer_places;
+#[cfg(test)]
+mod halfway;
 #[cfg(test)]
 mod stored;
 #[cfg(test)]

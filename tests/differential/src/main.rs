@@ -9,16 +9,18 @@
 //! that a function can have was never reached, or something else that is counted: one of method 3's
 //! flips, one of the audit's two kinds of refusal, a kind of end set or of plan's end, a wrong end
 //! set beside another fault, a length on its bound, a kind of tie that the tie rule decides, an
-//! outcome, a kind or two faults of a list without tests, or of booked places a kind of byte or handed
-//! number, two faults, or a way in which the raw places would give another answer; also if a kind of
-//! degrees was reached too seldom.
+//! outcome, a kind or two faults of a list without tests, of booked places a kind of byte or handed
+//! number, two faults, or a way in which the raw places would give another answer, or of what is held at
+//! the start a kind, 14 beside another fault, a way in which an empty drive would give another answer, or
+//! a place where a list is cut halfway; also if a kind of degrees was reached too seldom.
 
 use differential::booked;
 use differential::degrees;
 use differential::empty;
 use differential::generate::{
-    self, Case, Ending, SetFunction, ENDINGS, FUNCTIONS, JOB, PLAN_MADE, SHEET,
+    self, Case, Ending, SetFunction, SomePlan, ENDINGS, FUNCTIONS, JOB, PLAN_MADE, PLAN_READ, SHEET,
 };
+use differential::holding;
 use differential::parts::{self, GroupRead};
 use differential::random::{mix, Random};
 use differential::reference::{self, PlannedJob, Refusal, Refused};
@@ -49,12 +51,12 @@ trait Subject {
     fn order_tests(&self, _places: usize, _booked: usize, _curves: usize, _method: usize,
         _wants: &[u64], _order: &mut [u16]) -> Option<u64> { None }
     fn plan_order(&self, _places: usize, _booked: usize, _curves: usize, _wants: &[u64],
-        _order: &[u16], _drops: &mut [u64], _loads: &mut [u64], _end: &mut u64)
+        _held: u64, _order: &[u16], _drops: &mut [u64], _loads: &mut [u64], _end: &mut u64)
         -> Option<u64> { None }
     fn check_plan(&self, _places: usize, _booked: usize, _curves: usize, _wants: &[u64],
-        _order: &[u16], _drops: &[u64], _loads: &[u64], _end: u64) -> Option<u64> { None }
+        _held: u64, _order: &[u16], _drops: &[u64], _loads: &[u64], _end: u64) -> Option<u64> { None }
     fn write_plan(&self, _places: usize, _booked: usize, _curves: usize, _wants: &[u64],
-        _order: &[u16], _drops: &[u64], _loads: &[u64], _end: u64, _out: &mut [u8])
+        _held: u64, _order: &[u16], _drops: &[u64], _loads: &[u64], _end: u64, _out: &mut [u8])
         -> Option<u64> { None }
     fn read_plan(&self, _curves: usize, _tests: usize, _plan: &[u8], _order: &mut [u16],
         _drops: &mut [u64], _loads: &mut [u64], _end: &mut u64) -> Option<u64> { None }
@@ -116,16 +118,18 @@ impl Subject for Product {
         Some(product::order_tests(places, booked, curves, method, wants, order))
     }
     fn plan_order(&self, places: usize, booked: usize, curves: usize, wants: &[u64],
-        order: &[u16], drops: &mut [u64], loads: &mut [u64], end: &mut u64) -> Option<u64> {
-        Some(product::plan_order(places, booked, curves, wants, order, drops, loads, end))
+        held: u64, order: &[u16], drops: &mut [u64], loads: &mut [u64], end: &mut u64)
+        -> Option<u64> {
+        Some(product::plan_order(places, booked, curves, wants, held, order, drops, loads, end))
     }
     fn check_plan(&self, places: usize, booked: usize, curves: usize, wants: &[u64],
-        order: &[u16], drops: &[u64], loads: &[u64], end: u64) -> Option<u64> {
-        Some(product::check_plan(places, booked, curves, wants, order, drops, loads, end))
+        held: u64, order: &[u16], drops: &[u64], loads: &[u64], end: u64) -> Option<u64> {
+        Some(product::check_plan(places, booked, curves, wants, held, order, drops, loads, end))
     }
     fn write_plan(&self, places: usize, booked: usize, curves: usize, wants: &[u64],
-        order: &[u16], drops: &[u64], loads: &[u64], end: u64, out: &mut [u8]) -> Option<u64> {
-        Some(product::write_plan(places, booked, curves, wants, order, drops, loads, end, out))
+        held: u64, order: &[u16], drops: &[u64], loads: &[u64], end: u64, out: &mut [u8])
+        -> Option<u64> {
+        Some(product::write_plan(places, booked, curves, wants, held, order, drops, loads, end, out))
     }
     fn read_plan(&self, curves: usize, tests: usize, plan: &[u8], order: &mut [u16],
         drops: &mut [u64], loads: &mut [u64], end: &mut u64) -> Option<u64> {
@@ -343,6 +347,7 @@ fn kind_of_end(held: u64, end: u64, curves: usize) -> &'static str {
 fn before_end(outcome: &str) -> Option<&'static str> {
     match outcome {
         "8" => Some("8"),
+        "14" => Some("14"),
         "12:lengths" => Some("12:lengths"),
         "12:step" => Some("12:step"),
         _ if outcome.starts_with("10:") => Some("10"),
@@ -543,13 +548,17 @@ fn run(case: &Case, random: &mut Random, subjects: &[Box<dyn Subject>]) -> Verdi
             booked,
             curves,
             wants,
+            held,
             order,
             drops_len,
             loads_len,
         } => {
-            let answer = reference::plan(
-                *places, *booked, *curves, wants, order, *drops_len, *loads_len,
-            );
+            let plan_from = |held: u64| {
+                reference::plan(
+                    *places, *booked, *curves, wants, held, order, *drops_len, *loads_len,
+                )
+            };
+            let answer = plan_from(*held);
             let number = number_of(&answer, |plan| plan.count);
             let (new_drops, new_loads, new_end) = match &answer {
                 Ok(plan) => (plan.drops.clone(), plan.loads.clone(), vec![plan.end]),
@@ -559,11 +568,28 @@ fn run(case: &Case, random: &mut Random, subjects: &[Box<dyn Subject>]) -> Verdi
                 notes.push((PLANNED_ENDS, kind_of_set(end), 1));
             }
             if let Ok(plan) = &answer {
-                let kinds = ties::kinds(*places, *booked, *curves, wants, order, plan);
+                let kinds = ties::kinds(*places, *booked, *curves, wants, *held, order, plan);
                 notes.extend(all(PLANNED_TIES, kinds));
-                let kinds = booked::plan_kinds(*places, *booked, *curves, wants, order, plan);
+                let kinds =
+                    booked::plan_kinds(*places, *booked, *curves, wants, *held, order, plan);
                 notes.extend(all(PLANNED_RAW, kinds));
             }
+            if *held != 0 {
+                let kinds = holding::plan_kinds(&answer, &plan_from(0));
+                notes.extend(all(PLANNED_EMPTY, kinds));
+            }
+            // The rest of the list, planned from what is held there, has the rest of the plan.
+            let rest = answer.as_ref().ok().map(|plan| {
+                let made = SomePlan {
+                    order: order.clone(),
+                    drops: plan.drops.clone(),
+                    loads: plan.loads.clone(),
+                    end: plan.end,
+                };
+                let steps = random.below(order.len() + 1);
+                notes.extend(all(PLANNED_RESTS, cut_kinds(order.len(), steps)));
+                holding::rest(random, wants, *held, &made, steps)
+            });
             if let Some(test) = too_wide(&answer) {
                 let kinds = booked::wide_kinds(*places, *booked, wants, test);
                 notes.extend(all(PLANNED_WIDE, kinds));
@@ -577,18 +603,46 @@ fn run(case: &Case, random: &mut Random, subjects: &[Box<dyn Subject>]) -> Verdi
                     *booked,
                     *curves,
                     wants,
+                    *held,
                     order,
                     drops.part(),
                     loads.part(),
                     &mut end.part()[0],
                 );
-                results.push(found.map(|found| {
+                let mut result = found.map(|found| {
                     compare(
                         number,
                         found,
                         &[drops.difference(), loads.difference(), end.difference()],
                     )
-                }));
+                });
+                if let (Some(Ok(())), Some(rest)) = (&result, &rest) {
+                    let (plan, tests) = (&rest.plan, rest.wants.len());
+                    let mut drops = Lent::new("drops", random, tests, &plan.drops);
+                    let mut loads = Lent::new("loads", random, tests, &plan.loads);
+                    let mut end = Lent::new("end", random, 1, &[plan.end]);
+                    let count = plan.loads.iter().map(|&loads| parts::size(loads)).sum();
+                    let found = subject.plan_order(
+                        *places,
+                        *booked,
+                        *curves,
+                        &rest.wants,
+                        rest.held,
+                        &plan.order,
+                        drops.part(),
+                        loads.part(),
+                        &mut end.part()[0],
+                    );
+                    result = found.map(|found| {
+                        compare::<u64>(
+                            count,
+                            found,
+                            &[drops.difference(), loads.difference(), end.difference()],
+                        )
+                        .map_err(|text| format!("{text}of the rest of the list: {rest:x?}\n"))
+                    });
+                }
+                results.push(result);
             }
             outcome(&answer)
         }
@@ -597,29 +651,39 @@ fn run(case: &Case, random: &mut Random, subjects: &[Box<dyn Subject>]) -> Verdi
             booked,
             curves,
             wants,
+            held,
             order,
             drops,
             loads,
             end,
         } => {
-            let check = |booked: usize| {
-                reference::check_plan(*places, booked, *curves, wants, order, drops, loads, *end)
+            let check = |booked: usize, held: u64| {
+                reference::check_plan(
+                    *places, booked, *curves, wants, held, order, drops, loads, *end,
+                )
             };
-            let answer = check(*booked);
+            let answer = check(*booked, *held);
             let number = number_of(&answer, |count| *count);
             if *booked > 0 {
-                let kind = booked::check_kinds(&answer, &check(0), wants.len());
+                let kind = booked::check_kinds(&answer, &check(0, *held), wants.len());
                 notes.extend(all(CHECKED_RAW, kind));
             }
+            if *held != 0 {
+                let kind = holding::check_kind(&answer, &check(*booked, 0));
+                notes.push((CHECKED_EMPTY, kind, 1));
+            }
+            let sorts = holding::sorts(case, answer.as_ref().err().copied());
+            notes.extend(all(CHECKED_SORTS, sorts));
             for subject in subjects {
-                let found =
-                    subject.check_plan(*places, *booked, *curves, wants, order, drops, loads, *end);
+                let found = subject.check_plan(
+                    *places, *booked, *curves, wants, *held, order, drops, loads, *end,
+                );
                 results.push(found.map(|found| compare(number, found, &[])));
             }
             let name = check_outcome(&answer, wants.len(), [drops.len(), loads.len()]);
-            let held = reference::held_behind(drops, loads);
-            notes.push((CHECKED_ENDS, kind_of_end(held, *end, *curves), 1));
-            if *end != held {
+            let left = reference::held_behind(*held, drops, loads);
+            notes.push((CHECKED_ENDS, kind_of_end(left, *end, *curves), 1));
+            if *end != left {
                 notes.extend(before_end(&name).map(|fault| (CHECKED_TWICE, fault, 1)));
             }
             name
@@ -629,15 +693,19 @@ fn run(case: &Case, random: &mut Random, subjects: &[Box<dyn Subject>]) -> Verdi
             booked,
             curves,
             wants,
+            held,
             order,
             drops,
             loads,
             end,
             out_len,
         } => {
-            let answer = reference::write_plan(
-                *places, *booked, *curves, wants, order, drops, loads, *end, *out_len,
-            );
+            let write_from = |held: u64| {
+                reference::write_plan(
+                    *places, *booked, *curves, wants, held, order, drops, loads, *end, *out_len,
+                )
+            };
+            let answer = write_from(*held);
             let number = number_of(&answer, |bytes| bytes.len() as u64);
             let bytes = answer.clone().unwrap_or_default();
             for subject in subjects {
@@ -647,6 +715,7 @@ fn run(case: &Case, random: &mut Random, subjects: &[Box<dyn Subject>]) -> Verdi
                     *booked,
                     *curves,
                     wants,
+                    *held,
                     order,
                     drops,
                     loads,
@@ -656,19 +725,27 @@ fn run(case: &Case, random: &mut Random, subjects: &[Box<dyn Subject>]) -> Verdi
                 results.push(found.map(|found| compare(number, found, &[out.difference()])));
             }
             let name = check_outcome(&answer, wants.len(), [drops.len(), loads.len()]);
-            let held = reference::held_behind(drops, loads);
-            notes.push((WRITTEN_ENDS, kind_of_end(held, *end, *curves), 1));
-            if *end != held {
+            let left = reference::held_behind(*held, drops, loads);
+            notes.push((WRITTEN_ENDS, kind_of_end(left, *end, *curves), 1));
+            if *end != left {
                 notes.extend(before_end(&name).map(|fault| (WRITTEN_TWICE, fault, 1)));
             }
+            if *held != 0 {
+                let kind = holding::check_kind(&answer, &write_from(0));
+                notes.push((WRITTEN_EMPTY, kind, 1));
+            }
+            let sorts = holding::sorts(case, answer.as_ref().err().copied());
+            notes.extend(all(WRITTEN_SORTS, sorts));
             if name == "12:end" {
                 let needed = reference::plan_bytes(order, drops, loads, *end).len();
                 notes.push((WRITTEN_TWICE, "short", (*out_len < needed) as u64));
             }
             notes.extend(on_bound(WRITTEN_LENGTHS, &answer, PLAN_MADE, LONGEST));
+            notes.extend(on_bound(WRITTEN_LENGTHS, &answer, PLAN_READ, LONGEST_HELD));
             if *booked > 0 {
-                let raw =
-                    reference::check_plan(*places, 0, *curves, wants, order, drops, loads, *end);
+                let raw = reference::check_plan(
+                    *places, 0, *curves, wants, *held, order, drops, loads, *end,
+                );
                 let kind = booked::check_kinds(&answer, &raw, wants.len());
                 notes.extend(all(WRITTEN_RAW, kind));
             }
@@ -1007,6 +1084,11 @@ fn run(case: &Case, random: &mut Random, subjects: &[Box<dyn Subject>]) -> Verdi
         notes.extend(all(numbers, booked::number_kinds(places, booked)));
         notes.extend(all(twice, booked::twice(case)));
     }
+    let table = HELD_TABLES.iter().find(|table| table.0 == case.function());
+    if let Some((_, kinds, twice)) = table {
+        notes.extend(all(kinds, holding::kinds(case, outcome == "ok")));
+        notes.extend(all(twice, holding::twice(case)));
+    }
     Verdict {
         outcome,
         notes,
@@ -1027,7 +1109,8 @@ fn kinds_of_ties(title: &'static str, planned: &Result<PlannedJob, Refusal>) -> 
     let Ok((job, order, plan)) = planned else {
         return Vec::new();
     };
-    let kinds = ties::kinds(job.places, job.booked, job.curves, &job.wants, order, plan);
+    let (places, booked, curves) = (job.places, job.booked, job.curves);
+    let kinds = ties::kinds(places, booked, curves, &job.wants, 0, order, plan);
     all(title, kinds)
 }
 
@@ -1065,6 +1148,16 @@ fn on_bound(
         Ok(bytes) if bytes.len() == most => Some((title, names[0], 1)),
         Err(no) if *no == reference::refusal(9, most) => Some((title, names[1], 1)),
         _ => None,
+    }
+}
+
+/// Where a list of so many tests is cut: before all steps, between them, or behind all.
+fn cut_kinds(tests: usize, steps: usize) -> Vec<&'static str> {
+    match steps {
+        _ if tests == 0 => vec![],
+        0 => vec!["before-all"],
+        _ if steps == tests => vec!["behind-all"],
+        _ => vec!["between"],
     }
 }
 
@@ -1149,80 +1242,44 @@ const LENT: [&str; 2] = ["exact", "longer"];
 const SEVERAL_LENT: [&str; 3] = ["exact", "longer", "mixed"];
 const LISTS: [&str; 3] = ["drops", "loads", "both"];
 
-// Two faults of handed numbers; with a method; with a buffer too; with an order; or with an order,
-// lists and an end set.
-const TWO_PLAIN: [&str; 6] = [
-    "10:0+10:1",
-    "10:0+10:260",
-    "10:0+13",
-    "10:1+10:260",
-    "10:1+13",
-    "10:260+13",
+// The faults of handed numbers, as they are asked; with a method; with a buffer too; with a holding and an
+// order; with lists and an end set too; and with a buffer for these.
+const PLAIN: [&str; 4] = ["10:0", "10:1", "10:260", "13"];
+const WITH_METHOD: [&str; 5] = ["10:0", "10:1", "10:3", "10:260", "13"];
+const WITH_BUFFER: [&str; 6] = ["10:0", "10:1", "10:3", "10:260", "13", "9"];
+const WITH_ORDER: [&str; 6] = ["10:0", "10:1", "10:260", "13", "14", "8"];
+const WITH_PLAN: [&str; 8] = [
+    "10:0",
+    "10:1",
+    "10:260",
+    "13",
+    "14",
+    "8",
+    "12:lengths",
+    "12:end",
 ];
-const TWO_NUMBERS: [&str; 10] = [
-    "10:0+10:1",
-    "10:0+10:3",
-    "10:0+10:260",
-    "10:0+13",
-    "10:1+10:3",
-    "10:1+10:260",
-    "10:1+13",
-    "10:3+10:260",
-    "10:3+13",
-    "10:260+13",
+const WITH_PLAN_AND_BUFFER: [&str; 9] = [
+    "10:0",
+    "10:1",
+    "10:260",
+    "13",
+    "14",
+    "8",
+    "12:lengths",
+    "12:end",
+    "9",
 ];
-const TWO_WITH_BUFFER: [&str; 15] = [
-    "10:0+10:1",
-    "10:0+10:3",
-    "10:0+10:260",
-    "10:0+13",
-    "10:0+9",
-    "10:1+10:3",
-    "10:1+10:260",
-    "10:1+13",
-    "10:1+9",
-    "10:3+10:260",
-    "10:3+13",
-    "10:3+9",
-    "10:260+13",
-    "10:260+9",
-    "13+9",
-];
-const TWO_WITH_ORDER: [&str; 10] = [
-    "10:0+10:1",
-    "10:0+10:260",
-    "10:0+13",
-    "10:0+8",
-    "10:1+10:260",
-    "10:1+13",
-    "10:1+8",
-    "10:260+13",
-    "10:260+8",
-    "13+8",
-];
-const TWO_WITH_PLAN: [&str; 21] = [
-    "10:0+10:1",
-    "10:0+10:260",
-    "10:0+13",
-    "10:0+8",
-    "10:0+12:lengths",
-    "10:0+12:end",
-    "10:1+10:260",
-    "10:1+13",
-    "10:1+8",
-    "10:1+12:lengths",
-    "10:1+12:end",
-    "10:260+13",
-    "10:260+8",
-    "10:260+12:lengths",
-    "10:260+12:end",
-    "13+8",
-    "13+12:lengths",
-    "13+12:end",
-    "8+12:lengths",
-    "8+12:end",
-    "12:lengths+12:end",
-];
+
+/// The names of any two of these faults. They last as long as the run.
+fn two_of(faults: &[&str]) -> Vec<&'static str> {
+    let mut names: Vec<&'static str> = Vec::new();
+    for (at, first) in faults.iter().enumerate() {
+        for other in &faults[at + 1..] {
+            names.push(format!("{first}+{other}").leak());
+        }
+    }
+    names
+}
 
 #[rustfmt::skip]
 static TOLD_TABLES: LazyLock<Vec<ToldTable>> = LazyLock::new(|| {
@@ -1232,21 +1289,24 @@ static TOLD_TABLES: LazyLock<Vec<ToldTable>> = LazyLock::new(|| {
             endings.push(name);
         }
     }
-    let tables: [(&str, Told, &str, &[&str]); 30] = [
+    let (two_plain, two_with_method) = (two_of(&PLAIN), two_of(&WITH_METHOD));
+    let (two_with_buffer, two_with_order) = (two_of(&WITH_BUFFER), two_of(&WITH_ORDER));
+    let (two_with_plan, two_with_both) = (two_of(&WITH_PLAN), two_of(&WITH_PLAN_AND_BUFFER));
+    let tables: [(&str, Told, &str, &[&'static str]); 30] = [
         ("read_job", Told::Head, "jobs read, without tests", &HEADS),
         ("read_job", Told::Lent, "jobs read, without tests, list lent", &LENT),
         ("write_job", Told::Lent, "jobs written, without tests, buffer lent", &LENT),
-        ("write_job", Told::Twice, "jobs written, without tests, two faults", &TWO_WITH_BUFFER),
+        ("write_job", Told::Twice, "jobs written, without tests, two faults", &two_with_buffer),
         ("order_tests", Told::Method, "orders made, without tests, method", &METHODS),
         ("order_tests", Told::Lent, "orders made, without tests, list lent", &LENT),
-        ("order_tests", Told::Twice, "orders made, without tests, two faults", &TWO_NUMBERS),
+        ("order_tests", Told::Twice, "orders made, without tests, two faults", &two_with_method),
         ("plan_order", Told::Lent, "plans made, without tests, lists lent", &SEVERAL_LENT),
-        ("plan_order", Told::Twice, "plans made, without tests, two faults", &TWO_WITH_ORDER),
+        ("plan_order", Told::Twice, "plans made, without tests, two faults", &two_with_order),
         ("check_plan", Told::Lists, "plans checked, without tests, entries in", &LISTS),
-        ("check_plan", Told::Twice, "plans checked, without tests, two faults", &TWO_WITH_PLAN),
+        ("check_plan", Told::Twice, "plans checked, without tests, two faults", &two_with_plan),
         ("write_plan", Told::Lent, "plans written, without tests, buffer lent", &LENT),
         ("write_plan", Told::Lists, "plans written, without tests, entries in", &LISTS),
-        ("write_plan", Told::Twice, "plans written, without tests, two faults", &TWO_WITH_PLAN),
+        ("write_plan", Told::Twice, "plans written, without tests, two faults", &two_with_both),
         ("read_plan", Told::End, "plans read, without tests, end of the bytes", &endings),
         ("read_plan", Told::Lent, "plans read, without tests, lists lent", &SEVERAL_LENT),
         ("read_plan", Told::Twice, "plans read, without tests, two faults", &["10:1+11"]),
@@ -1259,8 +1319,8 @@ static TOLD_TABLES: LazyLock<Vec<ToldTable>> = LazyLock::new(|| {
         ("audit", Told::Head, "audits, without tests", &HEADS),
         ("audit", Told::End, "plans audited, without tests, end of the bytes", &endings),
         ("audit", Told::Lent, "audits, without tests, buffer lent", &LENT),
-        ("examine", Told::Twice, "numbers examined, without tests, two faults", &TWO_PLAIN),
-        ("examine_by", Told::Twice, "numbers with method examined, without tests, two faults", &TWO_NUMBERS),
+        ("examine", Told::Twice, "numbers examined, without tests, two faults", &two_plain),
+        ("examine_by", Told::Twice, "numbers with method examined, without tests, two faults", &two_with_method),
         ("listed_order", Told::Lent, "listed orders, without tests, list lent", &LENT),
         ("package_order", Told::Lent, "package orders, without tests, list lent", &LENT),
     ];
@@ -1310,7 +1370,7 @@ fn lengths_lent(case: &Case) -> Option<(usize, Vec<usize>)> {
             loads_len,
             ..
         } => (0, vec![*drops_len, *loads_len]),
-        Case::WritePlan { out_len, .. } => (0, vec![*out_len]),
+        Case::WritePlan { end, out_len, .. } => (empty::end_length(*end), vec![*out_len]),
         Case::ReadPlan {
             order_len,
             drops_len,
@@ -1431,6 +1491,14 @@ const PLANNED_RAW: &str = "plans made, raw places give other";
 const PLANNED_WIDE: &str = "plans refused 7, raw places";
 const CHECKED_RAW: &str = "plans checked, raw places";
 const WRITTEN_RAW: &str = "plans written, raw places";
+/// What is different from an empty drive, of those that are not from one.
+const PLANNED_EMPTY: &str = "plans made, from an empty drive other";
+const CHECKED_EMPTY: &str = "plans checked, from an empty drive";
+const WRITTEN_EMPTY: &str = "plans written, from an empty drive";
+/// Where the list is cut whose rest has to have the rest of the plan.
+const PLANNED_RESTS: &str = "plans made, rest of the list planned halfway";
+const CHECKED_SORTS: &str = "plans checked, from a holding";
+const WRITTEN_SORTS: &str = "plans written, from a holding";
 const CHECKED_ENDS: &str = "plans checked, end set";
 const CHECKED_TWICE: &str = "plans checked, another end set and refused before";
 const WRITTEN_ENDS: &str = "plans written, end set";
@@ -1477,15 +1545,31 @@ const HANDED_TABLES: [(usize, &str, &str, &[&str]); 7] = [
     (2, "orders made, booked", "orders made, booked and another fault",
         &["10:0", "10:1", "10:2", "10:3", "10:4+t", "7", "9"]),
     (3, "plans made, booked", "plans made, booked and another fault",
-        &["10:0", "10:1", "10:2", "10:4+t", "7", "8", "9"]),
+        &["10:0", "10:1", "10:2", "10:4+t", "7", "8", "9", "14"]),
     (4, "plans checked, booked", "plans checked, booked and another fault",
-        &["10:0", "10:1", "10:2", "10:4+t", "8", "12"]),
+        &["10:0", "10:1", "10:2", "10:4+t", "8", "12", "14"]),
     (5, "plans written, booked", "plans written, booked and another fault",
-        &["10:0", "10:1", "10:2", "10:4+t", "8", "9", "12"]),
+        &["10:0", "10:1", "10:2", "10:4+t", "8", "9", "12", "14"]),
     (11, "numbers examined, booked", "numbers examined, booked and another fault",
         &["10:0", "10:1", "10:2", "10:4+t"]),
     (12, "numbers with method examined, booked", "numbers with method examined, booked and another fault",
         &["10:0", "10:1", "10:2", "10:3", "10:4+t"]),
+];
+
+/// For each function that is handed a holding: its number, and the titles of its kinds and of 14 beside
+/// another fault.
+const HELD_TABLES: [(usize, &str, &str); 3] = [
+    (3, "plans made, holding", "plans made, 14 and another fault"),
+    (
+        4,
+        "plans checked, holding",
+        "plans checked, 14 and another fault",
+    ),
+    (
+        5,
+        "plans written, holding",
+        "plans written, 14 and another fault",
+    ),
 ];
 
 /// How often each name of these tables has to be met; of the others once is enough.
@@ -1498,7 +1582,8 @@ fn tables() -> Vec<(&'static str, &'static str, Vec<&'static str>)> {
     let degrees = degrees::names();
     let jobs = |more: &[&'static str]| [&booked::JOBS, more].concat();
     let (jobs_read, jobs_planned, jobs_audited) = (jobs(&["13+9"]), jobs(&["13+7"]), jobs(&[]));
-    let tables: [(&str, &str, &[&str]); 43] = [
+    let written_lengths = [LONGEST, LONGEST_HELD].concat();
+    let tables: [(&str, &str, &[&str]); 49] = [
         ("read_job", READ_BOOKED, &jobs_read),
         ("read_job", READ_LENGTHS, &booked::LONGEST),
         ("write_job", JOBS_WRITTEN, &LONGEST_JOB),
@@ -1524,10 +1609,16 @@ fn tables() -> Vec<(&'static str, &'static str, Vec<&'static str>)> {
         ("plan_order", PLANNED_ENDS, &SETS),
         ("plan_order", PLANNED_TIES, &ties::KINDS),
         ("check_plan", CHECKED_ENDS, &ENDS),
-        ("check_plan", CHECKED_TWICE, &["8", "10", "12:lengths", "12:step"]),
+        ("plan_order", PLANNED_EMPTY, &holding::PLANS),
+        ("plan_order", PLANNED_RESTS, &["before-all", "between", "behind-all"]),
+        ("check_plan", CHECKED_EMPTY, &holding::CHECKS),
+        ("check_plan", CHECKED_SORTS, &holding::SORTS),
+        ("write_plan", WRITTEN_EMPTY, &holding::CHECKS),
+        ("write_plan", WRITTEN_SORTS, &holding::SORTS),
+        ("check_plan", CHECKED_TWICE, &["8", "10", "12:lengths", "12:step", "14"]),
         ("write_plan", WRITTEN_ENDS, &ENDS),
-        ("write_plan", WRITTEN_TWICE, &["8", "10", "12:lengths", "12:step", "short"]),
-        ("write_plan", WRITTEN_LENGTHS, &LONGEST),
+        ("write_plan", WRITTEN_TWICE, &["8", "10", "12:lengths", "12:step", "14", "short"]),
+        ("write_plan", WRITTEN_LENGTHS, &written_lengths),
         ("read_plan", READ_ENDS, &SETS),
         ("read_plan", READ_ENDINGS, &endings),
         ("read_plan", READ_TWICE, &["10-first", "11-short", "surplus-short"]),
@@ -1551,6 +1642,11 @@ fn tables() -> Vec<(&'static str, &'static str, Vec<&'static str>)> {
         tables.push((FUNCTIONS[function], numbers, booked::NUMBERS.to_vec()));
         tables.push((FUNCTIONS[function], twice, booked::twice_names(&refusals)));
     }
+    for (function, kinds, twice) in HELD_TABLES {
+        let name = FUNCTIONS[function];
+        tables.push((name, kinds, holding::HOLDINGS.to_vec()));
+        tables.push((name, twice, holding::twice_names(name)));
+    }
     tables
 }
 
@@ -1560,11 +1656,11 @@ const OUTCOMES: [&[&str]; FUNCTIONS.len()] = [
     &["ok", "1", "2", "3", "4", "6", "9", "13"],
     &["ok", "9", "10:0", "10:1", "10:2", "10:3", "10:4+", "10:260", "13"],
     &["ok", "7", "9", "10:0", "10:1", "10:2", "10:3", "10:4+", "10:260", "13"],
-    &["ok", "7", "8", "9", "10:0", "10:1", "10:2", "10:4+", "10:260", "13"],
+    &["ok", "7", "8", "9", "10:0", "10:1", "10:2", "10:4+", "10:260", "13", "14"],
     &["ok", "8", "10:0", "10:1", "10:2", "10:4+", "10:260", "12:lengths", "12:step", "12:end",
-        "13"],
+        "13", "14"],
     &["ok", "8", "9", "10:0", "10:1", "10:2", "10:4+", "10:260", "12:lengths", "12:step",
-        "12:end", "13"],
+        "12:end", "13", "14"],
     &["ok", "9", "10:1", "10:2", "11"],
     &["ok", "10:1", "10:2", "11"],
     &["ok", "1", "2", "3", "4", "6", "7", "9", "13"],
@@ -1602,9 +1698,9 @@ const OUTCOMES_WITHOUT_TESTS: [&[&str]; FUNCTIONS.len()] = [
     &["ok", "1", "2", "6", "13"],
     &["ok", "9", "10:0", "10:1", "10:3", "10:260", "13"],
     &["ok", "10:0", "10:1", "10:3", "10:260", "13"],
-    &["ok", "8", "10:0", "10:1", "10:260", "13"],
-    &["ok", "8", "10:0", "10:1", "10:260", "12:lengths", "12:end", "13"],
-    &["ok", "8", "10:0", "10:1", "10:260", "12:lengths", "12:end", "13"],
+    &["ok", "8", "10:0", "10:1", "10:260", "13", "14"],
+    &["ok", "8", "10:0", "10:1", "10:260", "12:lengths", "12:end", "13", "14"],
+    &["ok", "8", "9", "10:0", "10:1", "10:260", "12:lengths", "12:end", "13", "14"],
     &["ok", "10:1", "11"],
     &["ok", "10:1", "11"],
     &["ok", "1", "2", "6", "13"],
@@ -1635,6 +1731,7 @@ const OUTCOMES_WITHOUT_TESTS: [&[&str]; FUNCTIONS.len()] = [
 
 const SETS: [&str; 3] = ["empty", "some", "full"];
 const LONGEST: [&str; 2] = ["5121-bytes", "5121-bytes-short"];
+const LONGEST_HELD: [&str; 2] = ["5130-bytes", "5130-bytes-short"];
 const LONGEST_JOB: [&str; 2] = ["2311-bytes", "2311-bytes-short"];
 const NUMBERS: [&str; 7] = ["at0", "at1-62", "at63", "at64", "at65", "at66+", "at-most"];
 

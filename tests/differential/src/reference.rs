@@ -300,6 +300,16 @@ fn none_too_wide(capacity: usize, wants: &[Curves]) -> Answer<()> {
     Ok(())
 }
 
+/// Refusal 14: the drive holds a curve that the job does not have; the lowest such.
+fn none_foreign(curves: usize, held: &Curves) -> Answer<()> {
+    for &curve in held {
+        if curve as usize >= curves {
+            return refuse(14, curve as usize);
+        }
+    }
+    Ok(())
+}
+
 /// 10 and 13 of places, booked places, curves and wants.
 pub fn examine(places: usize, booked: usize, curves: usize, wants: &[u64]) -> Answer<()> {
     handed(places, booked, curves, None, wants)
@@ -613,19 +623,21 @@ pub enum TieRule {
     Highest,
 }
 
-/// Our plan.
+/// Our plan, from what the drive holds at the start (wish 6).
+#[allow(clippy::too_many_arguments)]
 pub fn plan(
     places: usize,
     booked: usize,
     curves: usize,
     wants: &[u64],
+    held: u64,
     order: &[u16],
     drops_len: usize,
     loads_len: usize,
 ) -> Answer<Plan> {
     let rule = TieRule::Highest;
     plan_by(
-        rule, places, booked, curves, wants, order, drops_len, loads_len,
+        rule, places, booked, curves, wants, held, order, drops_len, loads_len,
     )
 }
 
@@ -637,11 +649,14 @@ pub fn plan_by(
     booked: usize,
     curves: usize,
     wants: &[u64],
+    held: u64,
     order: &[u16],
     drops_len: usize,
     loads_len: usize,
 ) -> Answer<Plan> {
     handed(places, booked, curves, None, wants)?;
+    let mut held = set_of(held);
+    none_foreign(curves, &held)?;
     each_test_once(wants.len(), order)?;
     let capacity = less_booked(places, booked);
     let sets = sets_of(wants);
@@ -653,12 +668,12 @@ pub fn plan_by(
         .iter()
         .map(|&test| sets[test as usize].clone())
         .collect();
-    let mut held = Curves::new();
     let mut all_drops = Vec::new();
     let mut all_loads = Vec::new();
     let mut count = 0;
     for (step, wanted) in steps.iter().enumerate() {
         let mut drops = Curves::new();
+        // In the first step also what is held above the places less booked.
         while union(&held, wanted).len() > capacity {
             let curve = furthest(rule, &held, wanted, &steps[step + 1..]);
             held.remove(&curve);
@@ -703,10 +718,10 @@ fn furthest(rule: TieRule, held: &Curves, wanted: &Curves, later: &[Curves]) -> 
     curve.expect("a test is never wider than the places less booked here")
 }
 
-/// What is held behind these steps, whatever they are: step after step, the drops are taken out and
-/// the loads put in.
-pub fn held_behind(drops: &[u64], loads: &[u64]) -> u64 {
-    let mut held = Curves::new();
+/// What is held behind these steps, whatever they are, if this is held before them: step after step,
+/// the drops are taken out and the loads put in.
+pub fn held_behind(held: u64, drops: &[u64], loads: &[u64]) -> u64 {
+    let mut held = set_of(held);
     for (&dropped, &loaded) in drops.iter().zip(loads) {
         for curve in set_of(dropped) {
             held.remove(&curve);
@@ -722,12 +737,16 @@ pub fn check_plan(
     booked: usize,
     curves: usize,
     wants: &[u64],
+    held: u64,
     order: &[u16],
     drops: &[u64],
     loads: &[u64],
     end: u64,
 ) -> Answer<u64> {
     handed(places, booked, curves, None, wants)?;
+    // At the start it may be more than the places less booked.
+    let mut held = set_of(held);
+    none_foreign(curves, &held)?;
     each_test_once(wants.len(), order)?;
     let mut length_faults = Vec::new();
     for list in [drops, loads] {
@@ -741,7 +760,6 @@ pub fn check_plan(
     if let Some(&position) = length_faults.iter().min() {
         return refuse(12, position);
     }
-    let mut held = Curves::new();
     let mut count = 0;
     for step in 0..wants.len() {
         let wanted = set_of(wants[order[step] as usize]);
@@ -811,13 +829,16 @@ pub fn write_plan(
     booked: usize,
     curves: usize,
     wants: &[u64],
+    held: u64,
     order: &[u16],
     drops: &[u64],
     loads: &[u64],
     end: u64,
     out_len: usize,
 ) -> Answer<Vec<u8>> {
-    check_plan(places, booked, curves, wants, order, drops, loads, end)?;
+    check_plan(
+        places, booked, curves, wants, held, order, drops, loads, end,
+    )?;
     let bytes = plan_bytes(order, drops, loads, end);
     if out_len < bytes.len() {
         return refuse(9, bytes.len());
@@ -1018,6 +1039,9 @@ pub fn step_bytes(curves: usize, tests: usize, plan: &[u8], position: usize) -> 
 /// Room for every list of a job.
 const LIST: usize = 256;
 
+/// What the drive holds at the start where no holding is handed over.
+const EMPTY: u64 = 0;
+
 /// A job as read, its order and our plan.
 pub type PlannedJob = (Job, Vec<u16>, Plan);
 
@@ -1025,7 +1049,8 @@ pub fn planned_job(job: &[u8]) -> Answer<PlannedJob> {
     let job = read_job(job, LIST)?;
     let (places, booked) = (job.places, job.booked);
     let order = order_tests(places, booked, job.curves, job.method, &job.wants, LIST)?;
-    let plan = plan(places, booked, job.curves, &job.wants, &order, LIST, LIST)?;
+    let (curves, wants) = (job.curves, &job.wants);
+    let plan = plan(places, booked, curves, wants, EMPTY, &order, LIST, LIST)?;
     Ok((job, order, plan))
 }
 
@@ -1041,6 +1066,7 @@ pub fn planned_bytes(planned: &Answer<PlannedJob>, plan_len: usize) -> Answer<Ve
         job.booked,
         job.curves,
         &job.wants,
+        EMPTY,
         order,
         &plan.drops,
         &plan.loads,
@@ -1142,15 +1168,17 @@ fn audit_of(job: &Job, plan: &[u8]) -> Answer<Audit> {
         job.booked,
         job.curves,
         &job.wants,
+        EMPTY,
         &order,
         &steps.drops(),
         &steps.loads(),
         steps.end_set(),
     )?;
-    let fewest = fewest_loads(job.places, job.booked, &job.wants, &order);
+    let fewest = fewest_loads(job.places, job.booked, &job.wants, EMPTY, &order);
     let tried = job.curves <= 5 && job.tests <= 8;
     if tried {
-        let least = least_loads(job.places, job.booked, job.curves, &job.wants, &order);
+        let (places, booked, curves) = (job.places, job.booked, job.curves);
+        let least = least_loads(places, booked, curves, &job.wants, EMPTY, &order);
         assert_eq!(Some(fewest), least, "{job:?}, order {order:?}");
     }
     Ok(Audit {
@@ -1164,8 +1192,9 @@ fn audit_of(job: &Job, plan: &[u8]) -> Answer<Audit> {
 /// the curve stays in the drive since its last use. To stay it takes one of the places that the
 /// booked ones and the tests between leave free. The stay that ends first is granted first: a later
 /// one that it shuts out would take, from the step on where they compete, every place that it takes.
+/// What is held at the start stays in the same way until its first use.
 /// No test is wider than the places less booked.
-pub fn fewest_loads(places: usize, booked: usize, wants: &[u64], order: &[u16]) -> u64 {
+pub fn fewest_loads(places: usize, booked: usize, wants: &[u64], held: u64, order: &[u16]) -> u64 {
     let steps: Vec<Curves> = order
         .iter()
         .map(|&test| set_of(wants[test as usize]))
@@ -1179,11 +1208,15 @@ pub fn fewest_loads(places: usize, booked: usize, wants: &[u64], order: &[u16]) 
             .filter(|&step| steps[step].contains(&curve))
             .collect();
         loads += uses.len() as u64;
-        stays.extend(uses.windows(2).map(|pair| (pair[1], pair[0])));
+        // The use that ends a stay, and the first step between.
+        stays.extend(uses.windows(2).map(|pair| (pair[1], pair[0] + 1)));
+        if set_of(held).contains(&curve) {
+            stays.extend(uses.first().map(|&first| (first, 0)));
+        }
     }
     stays.sort();
     for (end, start) in stays {
-        let between = &mut free[start + 1..end];
+        let between = &mut free[start..end];
         if between.iter().all(|&places| places > 0) {
             between.iter_mut().for_each(|places| *places -= 1);
             loads -= 1;
@@ -1210,13 +1243,15 @@ pub fn audit_text(answer: &Result<Audit, Refused>) -> String {
 
 /// Whether a plan passes the check, told curve by curve: each curve of the 64 goes through the
 /// steps on its own, and the steps only count how many places are taken: those booked, and one for
-/// each curve they hold. Behind the last test a curve is in the end set exactly if it is inside.
+/// each curve they hold. Behind the last test a curve is in the end set exactly if it is inside. What is
+/// held at the start names only curves of the job.
 #[allow(clippy::too_many_arguments)]
 pub fn passes(
     places: usize,
     booked: usize,
     curves: usize,
     wants: &[u64],
+    held: u64,
     order: &[u16],
     drops: &[u64],
     loads: &[u64],
@@ -1232,7 +1267,7 @@ pub fn passes(
     let mut taken = vec![booked; tests];
     for curve in 0..64 {
         let has = |set: u64| (set >> curve) & 1 == 1;
-        let mut inside = false;
+        let mut inside = has(held);
         for step in 0..tests {
             let wanted = has(wants[order[step] as usize]);
             match (inside, has(drops[step]), has(loads[step])) {
@@ -1259,22 +1294,23 @@ pub fn passes(
     taken.iter().all(|&number| number <= places)
 }
 
-/// The fewest loads of ANY plan for this job and order that passes the check, by trying every
-/// drop set and every load set from every set that can be held, and behind the last test every end
-/// set. So only plans that end empty are compared. What a step holds and the booked places fit the
-/// places. `None`: no plan passes.
+/// The fewest loads of ANY plan for this job and order that passes the check from what is held at the
+/// start, by trying every drop set and every load set from every set that can be held, and behind the
+/// last test every end set. So only plans that end empty are compared. What a step holds and the booked
+/// places fit the places; what is held at the start need not. `None`: no plan passes.
 /// For small jobs: curves up to about 8.
 pub fn least_loads(
     places: usize,
     booked: usize,
     curves: usize,
     wants: &[u64],
+    held: u64,
     order: &[u16],
 ) -> Option<u64> {
     let all = 1usize << curves;
     // fewest[h]: fewest loads so far with h held.
     let mut fewest: Vec<Option<u64>> = vec![None; all];
-    fewest[0] = Some(0);
+    fewest[held as usize] = Some(0);
     for &test in order {
         let wanted = wants[test as usize] as usize;
         let mut then: Vec<Option<u64>> = vec![None; all];

@@ -81,7 +81,7 @@ fn our_plan() {
     assert_eq!(call_bytes(&job, PLAN_MADE), Ok(plan.clone()));
     assert_eq!(stored("audit", "lowest_on_ties", "job"), job);
     let (job, order, _) = planned_job(&job).unwrap();
-    let plans = both_plans(job.places, job.booked, job.curves, &job.wants, &order);
+    let plans = both_plans(job.places, job.booked, job.curves, &job.wants, 0, &order);
     let (lowest, _) = plans.unwrap();
     let bytes = plan_bytes(&order, &lowest.drops, &lowest.loads, lowest.end);
     assert_eq!(stored("audit", "lowest_on_ties", "plan"), bytes);

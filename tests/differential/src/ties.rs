@@ -18,13 +18,21 @@ pub struct Parting {
     pub further_drops: usize,
 }
 
-/// Where the plans of the two rules part for one list and order; `None`: nowhere, so they are one plan.
-pub fn parting(wants: &[u64], order: &[u16], lowest: &Plan, highest: &Plan) -> Option<Parting> {
+/// Where the plans of the two rules part for one list, holding and order; `None`: nowhere, so they are
+/// one plan.
+pub fn parting(
+    wants: &[u64],
+    held: u64,
+    order: &[u16],
+    lowest: &Plan,
+    highest: &Plan,
+) -> Option<Parting> {
     let step = (0..order.len()).find(|&step| lowest.drops[step] != highest.drops[step])?;
     let wanted = |step: usize| set_of(wants[order[step] as usize]);
     let next_use =
         |curve: u8| (step + 1..order.len()).find(|&later| wanted(later).contains(&curve));
-    let held = set_of(held_behind(&highest.drops[..step], &highest.loads[..step]));
+    let (drops, loads) = (&highest.drops[..step], &highest.loads[..step]);
+    let held = set_of(held_behind(held, drops, loads));
     let drops = set_of(highest.drops[step]);
     let others = set_of(lowest.drops[step]);
     // A curve that only one of the two drops is one of the tied.
@@ -51,10 +59,11 @@ pub fn both_plans(
     booked: usize,
     curves: usize,
     wants: &[u64],
+    held: u64,
     order: &[u16],
 ) -> Option<(Plan, Plan)> {
-    let tests = wants.len();
-    let made = |rule| plan_by(rule, places, booked, curves, wants, order, tests, tests).ok();
+    let n = wants.len();
+    let made = |rule| plan_by(rule, places, booked, curves, wants, held, order, n, n).ok();
     Some((made(TieRule::Lowest)?, made(TieRule::Highest)?))
 }
 
@@ -111,20 +120,22 @@ impl Parting {
     }
 }
 
-/// The kinds of a list and order with our plan, which has to have the load count of the other rule's.
+/// The kinds of a list, holding and order with our plan, which has to have the load count of the other
+/// rule's.
 pub fn kinds(
     places: usize,
     booked: usize,
     curves: usize,
     wants: &[u64],
+    held: u64,
     order: &[u16],
     ours: &Plan,
 ) -> Vec<&'static str> {
-    let (rule, tests) = (TieRule::Lowest, wants.len());
-    let lowest = plan_by(rule, places, booked, curves, wants, order, tests, tests)
+    let (rule, n) = (TieRule::Lowest, wants.len());
+    let lowest = plan_by(rule, places, booked, curves, wants, held, order, n, n)
         .expect("refused under both rules or neither");
     assert_eq!(lowest.count, ours.count);
-    match parting(wants, order, &lowest, ours) {
+    match parting(wants, held, order, &lowest, ours) {
         None => vec!["one-plan"],
         Some(parting) => parting.kinds(),
     }

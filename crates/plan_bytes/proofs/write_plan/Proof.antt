@@ -14,20 +14,20 @@ use Rattle.plan_bytes.proofs.write_plan.Tie as tie
 
 returns : tie.Need-returns
 unfolding countOutcome writePlanAnswer writePlanBuffer
-returns c = made-refused _ _ _ _ (unchecked _ _ _ _ _ (count-refused _ _ _ (c .before .before .before .check-plan .ensures) (c .before .r .given .1)) _)
+returns c = made-refused _ _ _ _ (unchecked _ _ _ _ _ _ (count-refused _ _ _ (c .before .before .before .check-plan .ensures) (c .before .r .given .1)) _)
 
 -- the plan passed its check
 checked : (c : tie.After-enum-told)
     → let a = c .before .before .before .before .before .before .before .before .args in
-    checking (jobOf (a .rig) (now (a .wants))) (now (a .order)) (planOf (now (a .drops)) (now (a .loads)) (a .end)) ≡ done (c .enum-told .given .0 .0)
+    checking (jobOf (a .rig) (now (a .wants))) (a .held) (now (a .order)) (planOf (now (a .drops)) (now (a .loads)) (a .end)) ≡ done (c .enum-told .given .0 .0)
 checked c = count-done _ _ _ (c .before .before .check-plan .ensures) (c .enum-told .given .1)
 
 write-fitting-requires : tie.Need-write-fitting-requires
-write-fitting-requires c κs = let w = passed-writable _ _ _ _ (checked (c .before)) in (w .tests, ((w .drop-sets, w .load-sets), w .few))
+write-fitting-requires c κs = let w = passed-writable _ _ _ _ _ (checked (c .before)) in (w .tests, ((w .drop-sets, w .load-sets), w .few))
 
 returns-2 : tie.Need-returns-2
 unfolding writePlanAnswer writePlanBuffer
-returns-2 c = rw (plan-fitting _ _ _ _ (checked (c .before .before .before .before))) (c .before .before .write-fitting .ensures)
+returns-2 c = rw (plan-fitting _ _ _ _ _ (checked (c .before .before .before .before))) (c .before .before .write-fitting .ensures)
 
 pub write-plan-spec : {M : Type 1} → statement M
 write-plan-spec =

@@ -60,12 +60,12 @@ returns-2 c =
     let p = c .before .before .before .before .plan-tests .ensures in
     let e = h .capacity .ensures in
     let order = take (a .head .tests) (t .last .1 .1 .1 .0) in
-    let answered : _ ≡ testsAnswer (h .capacity .result) (now (a .wants)) order lent = p .0 in (
-      rw o (answered ∙ ap (λ (n : ℕ). testsAnswer n (now (a .wants)) order lent) e ∙ tests-answer _ _ lent k ∙ plan-answer q (s .pre .0 .1) _ lent long),
+    let answered : _ ≡ testsAnswer (h .capacity .result) (now (a .wants)) 0 order lent = p .0 in (
+      rw o (answered ∙ ap (λ (n : ℕ). testsAnswer n (now (a .wants)) 0 order lent) e ∙ tests-answer _ _ _ lent k ∙ plan-answer q (s .pre .0 .1) _ lent long),
       (
         t .ensures .1
             ∙ order-left q (s .pre .0 .1) (now (a .order)) (omega (arith, s .pre .0 .0, s .pre .1 .0)),
-        rw o (p .1 ∙ ap (λ (n : ℕ). testsLists n (now (a .wants)) order lent) e ∙ tests-lists _ _ lent k ∙ plan-left q (s .pre .0 .1) _ lent long),
+        rw o (p .1 ∙ ap (λ (n : ℕ). testsLists n (now (a .wants)) 0 order lent) e ∙ tests-lists _ _ _ lent k ∙ plan-left q (s .pre .0 .1) _ lent long),
       ),
     )
 

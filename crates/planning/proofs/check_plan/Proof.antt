@@ -22,7 +22,7 @@ use Rattle.planning.proofs.check_plan.Tie as tie
 
 -- behind each examination
 passed : (c : tie.After-enum-told) → let a =
-    c .before .before .before .before .before .before .before .args in checkingKnown (jobOf (a .rig) (now (a .wants))) (now (a .order)) ≡ done tt
+    c .before .before .before .before .before .before .before .args in checkingKnown (jobOf (a .rig) (now (a .wants))) (a .held) (now (a .order)) ≡ done tt
 passed c = examined-passed _ _ (c .enum-told .given .1) (c .before .before .examine-checking .ensures)
 
 sets-passed : (c : tie.After-enum-told2)
@@ -32,19 +32,19 @@ sets-passed c = examined-passed _ _ (c .enum-told2 .given .1) (c .before .before
 
 returns : tie.Need-returns
 unfolding countOutcome
-returns c = sym (check-refused _ _ _ _ _ (examined-refused _ _ _ (c .before .r .given .1) (c .before .before .before .examine-checking .ensures)))
+returns c = sym (check-refused _ _ _ _ _ _ (examined-refused _ _ _ (c .before .r .given .1) (c .before .before .before .examine-checking .ensures)))
 
 returns-2 : tie.Need-returns-2
 unfolding countOutcome
 returns-2 c =
-    sym (check-sets _ _ _ (passed (c .before .before .before .before)) _ _
+    sym (check-sets _ _ _ _ (passed (c .before .before .before .before)) _ _
     (examined-refused _ _ _ (c .before .r2 .given .1) (c .before .before .before .examine-sets .ensures)))
 
 -- the local list has an entry for each test
 enough : (c : tie.After-steps2)
     → length (now (c .before .before .before .before .before .before .before .before .before .before .before .before .before .args .wants)) ≤ length
     (c .before .in-order .last .1 .1 .0)
-enough c = omega (arith, c .before .in-order .kept .1 .1 .0, known-exact _ _ (passed (c .before .before .before .before .before .before)) .0 .tests-bound)
+enough c = omega (arith, c .before .in-order .kept .1 .1 .0, known-exact _ _ _ (passed (c .before .before .before .before .before .before)) .0 .tests-bound)
 
 array-share-prefix-steps : tie.Need-array-share-prefix-steps
 array-share-prefix-steps c = omega (arith, enough (c .before .before))
@@ -61,27 +61,27 @@ slice-aggregate-check-steps c =
 -- what was answered of the steps
 checked : (c : tie.After-check-steps)
     → let a = c .before .before .before .before .before .before .before .before .before .before .before .before .before .before .before .before .before .args in
-    c .check-steps .result ≡ checkFrom (capacity (a .rig)) (allCurves (a .rig .curves)) 0 0
+    c .check-steps .result ≡ checkFrom (capacity (a .rig)) (allCurves (a .rig .curves)) 0 (a .held)
     (moves (inOrder (now (a .wants)) (now (a .order))) (now (a .drops)) (now (a .loads)))
 checked c =
     let s = c .before .before .before .before .before in
     let k = s .before .before .before .before .before in
     let a = k .before .before .before .before .before .before .before .args in
     let j = jobOf (a .rig) (now (a .wants)) in
-    let is = known-exact j (now (a .order)) (passed k) .0 in
+    let is = known-exact j (a .held) (now (a .order)) (passed k) .0 in
     let ms : List ℕ → List Move = λ ws. moves ws (now (a .drops)) (now (a .loads)) in
     let few : min (a .rig .curves) 64 ≡ a .rig .curves = omega (arith, is .curves-bounds) in
     let b = c .before .before .before .below in
     let all : b .result ≡ allCurves (a .rig .curves) = b .ensures ∙ ap (λ (n : ℕ). 2 ^ n - 1) few in
     let steps : take (length (now (a .wants))) (s .in-order .last .1 .1 .0) ≡ inOrder (now (a .wants)) (now (a .order)) =
-    ap (take (length (now (a .wants)))) (s .in-order .ensures) ∙ first-steps j (now (a .order)) (passed k) _ (omega (arith, is .tests-bound)) in
+    ap (take (length (now (a .wants)))) (s .in-order .ensures) ∙ first-steps j (a .held) (now (a .order)) (passed k) _ (omega (arith, is .tests-bound)) in
     let ws = take (length (now (a .wants))) (s .in-order .last .1 .1 .0) in
     let p = c .before .before .capacity in
-    let answered : c .check-steps .result ≡ checkFrom (p .result) (b .result) 0 0 (ms ws) = c .check-steps .ensures in
+    let answered : c .check-steps .result ≡ checkFrom (p .result) (b .result) 0 (a .held) (ms ws) = c .check-steps .ensures in
     answered
-    ∙ ap (λ (n : ℕ). checkFrom n (b .result) 0 0 (ms ws)) (p .ensures)
-    ∙ ap (λ (x : ℕ). checkFrom (capacity (a .rig)) x 0 0 (ms ws)) all
-    ∙ ap (λ (ws : List ℕ). checkFrom (capacity (a .rig)) (allCurves (a .rig .curves)) 0 0 (ms ws)) steps
+    ∙ ap (λ (n : ℕ). checkFrom n (b .result) 0 (a .held) (ms ws)) (p .ensures)
+    ∙ ap (λ (x : ℕ). checkFrom (capacity (a .rig)) x 0 (a .held) (ms ws)) all
+    ∙ ap (λ (ws : List ℕ). checkFrom (capacity (a .rig)) (allCurves (a .rig .curves)) 0 (a .held) (ms ws)) steps
 
 -- the end set is compared with what is held
 returns-3 : tie.Need-returns-3
@@ -90,19 +90,19 @@ returns-3 c =
     let h = c .before .before in
     let s = h .before .before in
     let t = s .before .before .before .before .before .before .before in
-    sym (check-other-end _ _ _ (passed (t .before .before .before)) (sets-passed t) _ (sym (checked s) ∙ h .held .given .1) (c .if1 .taken))
+    sym (check-other-end _ _ _ _ (passed (t .before .before .before)) (sets-passed t) _ (sym (checked s) ∙ h .left .given .1) (c .if1 .taken))
 
 count-curves-requires : tie.Need-count-curves-requires
 count-curves-requires c κs =
     let t = c .before .before .before .before .before .before .before .before .before .before .before in
-    omega (arith, sets-long _ _ _ (sets-passed t), known-exact _ _ (passed (t .before .before .before)) .0 .tests-bound)
+    omega (arith, sets-long _ _ _ (sets-passed t), known-exact _ _ _ (passed (t .before .before .before)) .0 .tests-bound)
 
 returns-4 : tie.Need-returns-4
 unfolding countOutcome
 returns-4 c =
     let s = c .before .before .before in
     let t = s .before .before .before .before .before .before .before in
-    sym (check-broken _ _ _ (passed (t .before .before .before)) (sets-passed t) _ (sym (checked s) ∙ c .before .i .given .1))
+    sym (check-broken _ _ _ _ (passed (t .before .before .before)) (sets-passed t) _ (sym (checked s) ∙ c .before .i .given .1))
 
 returns-5 : tie.Need-returns-5
 unfolding countOutcome
@@ -111,7 +111,7 @@ returns-5 c =
     let s = h .before .before in
     let t = s .before .before .before .before .before .before .before in
     rw (c .count-curves .ensures)
-    (sym (check-ended _ _ _ (passed (t .before .before .before)) (sets-passed t) _ (sym (checked s) ∙ h .held .given .1) (c .before .if1 .left)))
+    (sym (check-ended _ _ _ _ (passed (t .before .before .before)) (sets-passed t) _ (sym (checked s) ∙ h .left .given .1) (c .before .if1 .left)))
 
 pub check-plan-spec : {M : Type 1} → statement M
 check-plan-spec =

@@ -16,19 +16,19 @@ returns : tie.Need-returns
 unfolding planOutcome
 returns c =
     let a = c .before .before .before .before .before .args in
-    too-many (a .capacity) (now (a .wants)) (now (a .order)) (setLists (now (a .drops)) (now (a .loads))) (omega arith)
+    too-many (a .capacity) (now (a .wants)) (a .held) (now (a .order)) (setLists (now (a .drops)) (now (a .loads))) (omega arith)
 
 returns-2 : tie.Need-returns-2
 unfolding planOutcome
 returns-2 c =
     let a = c .before .before .before .before .before .before .args in
-    too-short (a .capacity) (now (a .wants)) (now (a .order)) (setLists (now (a .drops)) (now (a .loads))) (omega arith) (omega arith)
+    too-short (a .capacity) (now (a .wants)) (a .held) (now (a .order)) (setLists (now (a .drops)) (now (a .loads))) (omega arith) (omega arith)
 
 returns-3 : tie.Need-returns-3
 unfolding planOutcome
 returns-3 c =
     let a = c .before .before .before .before .before .before .before .args in
-    too-short (a .capacity) (now (a .wants)) (now (a .order)) (setLists (now (a .drops)) (now (a .loads))) (omega arith) (omega arith)
+    too-short (a .capacity) (now (a .wants)) (a .held) (now (a .order)) (setLists (now (a .drops)) (now (a .loads))) (omega arith) (omega arith)
 
 -- the first entries of the local list are the steps' wants
 steps-are : (c : tie.After-in-order)
@@ -62,7 +62,7 @@ unfolding planOutcome
 returns-4 c =
     let p = c .before .before .before .before .before .before in
     let a = p .before .before .before .before .before .before .before .before .before .before .before .before .before .before .args in
-    planned (a .capacity) (now (a .wants)) (now (a .order)) (setLists (now (a .drops)) (now (a .loads))) (omega arith) (omega arith) _ _ _ _ _
+    planned (a .capacity) (now (a .wants)) (a .held) (now (a .order)) (setLists (now (a .drops)) (now (a .loads))) (omega arith) (omega arith) _ _ _ _ _
     (steps-are (p .before .before .before .before .before)) (p .plan-steps .ensures .0) (p .plan-steps .ensures .1 .0) (p .plan-steps .ensures .1 .1)
     (c .count-curves .ensures)
 

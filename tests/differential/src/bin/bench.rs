@@ -207,6 +207,7 @@ fn time_library(kind: &Kind, jobs: &[&[u8]; 4], clock: u64, least: &mut Stages) 
             0,
             CURVES,
             wants,
+            0,
             black_box(&order[..tests]),
             &mut drops,
             &mut loads,
