@@ -1,4 +1,4 @@
-// Document 01's examples of plans and orders, run through planning; each answer is proved to be the paper's.
+// Document 01's examples of plans and orders, and one of 02, run through planning; each answer is proved to be the paper's.
 use job::Rig;
 use planning::PlanCounted;
 ghost use mathlib.Core.Path.{_≡_};
@@ -154,6 +154,31 @@ fn missing_test() -> bool
     }
 }
 
+// 02, wish 6: the rest {3} {0,4} {3,4}, with 0 1 2 3 held and two of four places booked: step 0 drops 1 and 2; 2 loads.
+fn from_halfway() -> bool
+    ensures { λ r. ⌜ r ≡ true ⌝ }
+{
+    let wants = [8u64, 17, 24];
+    let order = [0u16, 1, 2];
+    let mut drops = [0u64; 3];
+    let mut loads = [0u64; 3];
+    match planning::plan(
+        Rig {
+            places: 4,
+            booked: 2,
+            curves: 6,
+        },
+        &wants,
+        15,
+        &order,
+        &mut drops,
+        &mut loads,
+    ) {
+        PlanCounted::Refused(_) => false,
+        PlanCounted::Count(n, _) => n == 2 && drops[0] == 6,
+    }
+}
+
 fn main() {
     check::expect(furthest_use());
     check::expect(nothing_dropped());
@@ -161,4 +186,5 @@ fn main() {
     check::expect(too_large());
     check::expect(repeated_test());
     check::expect(missing_test());
+    check::expect(from_halfway());
 }

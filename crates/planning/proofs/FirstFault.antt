@@ -14,7 +14,7 @@ use Rattle.job.specs.Order.{orderKnown}
 use Rattle.job.specs.Calls.{checkingKnown}
 use Rattle.job.proofs.Laws.{refused≢done, refused-same, refused-split}
 use Rattle.job.proofs.Faults.{First}
-use Rattle.job.proofs.Refuses.{refuses, HandedRefusal, job-by-refuses, HeldRefusal, held-refuses}
+use Rattle.job.proofs.Refuses.{Refuses, refuses, refuses-more, refuses-both, HandedRefusal, job-by-refuses, HeldRefusal, held-refuses}
 use Rattle.job.proofs.OrderExact.{order-refuses}
 use Rattle.drive.specs.declared.Checked.{Checked}
 use Rattle.drive.specs.declared.Checked.the-variants.{Ends, Breaks}
@@ -87,25 +87,20 @@ module _ (j : Job) (held : ℕ) (order : List ℕ) (p : Plan) (i : ℕ) where
       go (no q) = (refused-same (sym e ∙ end-other j held order p q), q)
 
   -- job, holding and order are not refused by 12
-  known-refuses : checkingKnown j held order ≡ refused 12 i → ⊥
+  abbrev Other : ℕ → ℕ → Type 0
+  Other k i = k ≡ 12 → ⊥
+
+  known-refuses : Refuses Other (checkingKnown j held order)
   unfolding checkingKnown
-  known-refuses e = go (refused-split (jobKnown j) _ 12 i e)
+  known-refuses =
+      refuses-both Other _ _ (refuses-more HandedRefusal Other (jobKnown j) by-job (job-by-refuses 0 j))
+      (refuses-both Other _ _
+      (refuses-more HeldRefusal Other (heldKnown (j .rig .curves) held) (λ k i h e. omega (arith, h .0)) (held-refuses (j .rig .curves) held))
+      (refuses-more (λ k i. k ≡ 8) Other (orderKnown n order) (λ k i h e. omega arith) (order-refuses n [] order)))
     where
-      other : HandedRefusal 12 i → ⊥
-      other (inl k) = omega (arith, k .0)
-      other (inr k) = omega (arith, k .0)
-
-      behind : (heldKnown (j .rig .curves) held ≡ refused 12 i)
-          ⊎ ((x : Unit {0}) × (heldKnown (j .rig .curves) held ≡ done x) × (orderKnown n order ≡ refused 12 i))
-          → ⊥
-      behind (inl e) = omega (arith, refuses HeldRefusal _ 12 i (held-refuses (j .rig .curves) held) e .0)
-      behind (inr x) = omega (arith, refuses (λ k i. k ≡ 8) _ 12 i (order-refuses n [] order) (x .2))
-
-      go : (jobKnown j ≡ refused 12 i)
-          ⊎ ((x : Unit {0}) × (jobKnown j ≡ done x) × (_>>_ (heldKnown (j .rig .curves) held) (orderKnown n order) ≡ refused 12 i))
-          → ⊥
-      go (inl e) = other (refuses HandedRefusal _ 12 i (job-by-refuses 0 j) e)
-      go (inr x) = behind (refused-split (heldKnown (j .rig .curves) held) _ 12 i (x .2))
+      by-job : (k i : ℕ) → HandedRefusal k i → Other k i
+      by-job k i (inl h) e = omega (arith, h .0)
+      by-job k i (inr h) e = omega (arith, h .0)
 
   by-end : (endKnown j held order p ≡ refused 12 i) ⊎ ((x : Unit {0}) × (endKnown j held order p ≡ done x) × (done (curveCount (p .loads)) ≡ refused 12 i))
       → (i ≡ n) × (p .end ≡ heldAfter held (planSets j order p) → ⊥)
@@ -136,7 +131,7 @@ module _ (j : Job) (held : ℕ) (order : List ℕ) (p : Plan) (i : ℕ) where
 
       by-known : (checkingKnown j held order ≡ refused 12 i) ⊎ ((x : Unit {0}) × (checkingKnown j held order ≡ done x) × (set-check ≡ refused 12 i))
           → Rejected j held order p i
-      by-known (inl e) = absurd (known-refuses e)
+      by-known (inl e) = absurd (refuses Other _ 12 i known-refuses e refl)
       by-known (inr x) =
           let k = known-exact j held order (x .1) in
           record { is-job = k .0; is-holding = k .1; is-order = k .2; fault = by-sets (refused-split (setsKnown n d l) step-check 12 i (x .2)) }
