@@ -21,15 +21,15 @@ use Rattle.planning.proofs.Demand3.{given}
 
 -- ---- the first k steps of a plan that passes
 
-first-kept : {capacity all h : ℕ} {ms : List Move} (k : ℕ) → AllKept capacity all h ms → AllKept capacity all h (take k ms)
-first-kept zero ok = AllKept.none
-first-kept (suc k) AllKept.none = AllKept.none
-first-kept (suc k) (AllKept.step ok r) = AllKept.step ok (first-kept k r)
+kept-before : {capacity all h : ℕ} {ms : List Move} (k : ℕ) → AllKept capacity all h ms → AllKept capacity all h (take k ms)
+kept-before zero ok = AllKept.none
+kept-before (suc k) AllKept.none = AllKept.none
+kept-before (suc k) (AllKept.step ok r) = AllKept.step ok (kept-before k r)
 
-first-sets : (k : ℕ) (ms : List Move) → setsOf (take k ms) ≡ take k (setsOf ms)
-first-sets zero ms = refl
-first-sets (suc k) [] = refl
-first-sets (suc k) (m ∷ ms) = ap (λ (ss : List Sets). m .sets ∷ ss) (first-sets k ms)
+sets-before : (k : ℕ) (ms : List Move) → setsOf (take k ms) ≡ take k (setsOf ms)
+sets-before zero ms = refl
+sets-before (suc k) [] = refl
+sets-before (suc k) (m ∷ ms) = ap (λ (ss : List Sets). m .sets ∷ ss) (sets-before k ms)
 
 pub rest-held : (j : Job) (held : ℕ) (order : List ℕ) (p : Plan) (m : ℕ) → checking j held order p ≡ done m
     → (k : ℕ) → IsHolding j (heldAfter held (take k (planSets j order p)))
@@ -37,8 +37,8 @@ rest-held j held order p m e k =
     let ok = passed j held order p m e in
     let all = allCurves (j .rig .curves) in
     let own = in-range (j .rig .curves) held (ok .is-holding) in
-    let kept : heldAfter held (setsOf (take k (planMoves j order p))) ≼ all = held-≼ own (first-kept k (ok .steps)) in
-    let of-curves : heldAfter held (take k (planSets j order p)) ≼ all = rw (first-sets k (planMoves j order p)) at kept in
+    let kept : heldAfter held (setsOf (take k (planMoves j order p))) ≼ all = held-≼ own (kept-before k (ok .steps)) in
+    let of-curves : heldAfter held (take k (planSets j order p)) ≼ all = rw (sets-before k (planMoves j order p)) at kept in
     inside-below (j .rig .curves) _ (≼-inside _ all of-curves)
 
 -- ---- the plan behind its first k steps
