@@ -1,6 +1,6 @@
 /*
  * The rig's curve planner. The formats, the orders, the plan and the refusals are those of document 01, with the end step, the tie rule, the list without
- * tests, the booked places and the curves held at the start of document 02 (wishes 1 to 3, 5 and 6; wish 4 changes no answer).
+ * tests, the booked places, the curves held at the start, and looks and commits of document 02 (wishes 1 to 3 and 5 to 7; wish 4 changes no answer).
  *
  * One call goes from a job's bytes to its plan's bytes: curveplan_plan, in the archive libcurveplan.a. The other functions take the steps between one by one,
  * and are in libexports.a; the smaller parts of these are declared in curveplan_parts.h.
@@ -19,8 +19,8 @@
  * - All lists and buffers belong to the caller. Nothing is kept of them after the call, and what is `const` is only read.
  * - Under a refusal nothing lent changes. On success the entries behind the result keep their contents.
  * - The first condition that is met is the one that is answered; the refusals of a function are listed in the order in which they are asked.
- * - Nothing is allocated, no state is kept, and nothing outside the library is called but memcpy and memset: the functions may run in several threads at once
- *   on lists of their own.
+ * - Nothing is allocated, nothing is kept from call to call, and nothing outside the library is called but memcpy and memset: the functions may run in several
+ *   threads at once on lists of their own.
  * - Outside the contract: null pointers (for no entries, as in the lists of a job without tests, hand over any valid address with length 0), lists that
  *   overlap, lengths beyond what stands at the addresses.
  */
@@ -52,19 +52,20 @@ enum curveplan_refusal {
     CURVEPLAN_UNKNOWN_CURVE = 4,    /* a group byte names a curve that the job lacks; figure: its offset (plan, read_job) */
     CURVEPLAN_TRAILING_BYTES = 6,   /* bytes behind the last record, or behind the head without tests; figure: the offset of the first (plan, read_job) */
     CURVEPLAN_TEST_TOO_LARGE = 7,   /* a test wants more curves than there are places less booked; figure: the lowest such test (plan, order_tests,
-                                       plan_order) */
+                                       plan_order, make_state) */
     CURVEPLAN_BAD_ORDER = 8,        /* figure: the first position with a number out of range or seen before, or the first missing or surplus position, the
-                                       smaller (plan_order, check_plan, write_plan) */
+                                       smaller (plan_order, make_state, check_plan, write_plan) */
     CURVEPLAN_BUFFER_TOO_SMALL = 9, /* a lent list or buffer cannot take the result; figure: the entries that it needs (every call that fills one) */
     CURVEPLAN_BAD_ARGUMENT = 10,    /* a handed number; figure: 0 places (not 1 to 64), 1 curves (not 1 to 64), 2 more than 256 tests, 3 method (above 3),
                                        4 + t: the wants of test t name a curve that the job lacks, 260 booked (above 63); asked in this order (write_job,
-                                       order_tests; without the method plan_order, check_plan, write_plan; curves and tests only read_plan) */
+                                       order_tests; without the method plan_order, make_state, check_plan, write_plan; curves and tests only read_plan) */
     CURVEPLAN_BAD_PLAN_BYTES = 11,  /* figure: the offset of the first malformed or surplus byte; the length if a byte is owed (read_plan) */
     CURVEPLAN_PLAN_REJECTED = 12,   /* figure: the first missing or surplus position of the drops or loads, the smaller; else the first step that breaks a
                                        rule of the check; else the number of tests, where the end set is not what is held (check_plan, write_plan) */
     CURVEPLAN_TOO_MANY_BOOKED = 13, /* the booked places are not below the places; figure: the offset of their byte (plan, read_job), or 0, behind 10
-                                       (write_job, order_tests, plan_order, check_plan, write_plan) */
-    CURVEPLAN_UNKNOWN_HELD = 14     /* a curve is held that the job lacks; figure: the lowest such curve (plan_order, check_plan, write_plan) */
+                                       (write_job, order_tests, plan_order, make_state, check_plan, write_plan) */
+    CURVEPLAN_UNKNOWN_HELD = 14,    /* a curve is held that the job lacks; figure: the lowest such curve (plan_order, make_state, check_plan, write_plan) */
+    CURVEPLAN_NOT_NEXT = 15         /* a commit of a step that is not the next one, or after done; figure: how many steps were committed (commit) */
 };
 
 /* ---- the one call: archive libcurveplan.a */
@@ -136,6 +137,57 @@ uint64_t curveplan_order_tests(size_t places, size_t booked, size_t curves, size
  */
 uint64_t curveplan_plan_order(size_t places, size_t booked, size_t curves, const uint64_t *wants, size_t tests, uint64_t held, const uint16_t *order,
                               size_t order_len, uint64_t *drops, size_t drops_len, uint64_t *loads, size_t loads_len, uint64_t *end);
+
+/*
+ * A list of tests that is carried out step by step: where it stands. The host shows the next step (curveplan_look) before the drive moves, and names its
+ * position when it is carried out (curveplan_commit). The state lies with the host: numbers at fixed places, 2,080 bytes in all, and no addresses. It may be
+ * copied, and kept from one start of the host to the next. curveplan_make_state writes all of them, and a commit `held` and `committed`.
+ */
+struct curveplan_state {
+    uint64_t capacity;               /* places less booked */
+    uint64_t held;                   /* the curves now held */
+    uint64_t committed;              /* how many steps were committed, the end step among them: the position of the next step */
+    uint64_t tests;                  /* how many tests the list has */
+    uint64_t wants[CURVEPLAN_TESTS]; /* the wants of the steps, in the order of the steps; 0 behind the last */
+};
+
+/* Which step is the next, and which was carried out. A step may have neither drops nor loads, and has to be committed all the same. */
+enum curveplan_next {
+    CURVEPLAN_DONE = 0, /* none: all steps are committed */
+    CURVEPLAN_STEP = 1, /* the step of a test */
+    CURVEPLAN_END = 2   /* the end step, whose position is the number of tests; there is none where nothing is held behind the last test */
+};
+
+/* What a look shows, and what a commit answers. */
+struct curveplan_step {
+    uint64_t answer; /* one of curveplan_next; of a commit it is never CURVEPLAN_DONE, and may be a refusal */
+    uint64_t drops;  /* the curves that the step drops; the end step drops all that is held */
+    uint64_t loads;  /* the curves that it loads; 0 of the end step. Both are 0 where there is no step, and under a refusal */
+};
+
+/*
+ * Makes a state, of a list, an order of its tests and the curves held, in `*state`; answers the number of tests. No step is committed yet. Without tests and
+ * with nothing held it is done at once.
+ * Refusals: 10; 13; 14; 8; 7; those of curveplan_plan_order but 9.
+ */
+uint64_t curveplan_make_state(size_t places, size_t booked, size_t curves, const uint64_t *wants, size_t tests, uint64_t held, const uint16_t *order,
+                              size_t order_len, struct curveplan_state *state);
+
+/*
+ * Shows the next step, and changes nothing; it may be repeated. From a made state looks and commits in turn show and answer exactly the steps of the plan that
+ * curveplan_plan_order makes of the same numbers, and its end step where the end set is not 0; then a look says CURVEPLAN_DONE.
+ * It refuses nothing. Any other numbers are taken as a state too: `tests` above 256 counts as 256; with `committed` below it the next step is that of
+ * `wants[committed]`, by the rule of the plan for `capacity`, `held` and the wants behind it up to the last test, and where more would have to be dropped than
+ * are held and not wanted, all of these go; with `committed` equal to it the end step is the next, or none where nothing is held; with `committed` above it all
+ * is done.
+ */
+struct curveplan_step curveplan_look(const struct curveplan_state *state);
+
+/*
+ * Carries out the step at a position, which is that of the next step: what is held moves on, and one more step is committed. Answers what a look showed before.
+ * Refusals: 15 (in a state that was not made, with the figure modulo 2^48).
+ */
+struct curveplan_step curveplan_commit(struct curveplan_state *state, size_t position);
 
 /*
  * Checks a plan from anywhere, with its end set, from the curves held, and answers its load count: at most places less booked are held while a test runs, among

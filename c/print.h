@@ -1,4 +1,4 @@
-/* What steps.c and rest.c print with: sets, steps, answers and bytes, and what changed of a lent list. */
+/* What steps.c, rest.c and look.c print with: sets, steps, answers and bytes, and what changed of a lent list. */
 #ifndef PRINT_H
 #define PRINT_H
 
@@ -19,20 +19,32 @@ static inline void print_curves(uint64_t set)
     }
 }
 
+/* The step of a test. */
+static inline void print_test_step(size_t position, unsigned test, uint64_t drops, uint64_t loads)
+{
+    printf("%u: test %u drop", (unsigned)position, test);
+    print_curves(drops);
+    printf(" load");
+    print_curves(loads);
+    printf("\n");
+}
+
+/* The end step. */
+static inline void print_end_step(size_t position, uint64_t drops)
+{
+    printf("%u: end drop", (unsigned)position);
+    print_curves(drops);
+    printf("\n");
+}
+
 /* The steps, and the end step if something is held at the end. */
 static inline void print_steps(size_t tests, const uint16_t *order, const uint64_t *drops, const uint64_t *loads, uint64_t end)
 {
     for (size_t i = 0; i < tests; i++) {
-        printf("%u: test %u drop", (unsigned)i, order[i]);
-        print_curves(drops[i]);
-        printf(" load");
-        print_curves(loads[i]);
-        printf("\n");
+        print_test_step(i, order[i], drops[i], loads[i]);
     }
     if (end != 0) {
-        printf("%u: end drop", (unsigned)tests);
-        print_curves(end);
-        printf("\n");
+        print_end_step(tests, end);
     }
 }
 

@@ -8,7 +8,7 @@ use lib.Arith.{bin-ind}
 use lib.Bits.{and-le-l, and-le-r, and-comm, or-lt}
 use lib.Count.{ones-step, ones-le}
 use Rattle.bitset.specs.Set.{_∩_, _∪_, _∖_, _⊆_, size, bit}
-use Rattle.bitset.proofs.Bits.{bit-∩, bitwise, same-by-bits, sizes-le, sizes-eq, size-empty}
+use Rattle.bitset.proofs.Bits.{bit-∩, bit-empty, bitwise, same-by-bits, sizes-le, sizes-eq, size-empty}
 
 -- ---- parts
 
@@ -37,6 +37,9 @@ pub ∪-assoc : (a b c : ℕ) → a ∪ b ∪ c ≡ a ∪ (b ∪ c)
 
 pub ∖-∖ : (a b c : ℕ) → a ∖ b ∖ c ≡ a ∖ (b ∪ c)
 ∖-∖ a b c = same-by-bits (a ∖ b ∖ c) (a ∖ (b ∪ c)) (λ k. simp bitwise (omega arith))
+
+pub ∖-self : (a : ℕ) → a ∖ a ≡ 0
+∖-self a = same-by-bits (a ∖ a) 0 (λ k. simp bitwise (omega (arith, bit-empty k)))
 
 -- ---- bounds: sets of numbers below W are the numbers below 2 ^ W
 

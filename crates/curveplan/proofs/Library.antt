@@ -10,6 +10,8 @@ use Rattle.drive.proofs.Best.{either-tie}
 use Rattle.planning.proofs.Demand3.{demand3}
 use Rattle.planning.proofs.Rest.{rest-held, rest-planned}
 use Rattle.planning.proofs.Saved.{held-saves}
+use Rattle.stepping.proofs.Exact.{done-exact, carried-exact, not-next-exact, unchanged}
+use Rattle.stepping.proofs.Planned.{refused-as-planning, as-planned}
 use Rattle.plan_bytes.proofs.PlanRoundTrip.{plan-back, plan-read}
 use Rattle.curveplan.specs.Library.{Library}
 use Rattle.curveplan.proofs.Answers.{call-tells, call-planned, call-none}
@@ -33,6 +35,12 @@ library =
       rest-held = rest-held;
       rest-planned = rest-planned;
       held-saves = held-saves;
+      in-turn = as-planned;
+      state-refused = refused-as-planning;
+      all-done = λ s. done-exact (s .capacity) (s .held) (s .committed) _;
+      carried-out = carried-exact;
+      not-next = not-next-exact;
+      state-kept = unchanged;
       job-back = job-back;
       job-read = job-read;
       plan-back = plan-back;

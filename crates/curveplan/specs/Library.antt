@@ -1,6 +1,6 @@
 -- WHAT THE LIBRARY PROMISES, in one place. The contracts of its functions set every answer, and all that is lent, equal to the rules that are spoken of here.
 use mathlib.Core.Path.{_≡_}
-use mathlib.Core.Logic.{_↔_}
+use mathlib.Core.Logic.{_↔_, _⊎_}
 use mathlib.Core.List.{List, []}
 use Prim.Native.Nat.{ℕ, _+_, _*_, _/_, _%_, _^_, _≤_, _<_}
 use lib.ListN.{length, getD, take, drop, replicate}
@@ -18,9 +18,14 @@ use Rattle.ordering.specs.Ordering.{ordering}
 use Rattle.drive.specs.declared.Sets.{Sets}
 use Rattle.drive.specs.Steps.{heldAfter, curveCount, loadCount}
 use Rattle.drive.specs.Plan.{furthest, furthestLowest, planFrom}
-use Rattle.planning.specs.Plan.{Plan, SetLists, inOrder}
+use Rattle.planning.specs.Plan.{Plan, SetLists, first, CountEnd, inOrder}
 use Rattle.planning.specs.Planning.{planning, planAnswer, planLists, planSets, checking}
 use Rattle.planning.specs.Demand3.{Demand3}
+use Rattle.stepping.specs.declared.State.{State}
+use Rattle.stepping.specs.declared.NextStep.{NextStep}
+use Rattle.stepping.specs.declared.NextStep.the-variants.{Done}
+use Rattle.stepping.specs.Stepping.{stepWants, look, commit, afterCommit, making}
+use Rattle.stepping.specs.InTurn.{shown, InTurn}
 use Rattle.plan_bytes.specs.PlanBytes.{Contents, testsOf, planIn, planSteps, writePlan}
 use Rattle.curveplan.specs.Call.{jobToPlan, numberOf}
 
@@ -83,6 +88,22 @@ pub record Library : Type 0 where
   -- "without unloading": what is held costs no load, and saves at most one for each of its curves, beside the plan for the same order from an empty drive
   pub held-saves : (j : Job) (held : ℕ) (order : List ℕ) (lent : ℕ) (plan empty : List Sets) → planning j held order lent ≡ done plan
       → planning j 0 order lent ≡ done empty → (loadCount plan ≤ loadCount empty) × (loadCount empty ≤ size held + loadCount plan)
+  -- 02, wish 7: "From a made state, committing in turn yields exactly the plan's steps, end step included; then a look says done": the steps that planning
+  -- leaves in the lists lent to it, and the end set that it answers
+  pub in-turn : (j : Job) (held : ℕ) (order : List ℕ) (s : State) → making j held order ≡ done s → (lent : SetLists) (a : CountEnd)
+      → planAnswer j held order lent ≡ done a → InTurn s (shown (first (length (j .wants)) (planLists j held order lent) (a .end)))
+  -- "refused as in planning": with lists lent that are long enough, since none is lent for a state
+  pub state-refused : (j : Job) (held : ℕ) (order : List ℕ) (lent : ℕ) → length (j .wants) ≤ lent → (k i : ℕ)
+      → making j held order ≡ refused k i ↔ planning j held order lent ≡ refused k i
+  -- of every state, made or not. All is done exactly behind the end step, and in its place where nothing is held
+  pub all-done : (s : State) → look s ≡ Done ↔ ((length (stepWants s) < s .committed) ⊎ ((s .committed ≡ length (stepWants s)) × (s .held ≡ 0)))
+  -- "A commit names a step position, carries it out and answers the same sets as the look"
+  pub carried-out : (s : State) (position : ℕ) (l : NextStep) → commit s position ≡ done l ↔ ((position ≡ s .committed) × (look s ≡ l) × (l ≡ Done → ⊥))
+  -- "15, a commit whose position is not the next one, or after done, with the number of steps committed; it .. leaves the state unchanged", and no other
+  -- refusal
+  pub not-next : (s : State) (position k i : ℕ)
+      → commit s position ≡ refused k i ↔ ((k ≡ 15) × (i ≡ s .committed) × ((position ≡ s .committed → ⊥) ⊎ (look s ≡ Done)))
+  pub state-kept : (s : State) (position k i : ℕ) → commit s position ≡ refused k i → afterCommit s position ≡ s
   -- writing and reading undo each other: a job ..
   pub job-back : (method : ℕ) (j : Job) (lent : ℕ) (bytes : List ℕ) → writeJob method j lent ≡ done bytes → readBytes bytes ≡ done (request method j)
   pub job-read : (bs : List ℕ) (q : Request) → Bytes bs → readBytes bs ≡ done q → writeJob (q .head .method) (jobIn q) (length bs) ≡ done bs

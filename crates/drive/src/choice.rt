@@ -2,7 +2,7 @@
 ghost use mathlib.Core.Path.{_≡_};
 ghost use mathlib.Core.List.{List};
 ghost use Prim.Native.Nat.{ℕ, _+_, _-_, _^_, _≤_, _<_};
-ghost use lib.ListN.{length};
+ghost use lib.ListN.{length, getD};
 ghost use Rattle.bitset.specs.Set.{_∖_, size, bit};
 ghost use Rattle.lists.specs.Lent.{was, after};
 ghost use Rattle.drive.specs.Uses.{further};
@@ -74,7 +74,7 @@ fn left_after(same: u64, gone: usize) -> u64
 // ---- every candidate's next use
 
 // What some steps want together.
-pub(crate) fn together(wants: &[u64]) -> u64
+fn together(wants: &[u64]) -> u64
     ensures { λ r. ⌜ r ≡ together (was wants) ⌝ }
 {
     let mut all: u64 = 0;
@@ -84,6 +84,17 @@ pub(crate) fn together(wants: &[u64]) -> u64
         all = bitset::union(wants[i], all);
     }
     all
+}
+
+// What the steps after step i, which want `later`, want together: the entry of the list, where it has one.
+fn wanted_later(list: &[u64], i: usize, later: &[u64]) -> u64
+    requires { ⌜ (i < length (now list) → getD (now list) i 0 ≡ together (now later)) ⌝ }
+    ensures { λ r. ⌜ r ≡ together (was later) ⌝ }
+{
+    if i < list.len() {
+        return list[i];
+    }
+    together(later)
 }
 
 // 1 where the set has elements, else 0.
@@ -207,17 +218,18 @@ fn keep_from_near(excess: usize, candidates: u64, count: usize, groups: &[u64]) 
 
 // "If held and wanted curves together exceed the places, drop exactly the excess, from held curves that the test doesn't want"; where there are not more of
 // these, as where the test alone exceeds the places, all of them. The drops are chosen one by one, or those that stay are counted off, where these or the groups
-// are fewer. `used` is what the later steps want together; in `groups` and `when` the candidates are noted.
+// are fewer. What the later steps want together stands in entry i of the list, where it has one; in `groups` and `when` the candidates are noted.
 pub(crate) fn drops_with(
     capacity: usize,
     held: u64,
     want: u64,
-    used: u64,
+    list: &[u64],
+    i: usize,
     later: &[u64],
     groups: &mut [u64],
     when: &mut [usize],
 ) -> u64
-    requires { ⌜ (used ≡ together (now later)) × ((64 ≤ length (now groups)) × (64 ≤ length (now when))) ⌝ }
+    requires { ⌜ (i < length (now list) → getD (now list) i 0 ≡ together (now later)) × ((64 ≤ length (now groups)) × (64 ≤ length (now when))) ⌝ }
     ensures { λ r. ⌜ r ≡ dropsFor (furthest 64) capacity held want (was later) ⌝ }
 {
     let all = bitset::size(bitset::union(held, want));
@@ -230,6 +242,7 @@ pub(crate) fn drops_with(
     if size <= excess {
         return candidates;
     }
+    let used = wanted_later(list, i, later);
     let count = find_uses(candidates, used, later, groups, when);
     if size - excess < excess || count < excess {
         return keep_from_near(excess, candidates, count, groups);
@@ -240,22 +253,5 @@ pub(crate) fn drops_with(
         count,
         groups,
         when,
-    )
-}
-
-// The drops of a step by itself.
-pub fn drops_for(capacity: usize, held: u64, want: u64, later: &[u64]) -> u64
-    ensures { λ r. ⌜ r ≡ dropsFor (furthest 64) capacity held want (was later) ⌝ }
-{
-    let mut groups = [0u64; 64];
-    let mut when = [0usize; 64];
-    drops_with(
-        capacity,
-        held,
-        want,
-        together(later),
-        later,
-        &mut groups,
-        &mut when,
     )
 }

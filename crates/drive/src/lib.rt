@@ -3,7 +3,6 @@ ghost use mathlib.Core.Path.{_≡_};
 ghost use Prim.Native.Nat.{ℕ, _+_, _≤_, _<_};
 ghost use lib.ListN.{length, getD, drop};
 ghost use lib.Seq.{sets};
-ghost use Rattle.bitset.specs.Set.{_∖_};
 ghost use Rattle.lists.specs.Lent.{was, after};
 ghost use Rattle.drive.specs.Steps.{moved, heldAfter, dropsOf, loadsOf, moves};
 ghost use Rattle.drive.specs.Check.{keeps, checkFrom};
@@ -33,21 +32,43 @@ pub fn moved(held: u64, sets: Sets) -> u64
 
 // ---- our plan
 
-// The sets of a step with these drops, with `held` in the drive, for a test that wants `want`: "Load what is wanted and not held."
-fn with_drops(held: u64, want: u64, drops: u64) -> Sets
-    ensures { λ r. ⌜ r ≡ record { drops = drops; loads = want ∖ held } ⌝ }
+// The next step of our plan, with `held` in the drive, for a test that wants `want` and later ones that want `later`: "Load what is wanted and not held." What
+// the later ones want together stands in entry i of the list, where it has one. In `groups` and `when` the candidates are noted.
+fn step_with(
+    capacity: usize,
+    held: u64,
+    want: u64,
+    list: &[u64],
+    i: usize,
+    later: &[u64],
+    groups: &mut [u64],
+    when: &mut [usize],
+) -> Sets
+    requires { ⌜ (i < length (now list) → getD (now list) i 0 ≡ together (now later)) × ((64 ≤ length (now groups)) × (64 ≤ length (now when))) ⌝ }
+    ensures { λ r. ⌜ r ≡ next (furthest 64) capacity held want (was later) ⌝ }
 {
     Sets {
-        drops,
+        drops: choice::drops_with(capacity, held, want, list, i, later, groups, when),
         loads: bitset::without(want, held),
     }
 }
 
-// The next step of our plan, with `held` in the drive, for a test that wants `want` and later ones that want `later`.
+// The same step by itself.
 pub fn step(capacity: usize, held: u64, want: u64, later: &[u64]) -> Sets
     ensures { λ r. ⌜ r ≡ next (furthest 64) capacity held want (was later) ⌝ }
 {
-    with_drops(held, want, choice::drops_for(capacity, held, want, later))
+    let mut groups = [0u64; 64];
+    let mut when = [0usize; 64];
+    step_with(
+        capacity,
+        held,
+        want,
+        &later[..0],
+        0,
+        later,
+        &mut groups,
+        &mut when,
+    )
 }
 
 // Writes for each step what the steps after it want together, as far as the list has entries.
@@ -62,17 +83,6 @@ fn write_later(wants: &[u64], list: &mut [u64])
         lists::put(list, i, all);
         all = bitset::union(wants[i], all);
     }
-}
-
-// What the steps after step i, which want `later`, want together: the entry of the list, where it has one.
-fn wanted_later(list: &[u64], i: usize, later: &[u64]) -> u64
-    requires { ⌜ (i < length (now list) → getD (now list) i 0 ≡ together (now later)) ⌝ }
-    ensures { λ r. ⌜ r ≡ together (was later) ⌝ }
-{
-    if i < list.len() {
-        return list[i];
-    }
-    choice::together(later)
 }
 
 // The wants of the steps after step i.
@@ -104,18 +114,16 @@ pub fn plan_steps(
     let mut i: usize = 0;
     while i < wants.len() {
         let behind = later(wants, i);
-        let used = wanted_later(loads, i, behind);
-        let want = wants[i];
-        let dropped = choice::drops_with(
+        let sets = step_with(
             capacity,
             held,
-            want,
-            used,
+            wants[i],
+            loads,
+            i,
             behind,
             &mut groups,
             &mut when,
         );
-        let sets = with_drops(held, want, dropped);
         lists::put(drops, i, sets.drops);
         lists::put(loads, i, sets.loads);
         held = moved(held, sets);

@@ -4,8 +4,10 @@
 --     Others   the other examples
 --     Booked   examples of booked places
 --     Halfway  examples of plans from what is held
+--     Looks    examples of looks and commits
 pub mod Rules
 pub mod Starred
 pub mod Others
 pub mod Booked
 pub mod Halfway
+pub mod Looks

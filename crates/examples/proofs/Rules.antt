@@ -22,6 +22,8 @@ use Rattle.drive.specs.Uses.{later, useBy, nextUse, further}
 use Rattle.drive.specs.Plan.{chosenBy, furthest, andThen, victims, dropsFor, planFrom}
 use Rattle.planning.specs.Plan.{steps, inOrder}
 use Rattle.planning.specs.Planning.{ourPlan, planning, planAnswer, planLists, setsKnown, checkedOutcome, endKnown, checking}
+use Rattle.stepping.specs.Stepping.{lookEnd, lookAt, isDone, heldBehind, commitAt, stateAfter, making, stateMade}
+use Rattle.stepping.specs.InTurn.{endStep, shownOf, inTurn, tried, heldThrough}
 use Rattle.plan_bytes.specs.PlanBytes.{setField, stepBytes, stepsBytes, endBytes, writePlan, writePlanAnswer, writePlanBuffer, readSet, readStep, readSteps}
 use Rattle.plan_bytes.specs.PlanBytes.{readEnd, readPlanBytes, planSteps, readPlan, readPlanAnswer, readPlanOrder, readPlanLists, endParts, partAt, fetched}
 use Rattle.plan_bytes.specs.PlanBytes.{orEmpty, stepPart}
@@ -38,7 +40,8 @@ unfolding ones trailingZeros under readOutcome countOutcome _>>=_ _>>_ mapped de
     upTo appended grown bestUnlisted orElse neighbour nextOf cuthillMcKee reverseCuthillMcKee reach spanningTree flat bestPair without joined onPair
     curvesOf joinAll try pickTry _orMore_ longer runFrom flipped packages orderBy ordering orderAnswer orderList orderFrom heldAfter moves curveCount
     orBreaks keeps checkFrom later useBy nextUse further chosenBy furthest andThen victims dropsFor planFrom steps inOrder ourPlan planning
-    planAnswer planLists setsKnown checkedOutcome endKnown checking setField stepBytes stepsBytes endBytes writePlan writePlanAnswer writePlanBuffer
+    planAnswer planLists setsKnown checkedOutcome endKnown checking lookEnd lookAt isDone heldBehind commitAt stateAfter making stateMade endStep shownOf
+    inTurn tried heldThrough setField stepBytes stepsBytes endBytes writePlan writePlanAnswer writePlanBuffer
     readSet readStep readSteps readEnd readPlanBytes planSteps readPlan readPlanAnswer readPlanOrder readPlanLists endParts partAt fetched orEmpty
     stepPart text highDigits decimal curveText curvesText setText stepText stepsText endText headText planText printed sheet writeSheet
     sheetAnswer sheetBuffer orderRequest planInOrder orderAndPlan planJob written jobToPlan numberOf callAnswer callPlan

@@ -3,7 +3,9 @@
 --     Others   the other examples, and examples that tell readings apart
 --     Booked   examples of 02, wish 5
 --     Halfway  examples of 02, wish 6
+--     Looks    examples of 02, wish 7
 pub mod Starred
 pub mod Others
 pub mod Booked
 pub mod Halfway
+pub mod Looks

@@ -37,6 +37,9 @@ use Rattle.planning.specs.Planning.{setsKnown, checkedOutcome, planMoves, endKn
 use Rattle.planning.proofs.CheckExact.{passed, check-few}
 use Rattle.planning.proofs.Demand3.{demand3}
 use Rattle.planning.proofs.Sequence.{known-exact, planning-parts, steps-length}
+use Rattle.stepping.specs.declared.State.{State}
+use Rattle.stepping.specs.Stepping.{commit, making, testsMade}
+use Rattle.stepping.proofs.Exact.{not-next-exact}
 use Rattle.plan_bytes.specs.PlanBytes.{Contents, planBytes, writePlan, writePlanAnswer, readPlanBytes, planSteps, readPlan, planRead, readPlanAnswer}
 use Rattle.plan_bytes.proofs.PlanBounds.{plan-figure, plan-eleven}
 use Rattle.plan_bytes.proofs.PlanLength.{passed-length, written-length}
@@ -47,6 +50,7 @@ use Rattle.report.specs.Audit.{audit, auditText, writeAudit, auditAnswer}
 use Rattle.report.proofs.Longest.{sheet-longest}
 use Rattle.report.proofs.AuditLongest.{audit-longest}
 use Rattle.exports.specs.Numbers.{numbered, countOf}
+use Rattle.exports.specs.States.{stepOf}
 use Rattle.exports.proofs.Numbers.{numbered-tells}
 
 -- the number that stands for an outcome tells it
@@ -275,6 +279,28 @@ module _ (curves tests : ℕ) (bs order : List ℕ) (lent : SetLists) where
 
       steps-refuse : Refuses Figures (planSteps curves tests bs)
       steps-refuse = unfold planSteps in refuses-then Figures _ _ (counts-told curves tests) (λ e. bytes-told (counts-bounds curves tests e .1))
+
+-- ---- look, then commit
+
+module _ (j : Job) (held : ℕ) (order : List ℕ) where
+  pub state-told : Told (testsMade (making j held order))
+  unfolding making
+  state-told =
+      told _
+      (λ n e.
+      let x = mapped-done (λ (s : State). s .tests) (making j held order) n e in
+      let m = both-done (planningKnown j held order) _ (x .0) (x .1) in
+      let l = known-exact j held order (planning-parts j held order (m .0) .0) .0 .tests-bound in
+      omega (arith, x .2, ap (λ (s : State). s .tests) (done-same (m .1))))
+      (refuses-mapped Figures _ _ (refuses-both Figures _ _ (planning-told j held order) tt))
+
+-- 15 is told where the number of steps committed is below 2^48, as in every state that is reached from a made one
+pub commit-told : (s : State) (position : ℕ) → s .committed < 2 ^ 48 → (k i : ℕ) → commit s position ≡ refused k i
+    → let answer = stepOf (commit s position) .answer in (2 ^ 48 ≤ answer) × (answer / 2 ^ 48 ≡ k) × (answer % 2 ^ 48 ≡ i)
+unfolding stepOf
+commit-told s position l k i e =
+    let x = not-next-exact s position k i .0 e in
+    rw e (numbered-tells .1 k i (omega (arith, x .0)) (omega (arith, x .1)))
 
 -- ---- texts
 

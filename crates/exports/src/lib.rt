@@ -8,6 +8,9 @@ use job::Rig;
 use job_bytes::set_bytes::GroupRead;
 use plan_bytes::StepPart;
 use planning::PlanCounted;
+use stepping::CommitAnswer;
+use stepping::NextStep;
+use stepping::State;
 ghost use mathlib.Core.Path.{_≡_};
 ghost use mathlib.Core.List.{reverse};
 ghost use Prim.Native.Nat.{_%_, _^_, min};
@@ -16,7 +19,7 @@ ghost use lib.Dec.{eqb};
 ghost use lib.Count.{trailingZeros};
 ghost use Rattle.lists.specs.Lent.{was, after};
 ghost use Rattle.bitset.specs.Set.{_∩_, _∪_, _∖_, size, bit, inside, below};
-ghost use Rattle.job.specs.Refusal.{refused, number, figure, readOutcome, countOutcome, examinedOutcome, mapped, room, leaves};
+ghost use Rattle.job.specs.Refusal.{done, refused, number, figure, readOutcome, countOutcome, examinedOutcome, mapped, room, leaves};
 ghost use Rattle.job.specs.Handed.{jobKnown, jobKnownBy, countsKnown, wantsFit};
 ghost use Rattle.job.specs.Words.{digit};
 ghost use Rattle.job_bytes.specs.SetBytes.{groupMap, setBytes};
@@ -26,10 +29,12 @@ ghost use Rattle.packages.specs.Packages.{packages};
 ghost use Rattle.ordering.specs.Ordering.{orderAnswer, orderList};
 ghost use Rattle.planning.specs.Plan.{planOf, setLists, planOutcome};
 ghost use Rattle.planning.specs.Planning.{checking, planAnswer, planLists};
+ghost use Rattle.stepping.specs.Stepping.{stepWants, look, commit, afterCommit, making, testsMade, commitOutcome};
 ghost use Rattle.plan_bytes.specs.PlanBytes.{writePlanAnswer, writePlanBuffer, readPlanAnswer, readPlanOrder, readPlanLists, stepPart};
 ghost use Rattle.report.specs.Report.{sheetAnswer, sheetBuffer};
 ghost use Rattle.report.specs.Audit.{auditAnswer, auditBuffer};
 ghost use Rattle.exports.specs.Numbers.{rigOf, job, numbered, passing, countOf, endOf, headOf, groupAt, leavesOne};
+ghost use Rattle.exports.specs.States.{stepOf, stateOf, numbersOf, leavesState};
 
 // ---- outcomes as numbers
 
@@ -304,6 +309,161 @@ pub extern "C" fn curveplan_audit(job: &[u8], plan: &[u8], out: &mut [u8]) -> u6
     ensures text { λ _. ⌜ after out ≡ auditBuffer (was job) (was plan) (was out) ⌝ }
 {
     counted(report::audit::write_audit(job, plan, out))
+}
+
+// ---- look, then commit
+
+// What a look shows, and a commit answers: 0 for none, 1 for the step of a test, 2 for the end step, or the refusal; and the step's drops and loads.
+#[repr(C)]
+pub struct StepShown {
+    pub answer: u64,
+    pub drops: u64,
+    pub loads: u64,
+}
+
+fn shown(step: NextStep) -> StepShown
+    ensures { λ r. ⌜ r ≡ stepOf (done step) ⌝ }
+{
+    match step {
+        NextStep::Step(sets) => StepShown {
+            answer: 1,
+            drops: sets.drops,
+            loads: sets.loads,
+        },
+        NextStep::End(drops) => StepShown {
+            answer: 2,
+            drops,
+            loads: 0,
+        },
+        NextStep::Done => StepShown {
+            answer: 0,
+            drops: 0,
+            loads: 0,
+        },
+    }
+}
+
+fn answered(answer: CommitAnswer) -> StepShown
+    ensures { λ r. ⌜ r ≡ stepOf (commitOutcome answer) ⌝ }
+{
+    match answer {
+        CommitAnswer::Carried(step) => shown(step),
+        CommitAnswer::Refused(r) => StepShown {
+            answer: refusal(r),
+            drops: 0,
+            loads: 0,
+        },
+    }
+}
+
+// Where the numbers of a state stand.
+const CAPACITY: usize = 0;
+
+const HELD: usize = 1;
+
+const COMMITTED: usize = 2;
+
+const TESTS: usize = 3;
+
+const WANTS: usize = 4;
+
+// Writes the numbers of a state.
+fn put_state(state: State, list: &mut [u64])
+    requires { ⌜ length (now list) ≡ 260 ⌝ }
+    ensures { λ _. ⌜ after list ≡ numbersOf state ⌝ }
+{
+    let wants = state.wants;
+    list[CAPACITY] = state.capacity as u64;
+    list[HELD] = state.held;
+    list[COMMITTED] = state.committed as u64;
+    list[TESTS] = state.tests as u64;
+    let mut i: usize = 0;
+    while i < job::MOST_TESTS {
+        list[WANTS + i] = wants[i];
+        i += 1;
+    }
+}
+
+#[no_mangle]
+pub extern "C" fn curveplan_make_state(
+    places: usize,
+    booked: usize,
+    curves: usize,
+    wants: &[u64],
+    held: u64,
+    order: &[u16],
+    state: &mut [u64; 260],
+) -> u64
+    ensures answer { λ r. ⌜ r ≡ numbered (testsMade (making (job places booked curves (was wants)) held (was order))) ⌝ }
+    ensures state { λ _. ⌜ after state ≡ leavesState (making (job places booked curves (was wants)) held (was order)) (was state) ⌝ }
+{
+    let made = stepping::make_state(rig(places, booked, curves), wants, held, order);
+    let answer = made.answer;
+    match answer {
+        Counted::Count(tests) => {
+            let first = made.state;
+            put_state(first, state);
+            tests as u64
+        }
+        Counted::Refused(r) => refusal(r),
+    }
+}
+
+// The wants of the steps, where the numbers of a state stand.
+fn step_wants(state: &[u64]) -> &[u64]
+    requires { ⌜ length (now state) ≡ 260 ⌝ }
+    ensures { λ r. ⌜ now r ≡ stepWants (stateOf (was state)) ⌝ }
+{
+    let end = WANTS + stepping::steps_of(state[TESTS] as usize);
+    &state[WANTS..end]
+}
+
+fn look_in(state: &[u64]) -> NextStep
+    requires { ⌜ length (now state) ≡ 260 ⌝ }
+    ensures { λ r. ⌜ r ≡ look (stateOf (was state)) ⌝ }
+{
+    stepping::look_at(
+        state[CAPACITY] as usize,
+        state[HELD],
+        state[COMMITTED] as usize,
+        step_wants(state),
+    )
+}
+
+fn commit_in(state: &mut [u64], position: usize) -> CommitAnswer
+    requires { ⌜ length (now state) ≡ 260 ⌝ }
+    ensures answer { λ r. ⌜ commitOutcome r ≡ commit (stateOf (was state)) position ⌝ }
+    ensures state { λ _. ⌜ after state ≡ numbersOf (afterCommit (stateOf (was state)) position) ⌝ }
+{
+    let held = state[HELD];
+    let done = state[COMMITTED] as usize;
+    let answer = stepping::commit_at(
+        state[CAPACITY] as usize,
+        held,
+        done,
+        step_wants(state),
+        position,
+    );
+    if let CommitAnswer::Carried(step) = answer {
+        state[HELD] = stepping::held_behind(held, step);
+        state[COMMITTED] = done as u64 + 1;
+    }
+    answer
+}
+
+#[no_mangle]
+pub extern "C" fn curveplan_look(state: &[u64; 260]) -> StepShown
+    ensures { λ r. ⌜ r ≡ stepOf (done (look (stateOf (was state)))) ⌝ }
+{
+    shown(look_in(state))
+}
+
+#[no_mangle]
+pub extern "C" fn curveplan_commit(state: &mut [u64; 260], position: usize) -> StepShown
+    ensures answer { λ r. ⌜ r ≡ stepOf (commit (stateOf (was state)) position) ⌝ }
+    ensures state { λ _. ⌜ after state ≡ numbersOf (afterCommit (stateOf (was state)) position) ⌝ }
+{
+    answered(commit_in(state, position))
 }
 
 // ---- the examinations

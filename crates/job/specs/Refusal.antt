@@ -8,7 +8,7 @@ use lib.ListN.{length}
 unfoldable pub use Rattle.lists.specs.Lent.{overwritten}
 use Rattle.job.specs.declared.Refusal.{Refusal}
 use Rattle.job.specs.declared.Refusal.the-variants.{Truncated, BadHeader, EmptyGroup, UnknownCurve, TrailingBytes, TestTooLarge, BadOrder}
-use Rattle.job.specs.declared.Refusal.the-variants.{BufferTooSmall, BadArgument, BadPlanBytes, PlanRejected, TooManyBooked, UnknownHeld}
+use Rattle.job.specs.declared.Refusal.the-variants.{BufferTooSmall, BadArgument, BadPlanBytes, PlanRejected, TooManyBooked, UnknownHeld, NotNext}
 use Rattle.job.specs.declared.Head.{Head}
 use Rattle.job.specs.declared.JobRead.{JobRead}
 use Rattle.job.specs.declared.Counted.{Counted}
@@ -35,6 +35,7 @@ number (BadPlanBytes i) = 11
 number (PlanRejected i) = 12
 number (TooManyBooked i) = 13
 number (UnknownHeld i) = 14
+number (NotNext i) = 15
 
 -- .. and its figure
 abbrev pub figure : Refusal → ℕ
@@ -51,6 +52,7 @@ figure (BadPlanBytes i) = i
 figure (PlanRejected i) = i
 figure (TooManyBooked i) = i
 figure (UnknownHeld i) = i
+figure (NotNext i) = i
 
 -- ---- "Any answer that is an enum has a definition that gives this paper's number and values for each of the enum's cases."
 

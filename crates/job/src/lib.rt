@@ -51,6 +51,8 @@ pub enum Refusal {
     TooManyBooked(usize),
     // 14, "a held curve that the job doesn't have"
     UnknownHeld(usize),
+    // 15, "a commit whose position is not the next one, or after done"
+    NotNext(usize),
 }
 
 // The number of a refusal in document 01's table.
@@ -71,6 +73,7 @@ pub fn number_of(r: Refusal) -> u64
         Refusal::PlanRejected(_) => 12,
         Refusal::TooManyBooked(_) => 13,
         Refusal::UnknownHeld(_) => 14,
+        Refusal::NotNext(_) => 15,
     }
 }
 
@@ -92,6 +95,7 @@ pub fn figure_of(r: Refusal) -> u64
         Refusal::PlanRejected(i) => i as u64,
         Refusal::TooManyBooked(i) => i as u64,
         Refusal::UnknownHeld(i) => i as u64,
+        Refusal::NotNext(i) => i as u64,
     }
 }
 

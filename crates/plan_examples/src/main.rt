@@ -1,6 +1,7 @@
-// Document 01's examples of plans and orders, and one of 02, run through planning; each answer is proved to be the paper's.
+// Document 01's examples of plans and orders, and two of 02, run; each answer is proved to be the paper's.
 use job::Rig;
 use planning::PlanCounted;
+use stepping::NextStep;
 ghost use mathlib.Core.Path.{_≡_};
 ghost use mathlib.Core.Bool.{true};
 
@@ -179,6 +180,32 @@ fn from_halfway() -> bool
     }
 }
 
+// 02, wish 7: job A step by step. When step 0 is committed, a look shows that step 1 drops 0 and loads 2.
+fn look_behind_commit() -> bool
+    ensures { λ r. ⌜ r ≡ true ⌝ }
+{
+    let wants = [3u64, 6, 3, 8];
+    let order = [0u16, 1, 2, 3];
+    let made = stepping::make_state(
+        Rig {
+            places: 2,
+            booked: 0,
+            curves: 4,
+        },
+        &wants,
+        0,
+        &order,
+    );
+    let first = made.state;
+    let committed = stepping::commit(first, 0);
+    let second = committed.state;
+    match stepping::look(second) {
+        NextStep::Step(sets) => sets.drops == 1 && sets.loads == 4,
+        NextStep::End(_) => false,
+        NextStep::Done => false,
+    }
+}
+
 fn main() {
     check::expect(furthest_use());
     check::expect(nothing_dropped());
@@ -187,4 +214,5 @@ fn main() {
     check::expect(repeated_test());
     check::expect(missing_test());
     check::expect(from_halfway());
+    check::expect(look_behind_commit());
 }

@@ -87,6 +87,23 @@ module _ (capacity : ℕ) (wants : List ℕ) (held : ℕ) (order : List ℕ) (le
 
 -- ---- behind the examinations
 
+module _ (j : Job) (held : ℕ) (order : List ℕ) (known : planningKnown j held order ≡ done tt) where
+  abbrev steps : List ℕ
+  steps = inOrder (j .wants) order
+
+  exact : IsJob j × IsHolding j held × IsOrder (length (j .wants)) order
+  exact = known-exact j held order (planning-parts j held order known .0)
+
+  as-long : length order ≡ length (j .wants)
+  as-long = order-length (length (j .wants)) order (exact .2)
+
+  -- the plan without examinations is ours
+  pub ours : planFrom (furthest 64) (capacity (j .rig)) held steps ≡ ourPlan j held order
+  unfolding ourPlan
+  ours =
+      plan-width (j .rig .curves) 64 (exact .0 .curves-bounds .1) (capacity (j .rig)) held steps (exact .1)
+      (step-curves j held order (planning-parts j held order known .0))
+
 module _ (j : Job) (held : ℕ) (order : List ℕ) (lent : SetLists) where
   -- the contract of planning, for an answer and what the lent lists hold afterwards
   abbrev Contract : Outcome CountEnd → SetLists → Type 0
@@ -103,25 +120,11 @@ module _ (j : Job) (held : ℕ) (order : List ℕ) (lent : SetLists) where
       contract (refused k i) lent (rw r refl) (sym (rw (leaves-refused dropsOf _ k i (lent .drops) r, leaves-refused loadsOf _ k i (lent .loads) r) refl))
 
   module _ (known : planningKnown j held order ≡ done tt) where
-    abbrev steps : List ℕ
-    steps = inOrder (j .wants) order
-
-    exact : IsJob j × IsHolding j held × IsOrder (length (j .wants)) order
-    exact = known-exact j held order (planning-parts j held order known .0)
-
-    as-long : length order ≡ length (j .wants)
-    as-long = order-length (length (j .wants)) order (exact .2)
-
-    -- the plan without examinations is ours
-    ours : planFrom (furthest 64) (capacity (j .rig)) held steps ≡ ourPlan j held order
-    unfolding ourPlan
-    ours =
-        plan-width (j .rig .curves) 64 (exact .0 .curves-bounds .1) (capacity (j .rig)) held steps (exact .1)
-        (step-curves j held order (planning-parts j held order known .0))
-
     as-tests : planTests (capacity (j .rig)) (j .wants) held order lent ≡ planning j held order (entries lent)
     unfolding planning planTests
-    as-tests = rw (as-long, ours) (done-both _ _ (few-tests (length (j .wants)) (exact .0 .tests-bound)) ∙ sym (done-both _ _ known))
+    as-tests =
+        rw (as-long j held order known, ours j held order known)
+        (done-both _ _ (few-tests (length (j .wants)) (exact j held order known .0 .tests-bound)) ∙ sym (done-both _ _ known))
 
     -- both plan the same
     pub tests-answer : testsAnswer (capacity (j .rig)) (j .wants) held order lent ≡ planAnswer j held order lent

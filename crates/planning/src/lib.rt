@@ -43,7 +43,7 @@ pub fn examine_sets(tests: usize, drops: usize, loads: usize) -> Examined
 }
 
 // The steps' wants, "the order giving the steps' tests", into the first entries of the list lent, as far as it has entries.
-fn in_order(wants: &[u64], order: &[u16], steps: &mut [u64])
+pub fn in_order(wants: &[u64], order: &[u16], steps: &mut [u64])
     ensures { λ _. ⌜ after steps ≡ sets (was steps) 0 (inOrder (was wants) (was order)) ⌝ }
 {
     let mut i: usize = 0;

@@ -5,11 +5,14 @@
 use crate::generate::{
     self, all_curves, any_booked, damage, enough, fitting_or_not, flipping_job, job_bytes, lent,
     one_of, permutation, random_set, spoil_end, spoil_order, spoil_plan, spoil_tests, spoil_wants,
-    Case, Job, Size, SomePlan, FUNCTIONS, JOB, PLAN_MADE, SHEET, WILD, WILD_BOOKED, WILD_METHODS,
+    Case, Job, Size, SomePlan, FUNCTIONS, JOB, PLAN_MADE, PLAN_ORDER, SHEET, WILD, WILD_BOOKED,
+    WILD_METHODS,
 };
 use crate::holding;
 use crate::random::Random;
 use crate::reference::{self, less_booked, Answer, Plan, PlannedJob, Refusal};
+use crate::states::Made;
+use crate::walks;
 
 // ---------------------------------------------------------------------------------------------
 // Jobs and cases
@@ -369,6 +372,7 @@ pub fn case(function: usize, random: &mut Random) -> Option<Case> {
                 wants: job.wants,
             }
         }
+        "make_state" => return case(PLAN_ORDER, random).map(walks::instead_of_planning),
         _ => return None,
     })
 }
@@ -553,7 +557,7 @@ pub fn number_kinds(places: usize, booked: usize) -> Vec<&'static str> {
     let in_range = (1..=64).contains(&places);
     note(booked == 0, "0");
     note(in_range && booked > 0 && booked < places, "below");
-    note(in_range && booked > 0 && booked + 1 == places, "one-below");
+    note(in_range && booked > 0 && booked == places - 1, "one-below");
     note(in_range && booked == places, "places");
     note(in_range && booked == places + 1, "one-above");
     note(booked == 63, "63");
@@ -572,7 +576,8 @@ pub fn handed(case: &Case) -> Option<(usize, usize)> {
         | Case::CheckPlan { places, booked, .. }
         | Case::WritePlan { places, booked, .. }
         | Case::Examine { places, booked, .. }
-        | Case::ExamineBy { places, booked, .. } => Some((*places, *booked)),
+        | Case::ExamineBy { places, booked, .. }
+        | Case::MakeState { places, booked, .. } => Some((*places, *booked)),
         _ => None,
     }
 }
@@ -655,6 +660,14 @@ fn refused_unbooked(case: &Case) -> Option<Refusal> {
             wants,
             ..
         } => no(reference::examine_by(*places, 0, *curves, *method, wants)),
+        Case::MakeState {
+            places,
+            curves,
+            wants,
+            held,
+            order,
+            ..
+        } => no(Made::new(*places, 0, *curves, wants, *held, order)),
         _ => None,
     }
 }

@@ -9,6 +9,7 @@ use crate::generate::{JOB, PLAN_MADE, PLAN_READ};
 use crate::parts;
 use crate::random::Random;
 use crate::reference::*;
+use crate::states::Made;
 use crate::ties;
 use crate::tuned;
 use std::collections::BTreeSet;
@@ -984,6 +985,17 @@ fn refused_without_tests(case: &Case) -> Option<Result<(), Refusal>> {
             }
             answer.map(|_| ())
         }
+        Case::MakeState {
+            places,
+            booked,
+            curves,
+            wants,
+            held,
+            order,
+        } => {
+            let answer = Made::new(*places, *booked, *curves, wants, *held, order);
+            answer.map(|made| assert_eq!((made.tests(), made.held()), (0, *held)))
+        }
         Case::Examine {
             places,
             booked,
@@ -1052,7 +1064,7 @@ fn the_first_fault_without_tests_decides() {
         }
     }
     // All that are handed numbers or lists and may refuse, the steps fetched, and the packages.
-    assert_eq!(functions.len(), 12, "{functions:?}");
+    assert_eq!(functions.len(), 13, "{functions:?}");
 }
 
 #[test]

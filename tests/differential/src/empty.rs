@@ -3,12 +3,14 @@
 
 use crate::generate::{
     self, any_booked, any_number, any_set, lent, with_booked, with_ending, Case, Ending, Job, Size,
-    SomePlan, ENDINGS, FUNCTIONS, WILD, WILD_METHODS,
+    SomePlan, ENDINGS, FUNCTIONS, PLAN_ORDER, WILD, WILD_METHODS,
 };
 use crate::holding;
 use crate::parts;
 use crate::random::Random;
 use crate::reference;
+use crate::states::Any;
+use crate::walks;
 
 /// Whether the list of a case has no tests. `None`: its function has to do with no list of tests.
 pub fn without_tests(case: &Case) -> Option<bool> {
@@ -25,7 +27,10 @@ pub fn without_tests(case: &Case) -> Option<bool> {
         | Case::Examine { wants, .. }
         | Case::ExamineBy { wants, .. }
         | Case::ExamineSizes { wants, .. }
-        | Case::PackageOrder { wants, .. } => Some(wants.is_empty()),
+        | Case::PackageOrder { wants, .. }
+        | Case::MakeState { wants, .. } => Some(wants.is_empty()),
+        Case::Walk { list, .. } => Some(list.wants.is_empty()),
+        Case::Look { state } | Case::Commit { state, .. } => Some(Any::new(state).tests == 0),
         Case::ReadPlan { tests, .. }
         | Case::StepBytes { tests, .. }
         | Case::ExamineCounts { tests, .. }
@@ -414,6 +419,7 @@ pub fn case(function: usize, random: &mut Random) -> Option<Case> {
             wants: vec![],
             order_len: any_length(random),
         },
+        "make_state" => return case(PLAN_ORDER, random).map(walks::instead_of_planning),
         _ => return None,
     })
 }
@@ -456,6 +462,7 @@ pub fn faults(case: &Case) -> Vec<&'static str> {
         | Case::PlanOrder { places, curves, .. }
         | Case::CheckPlan { places, curves, .. }
         | Case::WritePlan { places, curves, .. }
+        | Case::MakeState { places, curves, .. }
         | Case::Examine { places, curves, .. }
         | Case::ExamineBy { places, curves, .. } => {
             note(outside(*places), "10:0");
@@ -478,6 +485,7 @@ pub fn faults(case: &Case) -> Vec<&'static str> {
         | Case::PlanOrder { places, booked, .. }
         | Case::CheckPlan { places, booked, .. }
         | Case::WritePlan { places, booked, .. }
+        | Case::MakeState { places, booked, .. }
         | Case::Examine { places, booked, .. }
         | Case::ExamineBy { places, booked, .. } => {
             note(*booked > 63, "10:260");
@@ -499,6 +507,12 @@ pub fn faults(case: &Case) -> Vec<&'static str> {
             ..
         }
         | Case::WritePlan {
+            curves,
+            held,
+            order,
+            ..
+        }
+        | Case::MakeState {
             curves,
             held,
             order,

@@ -6,6 +6,7 @@ use crate::fast;
 use crate::generate::{self, permutation, Case, Size, FUNCTIONS, JOB, PLAN_MADE};
 use crate::random::Random;
 use crate::reference::*;
+use crate::states::Made;
 use crate::tuned;
 use std::collections::BTreeSet;
 
@@ -438,6 +439,11 @@ fn the_sequence_of_handed_numbers() {
         )
         .map(|_| ())
     });
+    // Nothing is lent for a state.
+    sequence(&[&numbers[..], &[ORDER, WIDE]].concat(), |h| {
+        let (places, booked, curves, held) = (h.places, h.booked, h.curves, h.held);
+        Made::new(places, booked, curves, &h.wants, held, &h.order).map(|_| ())
+    });
     let checked = [&numbers[..], &[ORDER, LENGTHS, STEP, END]].concat();
     sequence(&checked, |h| {
         let (places, booked, curves, end) = (h.places, h.booked, h.curves, h.end);
@@ -776,6 +782,7 @@ fn cases_with_booked_places() {
         "audit",
         "examine",
         "examine_by",
+        "make_state",
     ];
     assert_eq!(functions, expected);
     let mut kinds = BTreeSet::new();

@@ -7,6 +7,8 @@ use crate::holding;
 use crate::parts;
 use crate::random::Random;
 use crate::reference::{self, TieRule};
+use crate::states::Any;
+use crate::walks::{self, List, Move};
 use std::fmt::Write;
 
 /// One call with everything handed to it. Lengths are those of the lists and buffers lent.
@@ -154,6 +156,28 @@ pub enum Case {
         b: u64,
         k: usize,
     },
+    MakeState {
+        places: usize,
+        booked: usize,
+        curves: usize,
+        wants: Vec<u64>,
+        held: u64,
+        order: Vec<u16>,
+    },
+    /// Looked at twice; any numbers.
+    Look {
+        state: Vec<u64>,
+    },
+    /// Committed at these positions, one after the other, with a look before each; any numbers.
+    Commit {
+        state: Vec<u64>,
+        positions: Vec<usize>,
+    },
+    /// A state is made, and goes to its end and beyond.
+    Walk {
+        list: List,
+        moves: Vec<Move>,
+    },
 }
 
 #[derive(Clone, Copy, Debug, PartialEq, Eq)]
@@ -186,10 +210,14 @@ const SET_FUNCTIONS: [SetFunction; 10] = [
 /// The number of the first of them among all functions.
 const FIRST_SET: usize = 22;
 
+/// The number of planning. A state is made of the same numbers and lists.
+pub(crate) const PLAN_ORDER: usize = 3;
+
 /// The functions' names behind `curveplan_`, in the order of the variants above; `plan` is the C
-/// host's own call. What tells a refusal's number and figure has no cases of its own: every refusal
-/// is answered, or printed, through it, and each of them occurs.
-pub const FUNCTIONS: [&str; 32] = [
+/// host's own call, and `walk` is none: making a state, looks and commits, and planning beside them.
+/// What tells a refusal's number and figure has no cases of its own: every refusal is answered, or
+/// printed, through it, and each of them occurs.
+pub const FUNCTIONS: [&str; 36] = [
     "read_job",
     "write_job",
     "order_tests",
@@ -222,15 +250,20 @@ pub const FUNCTIONS: [&str; 32] = [
     "without_lowest",
     "inside",
     "below",
+    "make_state",
+    "look",
+    "commit",
+    "walk",
 ];
 
-/// How often each function gets a case, of 1,000.
-const SHARES: [usize; 32] = [
+/// How often each function gets a case, of 1,120.
+const SHARES: [usize; 36] = [
     106, 64, 96, 96, 88, 72, 86, 48, 96, 44, 50, // bytes, orders, plans and texts
     14, 14, 10, 14, // examinations
     20, 6, 6, 14, // sets in bytes
     2, 4, 10, // lists of tests
     4, 4, 4, 4, 4, 4, 4, 4, 4, 4, // sets
+    36, 20, 24, 40, // states
 ];
 
 impl Case {
@@ -259,6 +292,10 @@ impl Case {
             Case::ListedOrder { .. } => 20,
             Case::PackageOrder { .. } => 21,
             Case::Sets { function, .. } => FIRST_SET + *function as usize,
+            Case::MakeState { .. } => 32,
+            Case::Look { .. } => 33,
+            Case::Commit { .. } => 34,
+            Case::Walk { .. } => 35,
         }
     }
 
@@ -317,10 +354,32 @@ impl Case {
                 booked,
                 curves,
                 ..
+            }
+            | Case::MakeState {
+                places,
+                booked,
+                curves,
+                ..
+            }
+            | Case::Walk {
+                list:
+                    List {
+                        places,
+                        booked,
+                        curves,
+                        ..
+                    },
+                ..
             } => {
                 number("places", *places);
                 number("booked", *booked);
                 number("curves", *curves);
+            }
+            Case::Look { state } | Case::Commit { state, .. } => {
+                let state = Any::new(state);
+                number("capacity", state.capacity as usize);
+                number("committed", state.committed as usize);
+                number("tests", state.tests as usize);
             }
             Case::WritePlan {
                 places,
@@ -445,10 +504,24 @@ impl Case {
             Case::Sets { a, b, .. } => list("a, b", hex_sets(&[*a, *b])),
             Case::PlanOrder {
                 wants, held, order, ..
+            }
+            | Case::MakeState {
+                wants, held, order, ..
             } => {
                 list("wants", hex_sets(wants));
                 list("held", hex_sets(&[*held]));
                 list("order", hex_order(order));
+            }
+            Case::Walk { list: made, moves } => {
+                list("wants", hex_sets(&made.wants));
+                list("held", hex_sets(&[made.held]));
+                list("order", hex_order(&made.order));
+                list("moves", moves.iter().map(Move::to_string).collect());
+            }
+            Case::Look { state } | Case::Commit { state, .. } => {
+                let state = Any::new(state);
+                list("held", hex_sets(&[state.held]));
+                list("wants", hex_sets(&state.wants));
             }
             Case::CheckPlan {
                 wants,
@@ -478,6 +551,12 @@ impl Case {
             Case::ReadPlan { plan, .. } | Case::StepBytes { plan, .. } => {
                 list("plan", hex_bytes(plan))
             }
+        }
+        if let Case::Commit { positions, .. } = self {
+            list(
+                "positions",
+                positions.iter().map(usize::to_string).collect(),
+            );
         }
         text
     }
@@ -2042,7 +2121,7 @@ pub fn case(seed: u64, number: u64, only: Option<usize>) -> Case {
         let size = random.pick(&[Size::Edge, Size::Edge, Size::Edge, Size::Full]);
         return case_of(function, size, random);
     }
-    let mut roll = random.below(1_000);
+    let mut roll = random.below(SHARES.iter().sum());
     let mut function = 0;
     while roll >= SHARES[function] {
         roll -= SHARES[function];
@@ -2491,6 +2570,13 @@ pub fn case_of(function: usize, size: Size, random: &mut Random) -> Case {
                 order_len,
             }
         }
+        32 => match random.below(3) {
+            0 => walks::instead_of_planning(case_of(PLAN_ORDER, size, random)),
+            _ => walks::make_case(random, size),
+        },
+        33 => walks::look_case(random),
+        34 => walks::commit_case(random),
+        35 => walks::walk_case(random, size),
         _ => {
             let mut a = any_set(random);
             let mut b = beside(random, a);

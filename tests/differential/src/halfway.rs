@@ -814,13 +814,13 @@ fn the_rest_is_planned_as_the_whole_was() {
     assert!(cuts > 4_000, "{cuts} cuts");
 }
 
-/// Each of the three functions gets cases with holdings, and no other does; all kinds of holdings and 14
+/// Each of the four functions gets cases with holdings, and no other does; all kinds of holdings and 14
 /// beside all other faults are among them.
 #[test]
 fn cases_with_holdings() {
     let mut random = Random::new(49);
     for (function, name) in FUNCTIONS.iter().enumerate() {
-        let takes = ["plan_order", "check_plan", "write_plan"].contains(name);
+        let takes = ["plan_order", "check_plan", "write_plan", "make_state"].contains(name);
         let (mut kinds, mut twice) = (BTreeSet::new(), BTreeSet::new());
         for _ in 0..if takes { 10_000 } else { 9 } {
             let Some(case) = holding::case(function, &mut random) else {

@@ -1,15 +1,17 @@
-//! Holdings (wish 6), what the drive holds at the start: cases with them for the three functions that take
+//! Holdings (wish 6), what the drive holds at the start: cases with them for the four functions that take
 //! one, lists cut halfway among them; what is told of such cases; and where an empty drive would give
 //! another answer.
 
 use crate::generate::{
     self, all_curves, any_booked, any_set, around, enough, lent, one_of, permutation, plan_by,
     random_set, some_of, some_plan_from, spoil_end, spoil_order, spoil_plan, spoil_tests,
-    spoil_wants, Case, Job, Size, SomePlan, FUNCTIONS, PLAN_READ, WILD, WILD_BOOKED,
+    spoil_wants, Case, Job, Size, SomePlan, FUNCTIONS, PLAN_ORDER, PLAN_READ, WILD, WILD_BOOKED,
 };
 use crate::parts;
 use crate::random::Random;
 use crate::reference::{self, held_behind, Answer, Plan, Refusal, TieRule};
+use crate::states::Made;
+use crate::walks;
 
 // ---------------------------------------------------------------------------------------------
 // Holdings
@@ -291,10 +293,13 @@ fn planned(random: &mut Random) -> (Job, u64, SomePlan) {
 /// A case with a holding, about one time in three. `None`: another one, or the function takes none.
 pub fn case(function: usize, random: &mut Random) -> Option<Case> {
     let name = FUNCTIONS[function];
+    if name == "make_state" {
+        return case(PLAN_ORDER, random).map(walks::instead_of_planning);
+    }
     if !["plan_order", "check_plan", "write_plan"].contains(&name) || !random.chance(1, 3) {
         return None;
     }
-    if name == "write_plan" && random.chance(1, 256) {
+    if name == "write_plan" && random.chance(1, 96) {
         let (job, held, made) = longest(random);
         return Some(Case::WritePlan {
             places: job.places,
@@ -416,6 +421,14 @@ fn handed(case: &Case) -> Option<Handed<'_>> {
             held,
             order,
             ..
+        }
+        | Case::MakeState {
+            places,
+            booked,
+            curves,
+            wants,
+            held,
+            order,
         } => Some(Handed {
             places: *places,
             booked: *booked,
@@ -549,6 +562,14 @@ fn refused_from(case: &Case, held: u64) -> Option<Refusal> {
         } => no(reference::write_plan(
             *places, *booked, *curves, wants, held, order, drops, loads, *end, *out_len,
         )),
+        Case::MakeState {
+            places,
+            booked,
+            curves,
+            wants,
+            order,
+            ..
+        } => no(Made::new(*places, *booked, *curves, wants, held, order)),
         _ => None,
     }
 }
@@ -575,6 +596,7 @@ pub const TWICE: [&str; 13] = [
 pub fn twice_names(function: &str) -> Vec<&'static str> {
     let has = |name: &&&'static str| match function {
         "plan_order" => !name.contains("12:"),
+        "make_state" => !name.contains("12:") && **name != "14+9",
         "check_plan" => !["14+7", "14+9"].contains(name),
         _ => **name != "14+7",
     };

@@ -1,9 +1,9 @@
-//! An independent implementation of the curve planner's papers (`reference`) and of the small public
-//! functions below it (`parts`), where its tie rule matters (`ties`), two fast implementations for the
-//! benchmark (`tuned`, and in C `fast`), random inputs (`generate`), among them lists without tests
-//! (`empty`), lists with large degrees (`degrees`), drives with booked places (`booked`) and drives that
-//! hold something at the start (`holding`), and the library under test (`product`, only with the feature
-//! of that name).
+//! An independent implementation of the curve planner's papers (`reference`), of lists that are carried
+//! out step by step (`states`) and of the small public functions below it (`parts`), where its tie rule
+//! matters (`ties`), two fast implementations for the benchmark (`tuned`, and in C `fast`), random inputs
+//! (`generate`), among them lists without tests (`empty`), lists with large degrees (`degrees`), drives
+//! with booked places (`booked`), drives that hold something at the start (`holding`) and lists carried
+//! out (`walks`), and the library under test (`product`, only with the feature of that name).
 
 pub mod booked;
 pub mod degrees;
@@ -14,8 +14,10 @@ pub mod holding;
 pub mod parts;
 pub mod random;
 pub mod reference;
+pub mod states;
 pub mod ties;
 pub mod tuned;
+pub mod walks;
 
 #[cfg(feature = "product")]
 pub mod product;
@@ -28,6 +30,8 @@ mod examples;
 mod fewer_places;
 #[cfg(test)]
 mod halfway;
+#[cfg(test)]
+mod look_then_commit;
 #[cfg(test)]
 mod stored;
 #[cfg(test)]

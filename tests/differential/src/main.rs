@@ -10,9 +10,11 @@
 //! flips, one of the audit's two kinds of refusal, a kind of end set or of plan's end, a wrong end
 //! set beside another fault, a length on its bound, a kind of tie that the tie rule decides, an
 //! outcome, a kind or two faults of a list without tests, of booked places a kind of byte or handed
-//! number, two faults, or a way in which the raw places would give another answer, or of what is held at
+//! number, two faults, or a way in which the raw places would give another answer, of what is held at
 //! the start a kind, 14 beside another fault, a way in which an empty drive would give another answer, or
-//! a place where a list is cut halfway; also if a kind of degrees was reached too seldom.
+//! a place where a list is cut halfway, or of states a kind of made ones, two faults, a kind of move, step
+//! or wrong position of a walk, or a kind of numbers that were not made, or of commits of these; also if a
+//! kind of degrees, or of looks and commits, was reached too seldom.
 
 use differential::booked;
 use differential::degrees;
@@ -24,11 +26,14 @@ use differential::holding;
 use differential::parts::{self, GroupRead};
 use differential::random::{mix, Random};
 use differential::reference::{self, PlannedJob, Refusal, Refused};
+use differential::states::{self, Any, Made, Shown};
 use differential::ties;
 use differential::tuned;
+use differential::walks::{self, List, Move};
 use std::collections::BTreeMap;
 use std::env;
 use std::fmt::Debug;
+use std::mem::replace;
 use std::process::exit;
 use std::sync::LazyLock;
 use std::time::Instant;
@@ -82,6 +87,12 @@ trait Subject {
     fn package_order(&self, _capacity: usize, _wants: &[u64], _order: &mut [u16])
         -> Option<()> { None }
     fn sets(&self, _function: SetFunction, _a: u64, _b: u64, _k: usize) -> Option<u64> { None }
+    /// A state is lent as its 260 numbers.
+    fn make_state(&self, _places: usize, _booked: usize, _curves: usize, _wants: &[u64],
+        _held: u64, _order: &[u16], _state: &mut [u64]) -> Option<u64> { None }
+    /// The answer, drops and loads; of a commit too.
+    fn look(&self, _state: &mut [u64]) -> Option<[u64; 3]> { None }
+    fn commit(&self, _state: &mut [u64], _position: usize) -> Option<[u64; 3]> { None }
 }
 
 struct Tuned;
@@ -191,6 +202,19 @@ impl Subject for Product {
     fn sets(&self, function: SetFunction, a: u64, b: u64, k: usize) -> Option<u64> {
         Some(product::sets(function, a, b, k))
     }
+    fn make_state(&self, places: usize, booked: usize, curves: usize, wants: &[u64],
+        held: u64, order: &[u16], state: &mut [u64]) -> Option<u64> {
+        let state = product::State::of(state);
+        Some(product::make_state(places, booked, curves, wants, held, order, state))
+    }
+    fn look(&self, state: &mut [u64]) -> Option<[u64; 3]> {
+        let step = product::look_lent(product::State::of(state));
+        Some([step.answer, step.drops, step.loads])
+    }
+    fn commit(&self, state: &mut [u64], position: usize) -> Option<[u64; 3]> {
+        let step = product::commit(product::State::of(state), position);
+        Some([step.answer, step.drops, step.loads])
+    }
 }
 
 // ---------------------------------------------------------------------------------------------
@@ -249,9 +273,22 @@ impl<T: Entry> Lent<T> {
         }
     }
 
+    /// A list that holds these entries, and has to keep them.
+    fn holding(name: &'static str, random: &mut Random, entries: &[T]) -> Lent<T> {
+        let mut lent = Lent::new(name, random, entries.len(), entries);
+        lent.found.clone_from(&lent.expected);
+        lent
+    }
+
     fn part(&mut self) -> &mut [T] {
         let end = self.found.len() - MARGIN;
         &mut self.found[MARGIN..end]
+    }
+
+    /// From now on these entries have to stand in it.
+    fn expect(&mut self, entries: &[T]) {
+        let end = self.expected.len() - MARGIN;
+        self.expected[MARGIN..end].copy_from_slice(entries);
     }
 
     /// The entries are expected in reverse.
@@ -1073,6 +1110,86 @@ fn run(case: &Case, random: &mut Random, subjects: &[Box<dyn Subject>]) -> Verdi
             }
             name
         }
+        Case::MakeState {
+            places,
+            booked,
+            curves,
+            wants,
+            held,
+            order,
+        } => {
+            let answer = Made::new(*places, *booked, *curves, wants, *held, order);
+            let number = number_of(&answer, |made| made.tests() as u64);
+            let numbers = answer.as_ref().map_or(vec![], Made::numbers);
+            let list = walks::list_of(case).expect("a state is made");
+            notes.extend(all(MADE_STATES, walks::made_kinds(&list, &answer)));
+            notes.extend(all(MADE_FAULTS, walks::fault_kinds(&list, &FAULT_NAMES)));
+            if let Some(test) = too_wide(&answer) {
+                let kinds = booked::wide_kinds(*places, *booked, wants, test);
+                notes.extend(all(MADE_WIDE, kinds));
+            }
+            for subject in subjects {
+                let mut state = Lent::new("state", random, states::NUMBERS, &numbers);
+                let found = subject.make_state(
+                    *places,
+                    *booked,
+                    *curves,
+                    wants,
+                    *held,
+                    order,
+                    state.part(),
+                );
+                results.push(found.map(|found| compare(number, found, &[state.difference()])));
+            }
+            outcome(&answer)
+        }
+        Case::Look { state } => {
+            let any = Any::new(state);
+            let shown = any.look();
+            notes.extend(all(LOOKED_STATES, walks::state_kinds(&any)));
+            for subject in subjects {
+                let mut result = None;
+                let mut state = Lent::holding("state", random, state);
+                for _ in 0..2 {
+                    let found = subject.look(state.part());
+                    result =
+                        found.map(|found| compare(shown.numbers(), found, &[state.difference()]));
+                    if !matches!(result, Some(Ok(()))) {
+                        break;
+                    }
+                }
+                results.push(result);
+            }
+            name_of_shown(shown).to_string()
+        }
+        Case::Commit { state, positions } => {
+            let any = Any::new(state);
+            notes.extend(all(COMMITTED_STATES, walks::state_kinds(&any)));
+            notes.extend(all(COMMITS, walks::commit_kinds(&any, positions)));
+            for subject in subjects {
+                results.push(commits(subject.as_ref(), random, &any, positions));
+            }
+            match any.clone().commit(positions[0]) {
+                Ok(shown) => name_of_shown(shown).to_string(),
+                Err(no) => named(&no),
+            }
+        }
+        Case::Walk { list, moves } => {
+            let made = list.made().expect("walks are of sound lists");
+            let told = walks::told(&made, moves);
+            notes.extend(all(
+                WALKED_LISTS,
+                walks::made_kinds(list, &Ok(made.clone())),
+            ));
+            notes.extend(all(WALKED_MOVES, told.moves));
+            notes.extend(all(WALKED_STEPS, told.steps));
+            notes.extend(all(WALKED_WRONG, told.wrong));
+            notes.extend(all(WALKED_DONE, told.after_done));
+            for subject in subjects {
+                results.push(walk(subject.as_ref(), random, list, &made, moves));
+            }
+            walks::end_of(&made).to_string()
+        }
     };
     if empty::without_tests(case) == Some(true) {
         notes.extend(notes_without_tests(case, &outcome));
@@ -1094,6 +1211,113 @@ fn run(case: &Case, random: &mut Random, subjects: &[Box<dyn Subject>]) -> Verdi
         notes,
         results,
     }
+}
+
+/// The outcome's name of a look or a commit.
+fn name_of_shown(shown: Shown) -> &'static str {
+    match shown {
+        Shown::Done => "done",
+        Shown::Step { .. } => "step",
+        Shown::End { .. } => "end",
+    }
+}
+
+/// Commits of a state that was not made, each behind a look; all its numbers are compared.
+fn commits(
+    subject: &dyn Subject,
+    random: &mut Random,
+    state: &Any,
+    positions: &[usize],
+) -> Option<Result<(), String>> {
+    let mut then = state.clone();
+    let mut state = Lent::holding("state", random, &then.numbers());
+    for (at, &position) in positions.iter().enumerate() {
+        let found = subject.look(state.part())?;
+        let looked = compare(then.look().numbers(), found, &[state.difference()]);
+        if let Err(text) = looked {
+            return Some(Err(format!("look {at}: {text}")));
+        }
+        let answer = states::answered(then.commit(position));
+        let found = subject.commit(state.part(), position)?;
+        state.expect(&then.numbers());
+        let committed = compare(answer, found, &[state.difference()]);
+        if let Err(text) = committed {
+            return Some(Err(format!("commit {at} of {position}: {text}")));
+        }
+    }
+    Some(Ok(()))
+}
+
+/// A state is made, and goes through these moves to its end and beyond; all answers and numbers are
+/// compared. Copies that are left behind show the same as then. What was committed is the plan that the
+/// subject itself makes of the same.
+fn walk(
+    subject: &dyn Subject,
+    random: &mut Random,
+    list: &List,
+    made: &Made,
+    moves: &[Move],
+) -> Option<Result<(), String>> {
+    let List {
+        places,
+        booked,
+        curves,
+        wants,
+        held,
+        order,
+    } = list;
+    let mut then = made.clone();
+    let tests = then.tests();
+    let mut state = Lent::new("state", random, states::NUMBERS, &then.numbers());
+    let found = subject.make_state(*places, *booked, *curves, wants, *held, order, state.part())?;
+    if let Err(text) = compare(tests as u64, found, &[state.difference()]) {
+        return Some(Err(format!("of making the state: {text}")));
+    }
+    let mut left_behind = Vec::new();
+    let mut committed = Vec::new();
+    for (at, &step) in moves.iter().enumerate() {
+        let (expected, found) = match step {
+            Move::Look => (then.look().numbers(), subject.look(state.part())?),
+            Move::Commit(position) => {
+                let answer = then.commit(position);
+                let found = subject.commit(state.part(), position)?;
+                state.expect(&then.numbers());
+                if answer.is_ok() {
+                    committed.push(found);
+                }
+                (states::answered(answer), found)
+            }
+            Move::Copy => {
+                let copy = Lent::holding("copy", random, state.part());
+                let old = replace(&mut state, copy);
+                left_behind.push((then.look().numbers(), old));
+                continue;
+            }
+        };
+        if let Err(text) = compare(expected, found, &[state.difference()]) {
+            return Some(Err(format!("of move {at}, {step}: {text}")));
+        }
+    }
+    for (shown, mut old) in left_behind {
+        let found = subject.look(old.part())?;
+        if let Err(text) = compare(shown, found, &[old.difference()]) {
+            return Some(Err(format!("of a copy left behind: {text}")));
+        }
+    }
+    let (mut drops, mut loads, mut end) = (vec![0; tests], vec![0; tests], 0);
+    let count = subject.plan_order(
+        *places, *booked, *curves, wants, *held, order, &mut drops, &mut loads, &mut end,
+    )?;
+    let mut plan = Vec::new();
+    for (&drops, &loads) in drops.iter().zip(&loads) {
+        plan.push(Shown::Step { drops, loads }.numbers());
+    }
+    if end != 0 {
+        plan.push(Shown::End { drops: end }.numbers());
+    }
+    let loaded = committed.iter().map(|step| parts::size(step[2])).sum();
+    let planned = compare((count, plan), (loaded, committed), &[]);
+    Some(planned.map_err(|text| format!("of planning (first) and commits: {text}")))
 }
 
 /// A table's title, a name in it and how often it was met.
@@ -1292,7 +1516,7 @@ static TOLD_TABLES: LazyLock<Vec<ToldTable>> = LazyLock::new(|| {
     let (two_plain, two_with_method) = (two_of(&PLAIN), two_of(&WITH_METHOD));
     let (two_with_buffer, two_with_order) = (two_of(&WITH_BUFFER), two_of(&WITH_ORDER));
     let (two_with_plan, two_with_both) = (two_of(&WITH_PLAN), two_of(&WITH_PLAN_AND_BUFFER));
-    let tables: [(&str, Told, &str, &[&'static str]); 30] = [
+    let tables: [(&str, Told, &str, &[&'static str]); 31] = [
         ("read_job", Told::Head, "jobs read, without tests", &HEADS),
         ("read_job", Told::Lent, "jobs read, without tests, list lent", &LENT),
         ("write_job", Told::Lent, "jobs written, without tests, buffer lent", &LENT),
@@ -1323,6 +1547,7 @@ static TOLD_TABLES: LazyLock<Vec<ToldTable>> = LazyLock::new(|| {
         ("examine_by", Told::Twice, "numbers with method examined, without tests, two faults", &two_with_method),
         ("listed_order", Told::Lent, "listed orders, without tests, list lent", &LENT),
         ("package_order", Told::Lent, "package orders, without tests, list lent", &LENT),
+        ("make_state", Told::Twice, "states made, without tests, two faults", &two_with_order),
     ];
     tables.map(|(function, told, title, names)| (function, told, title, names.to_vec())).to_vec()
 });
@@ -1457,7 +1682,7 @@ fn notes_without_tests(case: &Case, outcome: &str) -> Vec<Note> {
 // The run
 
 const SEED: u64 = 20_260_101;
-const CASES: u64 = 150_000;
+const CASES: u64 = 168_000;
 
 /// From this number of cases on, a run ends with 2 if something was never reached, or too seldom.
 const MANY: u64 = 100_000;
@@ -1535,11 +1760,26 @@ const AUDITED_RAW: &str = "plans audited, raw places";
 const AUDITS_REFUSED: &str = "audits, refused";
 /// The fewest loads of an audit were confirmed by trying every plan.
 const AUDITS: &str = "audits";
+/// Faults in what a state is made of, and its kinds.
+const MADE_FAULTS: &str = "states made, faults";
+const MADE_STATES: &str = "states made";
+const MADE_WIDE: &str = "states refused 7, raw places";
+/// Numbers that were not made.
+const LOOKED_STATES: &str = "states not made, looked at";
+const COMMITTED_STATES: &str = "states not made, committed";
+const COMMITS: &str = "states not made, commits";
+const WALKED_LISTS: &str = "walks";
+const WALKED_MOVES: &str = "walks, moves";
+const WALKED_STEPS: &str = "walks, steps committed";
+const WALKED_WRONG: &str = "walks, positions of wrong commits";
+const WALKED_DONE: &str = "walks, positions of commits when done";
+
+static FAULT_NAMES: LazyLock<Vec<&'static str>> = LazyLock::new(walks::fault_names);
 
 /// For each function that is handed booked places: its number, the titles of their values and of a fault
 /// of theirs beside another one, and what else it can refuse.
 #[rustfmt::skip]
-const HANDED_TABLES: [(usize, &str, &str, &[&str]); 7] = [
+const HANDED_TABLES: [(usize, &str, &str, &[&str]); 8] = [
     (1, "jobs written, booked", "jobs written, booked and another fault",
         &["10:0", "10:1", "10:2", "10:3", "10:4+t", "9"]),
     (2, "orders made, booked", "orders made, booked and another fault",
@@ -1554,11 +1794,13 @@ const HANDED_TABLES: [(usize, &str, &str, &[&str]); 7] = [
         &["10:0", "10:1", "10:2", "10:4+t"]),
     (12, "numbers with method examined, booked", "numbers with method examined, booked and another fault",
         &["10:0", "10:1", "10:2", "10:3", "10:4+t"]),
+    (32, "states made, booked", "states made, booked and another fault",
+        &["10:0", "10:1", "10:2", "10:4+t", "7", "8", "14"]),
 ];
 
 /// For each function that is handed a holding: its number, and the titles of its kinds and of 14 beside
 /// another fault.
-const HELD_TABLES: [(usize, &str, &str); 3] = [
+const HELD_TABLES: [(usize, &str, &str); 4] = [
     (3, "plans made, holding", "plans made, 14 and another fault"),
     (
         4,
@@ -1570,10 +1812,26 @@ const HELD_TABLES: [(usize, &str, &str); 3] = [
         "plans written, holding",
         "plans written, 14 and another fault",
     ),
+    (
+        32,
+        "states made, holding",
+        "states made, 14 and another fault",
+    ),
 ];
 
 /// How often each name of these tables has to be met; of the others once is enough.
-const LEAST: [(&str, u64); 3] = [(ORDERED_DEGREES, 5), (CALL_DEGREES, 5), (SHEET_DEGREES, 5)];
+const LEAST: [(&str, u64); 10] = [
+    (ORDERED_DEGREES, 5),
+    (CALL_DEGREES, 5),
+    (SHEET_DEGREES, 5),
+    (LOOKED_STATES, 10),
+    (COMMITTED_STATES, 10),
+    (COMMITS, 20),
+    (WALKED_MOVES, 1_000),
+    (WALKED_STEPS, 100),
+    (WALKED_WRONG, 200),
+    (WALKED_DONE, 100),
+];
 
 /// What is counted beside the outcomes: the function, the title and the names.
 #[rustfmt::skip]
@@ -1583,7 +1841,8 @@ fn tables() -> Vec<(&'static str, &'static str, Vec<&'static str>)> {
     let jobs = |more: &[&'static str]| [&booked::JOBS, more].concat();
     let (jobs_read, jobs_planned, jobs_audited) = (jobs(&["13+9"]), jobs(&["13+7"]), jobs(&[]));
     let written_lengths = [LONGEST, LONGEST_HELD].concat();
-    let tables: [(&str, &str, &[&str]); 49] = [
+    let states_made = [&walks::MADE[..], &walks::TOO_MANY].concat();
+    let tables: [(&str, &str, &[&str]); 60] = [
         ("read_job", READ_BOOKED, &jobs_read),
         ("read_job", READ_LENGTHS, &booked::LONGEST),
         ("write_job", JOBS_WRITTEN, &LONGEST_JOB),
@@ -1633,6 +1892,17 @@ fn tables() -> Vec<(&'static str, &'static str, Vec<&'static str>)> {
         ("audit", AUDITED_ENDINGS, &endings),
         ("audit", AUDITS_REFUSED, &["job", "plan"]),
         ("audit", AUDITS, &["every-plan-tried"]),
+        ("make_state", MADE_STATES, &states_made),
+        ("make_state", MADE_FAULTS, &FAULT_NAMES),
+        ("make_state", MADE_WIDE, &booked::WIDE),
+        ("look", LOOKED_STATES, &walks::STATES),
+        ("commit", COMMITTED_STATES, &walks::STATES),
+        ("commit", COMMITS, &walks::COMMITS),
+        ("walk", WALKED_LISTS, &walks::MADE),
+        ("walk", WALKED_MOVES, &walks::MOVES),
+        ("walk", WALKED_STEPS, &walks::STEPS),
+        ("walk", WALKED_WRONG, &walks::WRONG),
+        ("walk", WALKED_DONE, &walks::AFTER_DONE),
     ];
     let told = TOLD_TABLES.iter().map(|(function, _, title, names)| (*function, *title, names.clone()));
     let tables = tables.map(|(function, title, names)| (function, title, names.to_vec()));
@@ -1689,6 +1959,10 @@ const OUTCOMES: [&[&str]; FUNCTIONS.len()] = [
     &SETS,
     &["yes", "no"],
     &NUMBERS,
+    &["ok", "7", "8", "10:0", "10:1", "10:2", "10:4+", "10:260", "13", "14"],
+    &["done", "step", "end"],
+    &["step", "end", "15"],
+    &walks::ENDS,
 ];
 
 /// What each function can come out with where the list has no tests; nothing where a function has to
@@ -1727,6 +2001,10 @@ const OUTCOMES_WITHOUT_TESTS: [&[&str]; FUNCTIONS.len()] = [
     &[],
     &[],
     &[],
+    &["ok", "8", "10:0", "10:1", "10:260", "13", "14"],
+    &["done", "end"],
+    &["end", "15"],
+    &["end-step-alone", "done-at-once"],
 ];
 
 const SETS: [&str; 3] = ["empty", "some", "full"];
@@ -1883,7 +2161,10 @@ fn main() {
         "\noutcomes of the reference (ok, or refusal number; 10 with its figure; 12 with what is"
     );
     println!("faulty; plan: where an audit refuses the plan; 9 of a text with what it would have");
-    println!("told: ok, or what is refused; for sets the kind of set, or the number asked)");
+    println!(
+        "told: ok, or what is refused; for sets the kind of set, or the number asked; of a look"
+    );
+    println!("what is the next, of commits what the first carries out, of a walk how it ends)");
     let skipped =
         |called: usize| histogram[called].is_empty() && (function.is_some() || only.is_some());
     for (called, outcomes) in OUTCOMES.iter().enumerate() {

@@ -7,6 +7,8 @@
 //! `curveplan_sheet` and `curveplan_audit` refuse nothing but a buffer that is too short.
 
 use crate::generate::SetFunction;
+use crate::states::{ENTRIES, NUMBERS};
+use std::mem::{offset_of, size_of};
 
 /// What reading a job answers: the number of tests or the refusal, and the job's numbers.
 #[repr(C)]
@@ -24,6 +26,50 @@ pub struct JobHead {
 pub struct StepPart {
     pub start: usize,
     pub count: usize,
+}
+
+/// A list that is carried out step by step.
+#[repr(C)]
+pub struct State {
+    pub capacity: u64,
+    pub held: u64,
+    pub committed: u64,
+    pub tests: u64,
+    pub wants: [u64; ENTRIES],
+}
+
+// Numbers at fixed places, 2,080 bytes in all.
+const _: () = assert!(size_of::<State>() == 2_080 && size_of::<State>() == 8 * NUMBERS);
+const _: () = assert!(offset_of!(State, capacity) == 0 && offset_of!(State, held) == 8);
+const _: () = assert!(offset_of!(State, committed) == 16 && offset_of!(State, tests) == 24);
+const _: () = assert!(offset_of!(State, wants) == 32);
+
+impl Default for State {
+    fn default() -> State {
+        State {
+            capacity: 0,
+            held: 0,
+            committed: 0,
+            tests: 0,
+            wants: [0; ENTRIES],
+        }
+    }
+}
+
+impl State {
+    /// The state of these numbers, which stand in its order.
+    pub fn of(numbers: &mut [u64]) -> &mut State {
+        assert_eq!(numbers.len(), NUMBERS);
+        unsafe { &mut *numbers.as_mut_ptr().cast() }
+    }
+}
+
+/// What a look shows, and what a commit answers.
+#[repr(C)]
+pub struct ShownStep {
+    pub answer: u64,
+    pub drops: u64,
+    pub loads: u64,
 }
 
 extern "C" {
@@ -68,6 +114,19 @@ extern "C" {
         loads_len: usize,
         end: *mut u64,
     ) -> u64;
+    fn curveplan_make_state(
+        places: usize,
+        booked: usize,
+        curves: usize,
+        wants: *const u64,
+        wants_len: usize,
+        held: u64,
+        order: *const u16,
+        order_len: usize,
+        state: *mut State,
+    ) -> u64;
+    fn curveplan_look(state: *const State) -> ShownStep;
+    fn curveplan_commit(state: *mut State, position: usize) -> ShownStep;
     fn curveplan_check_plan(
         places: usize,
         booked: usize,
@@ -180,8 +239,8 @@ extern "C" {
 }
 
 // Safety of all calls below: every pointer comes from a live slice and goes with that slice's own
-// length, or is that of the one number lent for a group's or an end step's set; what is lent for
-// writing is borrowed alone.
+// length, or is that of the one number lent for a group's or an end step's set, or of the numbers of
+// a state; what is lent for writing is borrowed alone.
 
 pub fn read_job(job: &[u8], wants: &mut [u64]) -> JobHead {
     unsafe { curveplan_read_job(job.as_ptr(), job.len(), wants.as_mut_ptr(), wants.len()) }
@@ -260,6 +319,43 @@ pub fn plan_order(
             end,
         )
     }
+}
+
+pub fn make_state(
+    places: usize,
+    booked: usize,
+    curves: usize,
+    wants: &[u64],
+    held: u64,
+    order: &[u16],
+    state: &mut State,
+) -> u64 {
+    unsafe {
+        curveplan_make_state(
+            places,
+            booked,
+            curves,
+            wants.as_ptr(),
+            wants.len(),
+            held,
+            order.as_ptr(),
+            order.len(),
+            state,
+        )
+    }
+}
+
+pub fn look(state: &State) -> ShownStep {
+    unsafe { curveplan_look(state) }
+}
+
+/// The same of a state that is lent for writing, so that a change would be seen.
+pub fn look_lent(state: &mut State) -> ShownStep {
+    unsafe { curveplan_look(state as *mut State) }
+}
+
+pub fn commit(state: &mut State, position: usize) -> ShownStep {
+    unsafe { curveplan_commit(state, position) }
 }
 
 #[allow(clippy::too_many_arguments)]

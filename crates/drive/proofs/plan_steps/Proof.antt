@@ -39,27 +39,24 @@ loop-holds c =
       goes = record { long-drops = refl; long-loads = refl; ends = refl; dropped = refl; loaded = refl };
     }
 
-wanted-later-requires : tie.Need-wanted-later-requires Inv-loop μ-loop
-wanted-later-requires c κs =
-    let l = c .before .before in
-    let q = l .before .loop in
-    λ h. q .inv .ahead (q .i) (omega arith) (l .loop-test .taken) h ∙ ap together (sym (c .before .later .ensures))
+slice-aggregate-step-with : tie.Need-slice-aggregate-step-with Inv-loop μ-loop
+slice-aggregate-step-with c = sym (c .before .before .before .before .before .loop .inv .long-groups)
 
-slice-aggregate-drops-with : tie.Need-slice-aggregate-drops-with Inv-loop μ-loop
-slice-aggregate-drops-with c = sym (c .before .before .before .before .before .before .loop .inv .long-groups)
+slice-aggregate-step-with-2 : tie.Need-slice-aggregate-step-with-2 Inv-loop μ-loop
+slice-aggregate-step-with-2 c = sym (c .before .before .before .before .before .before .loop .inv .long-when)
 
-slice-aggregate-drops-with-2 : tie.Need-slice-aggregate-drops-with-2 Inv-loop μ-loop
-slice-aggregate-drops-with-2 c = sym (c .before .before .before .before .before .before .before .loop .inv .long-when)
-
-drops-with-requires : tie.Need-drops-with-requires Inv-loop μ-loop
-drops-with-requires c κs =
-    let i = c .before .before .before .before .before .before .before .loop .inv in
-    (c .before .before .before .wanted-later .ensures, (omega (arith, i .long-groups), omega (arith, i .long-when)))
+step-with-requires : tie.Need-step-with-requires Inv-loop μ-loop
+step-with-requires c κs =
+    let l = c .before .before .before .before .before in
+    let q = l .before .loop in (
+      (λ h. q .inv .ahead (q .i) (omega arith) (l .loop-test .taken) h ∙ ap together (sym (c .before .before .before .before .later .ensures))),
+      (omega (arith, q .inv .long-groups), omega (arith, q .inv .long-when)),
+    )
 
 add-i : tie.Need-add-i Inv-loop μ-loop
 add-i c =
-    let st = c .before .before .before .before .before .before .before .before .before .before .before .before in
-    let l = st .before .before .before .before .before .before .before in
+    let st = c .before .before .before .before .before .before .before .before .before .before .before in
+    let l = st .before .before .before .before .before .before in
     omega (arith, l .loop-test .taken, l .before .before .before .before .before .before .before .before .before .good)
 
 -- the entries behind step i are not written yet
@@ -71,18 +68,18 @@ loop-again : tie.Need-loop-again Inv-loop μ-loop
 loop-again c =
     let put = c .before .before .before .before .before .before .before in
     let put2 = c .before .before .before in
-    let st = c .before .before .before .before .before .before .before .before .before .before .before .before in
-    let l = st .before .before .before .before .before .before .before in
+    let st = c .before .before .before .before .before .before .before .before .before .before .before in
+    let l = st .before .before .before .before .before .before in
     let q = l .before .loop in
     let a = l .before .before .before .before .before .before .before .before .before .args in
     let w = now (a .wants) in
-    let t = c .before .before .before .before .before .before .before .before .before .with-drops in
-    let drops = rw (st .before .before .before .before .before .before .later .ensures) at (st .drops-with .ensures) in
-    let e : t .result ≡ next (furthest 64) (a .capacity) (q .held) (getD w (q .i) 0) (drop (q .i + 1) w) = rw drops at (t .ensures) in
+    let t = st .step-with in
+    let behind = st .before .before .before .before .before .later .ensures in
+    let e : t .result ≡ next (furthest 64) (a .capacity) (q .held) (getD w (q .i) 0) (drop (q .i + 1) w) = rw behind at (t .ensures) in
     record {
       turns = omega (arith, l .loop-test .taken);
-      long-groups = st .drops-with .kept .1 .1 .1 .1 .1 .0 ∙ q .inv .long-groups;
-      long-when = st .drops-with .kept .1 .1 .1 .1 .1 .1 .0 ∙ q .inv .long-when;
+      long-groups = st .step-with .kept .1 .1 .1 .1 .1 .1 .0 ∙ q .inv .long-groups;
+      long-when = st .step-with .kept .1 .1 .1 .1 .1 .1 .1 .0 ∙ q .inv .long-when;
       ahead = rw (put2 .put2 .ensures) (ahead-too w (q .loads) (q .i) (t .result .loads) (q .inv .ahead));
       goes = rw (put .put .ensures, put2 .put2 .ensures, c .moved .ensures) (goes-on _ _ _ _ _ _ (q .inv .goes) (l .loop-test .taken) e);
     }
@@ -106,6 +103,6 @@ returns c =
 
 pub plan-steps-spec : {M : Type 1} → statement M
 plan-steps-spec =
-    tie.close (tie.spec Inv-loop μ-loop (λ c κs. tt) loop-holds (λ c κs. omega arith) wanted-later-requires (λ c. search needs) (λ c. search needs)
-    slice-aggregate-drops-with slice-aggregate-drops-with-2 drops-with-requires (λ c κs. tt) (λ c κs. tt) (λ c κs. tt) (λ c κs. tt) add-i
+    tie.close (tie.spec Inv-loop μ-loop (λ c κs. tt) loop-holds (λ c κs. omega arith) (λ c. search needs) (λ c. search needs)
+    slice-aggregate-step-with slice-aggregate-step-with-2 step-with-requires (λ c κs. tt) (λ c κs. tt) (λ c κs. tt) add-i
     (λ c. search needs) loop-again same-length same-length-2 returns)

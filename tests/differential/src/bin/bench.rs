@@ -9,7 +9,9 @@
 //! jobs, so that no list is learnt by heart by the processor.
 //!
 //! Two more tables have the stages of the call, each timed by itself, of the library and of the C
-//! program.
+//! program. The last one has lists carried out by looks and commits: the library's time for planning a
+//! list at once, and that for making a state and for a look and a commit of each step as ratios, to
+//! planning and to the same by the tuned implementation.
 
 use differential::fast;
 use differential::generate;
@@ -282,6 +284,140 @@ fn print_stages(tests: usize, rounds: usize, clock: u64) {
     }
 }
 
+/// The sets of a plan.
+#[cfg(feature = "product")]
+#[derive(Debug, PartialEq)]
+struct Sets {
+    drops: [u64; 256],
+    loads: [u64; 256],
+    end: u64,
+}
+
+#[cfg(feature = "product")]
+impl Sets {
+    const EMPTY: Sets = Sets {
+        drops: [0; 256],
+        loads: [0; 256],
+        end: 0,
+    };
+
+    fn note(&mut self, tests: usize, position: usize, drops: u64, loads: u64) {
+        if position < tests {
+            self.drops[position] = drops;
+            self.loads[position] = loads;
+        } else {
+            self.end = drops;
+        }
+    }
+}
+
+/// A list planned at once.
+#[cfg(feature = "product")]
+fn planned(places: usize, wants: &[u64], order: &[u16], sets: &mut Sets) {
+    product::plan_order(
+        places,
+        0,
+        CURVES,
+        wants,
+        0,
+        order,
+        &mut sets.drops,
+        &mut sets.loads,
+        &mut sets.end,
+    );
+}
+
+/// A list looked at and committed step by step.
+#[cfg(feature = "product")]
+fn committed(places: usize, wants: &[u64], order: &[u16], sets: &mut Sets) {
+    let mut state = product::State::default();
+    product::make_state(places, 0, CURVES, wants, 0, order, &mut state);
+    for position in 0..order.len() + 2 {
+        if product::look(black_box(&state)).answer == 0 {
+            break;
+        }
+        let step = product::commit(&mut state, position);
+        sets.note(order.len(), position, step.drops, step.loads);
+    }
+}
+
+/// The same by the tuned implementation.
+#[cfg(feature = "product")]
+fn committed_tuned(places: usize, wants: &[u64], order: &[u16], sets: &mut Sets) {
+    let mut state = tuned::State::new(places as u32, wants, order);
+    for position in 0..order.len() + 2 {
+        if black_box(black_box(&state).look()).is_none() {
+            break;
+        }
+        if let Some((drops, loads)) = state.commit(position) {
+            sets.note(order.len(), position, drops, loads);
+        }
+    }
+}
+
+/// Planning, and looks and commits of the library and of the tuned implementation: the mean time of a
+/// list, in nanoseconds.
+#[cfg(feature = "product")]
+fn measure_looks(kind: &Kind, tests: usize, rounds: usize, clock: u64) -> [f64; 3] {
+    let jobs = kind.jobs(0, tests);
+    let mut lists = vec![vec![0; tests]; jobs.len()];
+    for (job, wants) in jobs.iter().zip(&mut lists) {
+        assert_eq!(product::read_job(job, wants).tests, tests);
+    }
+    let order: Vec<u16> = (0..tests as u16).collect();
+    let ways = [planned, committed, committed_tuned];
+    for wants in &lists {
+        let [first, second, third] = ways.map(|way| {
+            let mut sets = Sets::EMPTY;
+            way(kind.places, wants, &order, &mut sets);
+            sets
+        });
+        assert_eq!(second, first);
+        assert_eq!(third, first);
+    }
+    let mut least = vec![[u64::MAX; 3]; lists.len()];
+    let mut sets = Sets::EMPTY;
+    for round in 0..rounds {
+        for (wants, least) in lists.iter().zip(&mut least) {
+            for turn in 0..ways.len() {
+                let w = (round + turn) % ways.len();
+                note(&mut least[w], clock, || {
+                    ways[w](kind.places, black_box(wants), &order, &mut sets)
+                });
+            }
+        }
+    }
+    [0, 1, 2].map(|w| least.iter().map(|times| times[w]).sum::<u64>() as f64 / lists.len() as f64)
+}
+
+/// The table of looks and commits: a row for each kind of list.
+#[cfg(feature = "product")]
+fn print_looks(rounds: usize, clock: u64) {
+    println!(
+        "\n| places | wants | planning, µs, {0} tests | {1} | {2} | looks and commits / planning, \
+         {0} tests | {1} | {2} | looks and commits / tuned, {0} tests | {1} | {2} |\n|---|---|{3}",
+        TESTS[0],
+        TESTS[1],
+        TESTS[2],
+        "---|".repeat(9)
+    );
+    for kind in kinds() {
+        let mut cells = vec![Vec::new(); 3];
+        for tests in TESTS {
+            let [plan, library, tuned] = measure_looks(&kind, tests, rounds, clock);
+            cells[0].push(format!("{:.2}", plan / 1_000.0));
+            cells[1].push(format!("{:.2}", library / plan));
+            cells[2].push(format!("{:.2}", library / tuned));
+        }
+        println!(
+            "| {} | {} | {} |",
+            kind.places,
+            kind.wants(),
+            cells.concat().join(" | ")
+        );
+    }
+}
+
 /// The processor's name, where the system tells it.
 fn processor() -> String {
     let text = std::fs::read_to_string("/proc/cpuinfo").unwrap_or_default();
@@ -376,7 +512,10 @@ fn main() {
     }
 
     #[cfg(feature = "product")]
-    for tests in [256, 16] {
-        print_stages(tests, rounds, clock);
+    {
+        for tests in [256, 16] {
+            print_stages(tests, rounds, clock);
+        }
+        print_looks(rounds, clock);
     }
 }

@@ -1,7 +1,7 @@
 -- `wanted_later` meets its contract.
 use borrow.Author.Needs.{needs}
-use Rattle.drive.proofs.wanted_later.Statement.{statement}
-use Rattle.drive.proofs.wanted_later.Tie as tie
+use Rattle.drive.proofs.choice.wanted_later.Statement.{statement}
+use Rattle.drive.proofs.choice.wanted_later.Tie as tie
 
 returns : tie.Need-returns
 returns c = c .before .before .before .before .pre (c .before .if1 .taken)
