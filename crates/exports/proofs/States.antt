@@ -4,7 +4,7 @@ use mathlib.Core.List.{List, [], _∷_, _++_, append-nil}
 use Prim.Native.Nat.{ℕ, suc, _+_, _≤_, _<_}
 use native.Mathlib.Omega.{arith}
 use native.Mathlib.Numerals.{add-one}
-use lib.ListN.{length, getD, take, drop, set, length-set, drop-of-length-le}
+use lib.ListN.{length, getD, take, drop, set, length-set, length-drop, drop-of-length-le}
 use lib.Seq.{drop-cons, sets, sets-eq}
 use Rattle.lists.proofs.Overwritten.{sets-cons}
 use Rattle.job.specs.declared.Refusal.{Refusal}
@@ -28,23 +28,17 @@ numbers-back (a ∷ b ∷ c ∷ d ∷ ws) l = refl
 pub numbers-moved : (ns : List ℕ) (held committed : ℕ) → 4 ≤ length ns
     → set (set ns 1 held) 2 committed
     ≡ numbersOf (record { capacity = getD ns 0 0; held = held; committed = committed; tests = getD ns 3 0; wants = drop 4 ns })
-numbers-moved [] h k l = absurd (omega arith)
-numbers-moved (a ∷ []) h k l = absurd (omega arith)
-numbers-moved (a ∷ b ∷ []) h k l = absurd (omega arith)
-numbers-moved (a ∷ b ∷ c ∷ []) h k l = absurd (omega arith)
-numbers-moved (a ∷ b ∷ c ∷ d ∷ ws) h k l = refl
+numbers-moved ns held committed l = ap (λ (xs : List ℕ). set (set xs 1 held) 2 committed) (sym (numbers-back ns l))
 
 -- .. and when all are written
 pub numbers-written : (ns : List ℕ) (s : State) → length ns ≡ 260 → length (s .wants) ≡ 256
     → sets (set (set (set (set ns 0 (s .capacity)) 1 (s .held)) 2 (s .committed)) 3 (s .tests)) 4 (s .wants) ≡ numbersOf s
-numbers-written [] s l w = absurd (omega arith)
-numbers-written (a ∷ []) s l w = absurd (omega arith)
-numbers-written (a ∷ b ∷ []) s l w = absurd (omega arith)
-numbers-written (a ∷ b ∷ c ∷ []) s l w = absurd (omega arith)
-numbers-written (a ∷ b ∷ c ∷ d ∷ ws) s l w =
-    let list = s .capacity ∷ s .held ∷ s .committed ∷ s .tests ∷ ws in
-    let behind = drop-of-length-le list {i = 4 + length (s .wants)} (omega arith) in
-    sets-eq (s .wants) list 4 (omega arith) ∙ ap (λ (xs : List ℕ). take 4 list ++ s .wants ++ xs) behind
+numbers-written ns s l w =
+    let list = s .capacity ∷ s .held ∷ s .committed ∷ s .tests ∷ drop 4 ns in
+    let four = ap (λ (xs : List ℕ). set (set (set (set xs 0 (s .capacity)) 1 (s .held)) 2 (s .committed)) 3 (s .tests)) (sym (numbers-back ns (omega arith))) in
+    let behind = drop-of-length-le list {i = 4 + length (s .wants)} (omega (arith, length-drop 4 ns)) in
+    ap (λ (xs : List ℕ). sets xs 4 (s .wants)) four ∙ sets-eq (s .wants) list 4 (omega (arith, length-drop 4 ns))
+    ∙ ap (λ (xs : List ℕ). take 4 list ++ s .wants ++ xs) behind
     ∙ ap (λ (xs : List ℕ). s .capacity ∷ s .held ∷ s .committed ∷ s .tests ∷ xs) (append-nil (s .wants))
 
 -- ---- one number after the other

@@ -39,7 +39,7 @@ unfoldable pub tried : State → List ℕ → State
 tried s [] = s
 tried s (p ∷ ps) = tried (afterCommit s p) ps
 
--- what is held behind some steps, of h held before the first
+-- "What is held follows from those sets alone": behind some steps, of h held before the first
 unfoldable pub heldThrough : ℕ → List NextStep → ℕ
 heldThrough h [] = h
 heldThrough h (l ∷ ls) = heldThrough (heldBehind h l) ls

@@ -55,7 +55,7 @@ commitAt capacity h k ws position = do
 
 -- ---- states
 
--- the wants of a state's steps, in their order
+-- the wants of a state's steps, "the order giving the steps' tests"
 abbrev pub stepWants : State → List ℕ
 stepWants s = take (s .tests) (s .wants)
 

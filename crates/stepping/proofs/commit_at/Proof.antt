@@ -10,9 +10,9 @@ use Rattle.stepping.proofs.commit_at.Statement.{statement}
 use Rattle.stepping.proofs.commit_at.Tie as tie
 
 -- whether all is done
-done-is : (c : tie.After-is-done) → let a = c .before .before .before .before .args in
+next-done : (c : tie.After-is-done) → let a = c .before .before .before .before .args in
     isDone (lookAt (a .capacity) (a .held) (a .committed) (now (a .wants))) ≡ c .is-done .result
-done-is c = sym (c .is-done .ensures ∙ ap isDone (c .before .look-at .ensures))
+next-done c = sym (c .is-done .ensures ∙ ap isDone (c .before .look-at .ensures))
 
 returns : tie.Need-returns
 unfolding commitOutcome
@@ -21,14 +21,14 @@ returns c =
     let a = k .before .before .before .before .args in
     ap done (k .before .look-at .ensures)
     ∙ sym (commit-next (a .capacity) (a .held) (a .committed) (now (a .wants)) (a .position) (k .before .before .if1 .taken)
-    (done-is k ∙ not-true _ (c .if2 .taken)))
+    (next-done k ∙ not-true _ (c .if2 .taken)))
 
 returns-2 : tie.Need-returns-2
 unfolding commitOutcome
 returns-2 c =
     let k = c .before in
     let a = k .before .before .before .before .args in
-    sym (commit-behind (a .capacity) (a .held) (a .committed) (now (a .wants)) (a .position) (done-is k ∙ not-false _ (c .if2 .left)))
+    sym (commit-behind (a .capacity) (a .held) (a .committed) (now (a .wants)) (a .position) (next-done k ∙ not-false _ (c .if2 .left)))
 
 returns-3 : tie.Need-returns-3
 unfolding commitOutcome
