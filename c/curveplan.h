@@ -1,6 +1,6 @@
 /*
  * The rig's curve planner. The formats, the orders, the plan and the refusals are those of document 01, with the end step, the tie rule, the list without
- * tests, the booked places, the curves held at the start, and looks and commits of document 02 (wishes 1 to 3 and 5 to 7; wish 4 changes no answer).
+ * tests, the booked places, the curves held at the start, and looks and commits of document 02, and without method 2 (wishes 1 to 8; wish 4 changes no answer).
  *
  * One call goes from a job's bytes to its plan's bytes: curveplan_plan, in the archive libcurveplan.a. The other functions take the steps between one by one,
  * and are in libexports.a; the smaller parts of these are declared in curveplan_parts.h.
@@ -56,9 +56,10 @@ enum curveplan_refusal {
     CURVEPLAN_BAD_ORDER = 8,        /* figure: the first position with a number out of range or seen before, or the first missing or surplus position, the
                                        smaller (plan_order, make_state, check_plan, write_plan) */
     CURVEPLAN_BUFFER_TOO_SMALL = 9, /* a lent list or buffer cannot take the result; figure: the entries that it needs (every call that fills one) */
-    CURVEPLAN_BAD_ARGUMENT = 10,    /* a handed number; figure: 0 places (not 1 to 64), 1 curves (not 1 to 64), 2 more than 256 tests, 3 method (above 3),
-                                       4 + t: the wants of test t name a curve that the job lacks, 260 booked (above 63); asked in this order (write_job,
-                                       order_tests; without the method plan_order, make_state, check_plan, write_plan; curves and tests only read_plan) */
+    CURVEPLAN_BAD_ARGUMENT = 10,    /* a handed number; figure: 0 places (not 1 to 64), 1 curves (not 1 to 64), 2 more than 256 tests,
+                                       3 method (not 0, 1 or 3), 4 + t: the wants of test t name a curve that the job lacks, 260 booked (above 63); asked in
+                                       this order (write_job, order_tests; without the method plan_order, make_state, check_plan, write_plan; curves and tests
+                                       only read_plan) */
     CURVEPLAN_BAD_PLAN_BYTES = 11,  /* figure: the offset of the first malformed or surplus byte; the length if a byte is owed (read_plan) */
     CURVEPLAN_PLAN_REJECTED = 12,   /* figure: the first missing or surplus position of the drops or loads, the smaller; else the first step that breaks a
                                        rule of the check; else the number of tests, where the end set is not what is held (check_plan, write_plan) */
@@ -71,8 +72,8 @@ enum curveplan_refusal {
 /* ---- the one call: archive libcurveplan.a */
 
 /*
- * Reads a job, orders its tests by the job's method, plans the drops and loads from an empty drive, and writes the plan's bytes to `plan`, which has room for
- * `plan_len` bytes.
+ * Reads a job, orders its tests by the job's method (method 2 of an old file reads as 1), plans the drops and loads from an empty drive, and writes the plan's
+ * bytes to `plan`, which has room for `plan_len` bytes.
  *
  * No plan from an empty drive for the same job and order of its tests that passes the check (curveplan_check_plan) has fewer loads. Of the curves that may go,
  * those whose next use is furthest are dropped, the highest among equals. The plan ends with an empty drive: where something is held behind the last test, an
@@ -108,11 +109,12 @@ struct curveplan_job {
     size_t booked; /* of the places */
     size_t curves;
     size_t tests;
-    size_t method;
+    size_t method; /* 0, 1 or 3; 1 of an old file with method 2 */
 };
 
 /*
- * Reads a job's bytes. The wants of its tests go to `wants`.
+ * Reads a job's bytes. The wants of its tests go to `wants`. An old file with method 2 reads as method 1, here and wherever a job's bytes are handed over;
+ * written back it has 1 there, and no other byte changes.
  * Refusals: in byte order of the head 1 and 2, and at its end 13; in byte order of the records 1, 3 and 4; 6; 9 with the number of tests.
  */
 struct curveplan_job curveplan_read_job(const uint8_t *job, size_t job_len, uint64_t *wants, size_t wants_len);
@@ -124,7 +126,7 @@ struct curveplan_job curveplan_read_job(const uint8_t *job, size_t job_len, uint
 uint64_t curveplan_write_job(size_t places, size_t booked, size_t curves, size_t method, const uint64_t *wants, size_t tests, uint8_t *out, size_t out_len);
 
 /*
- * Orders the tests: method 0 as listed, 1 reverse Cuthill-McKee, 2 spanning tree, 3 packages. The tests' numbers go to `order`; answers how many they are.
+ * Orders the tests: method 0 as listed, 1 reverse Cuthill-McKee, 3 packages; 2 is none any more. The tests' numbers go to `order`; answers how many they are.
  * Refusals: 10; 13; 7; 9 with the number of tests.
  */
 uint64_t curveplan_order_tests(size_t places, size_t booked, size_t curves, size_t method, const uint64_t *wants, size_t tests, uint16_t *order,

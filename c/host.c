@@ -45,7 +45,7 @@ int main(void)
     static const uint8_t booked_three_curves[] = {0x15, 0x03, 0x01, 0x00, 0x01, 0x01, 0x07};
     static const uint8_t all_booked[] = {0x15, 0x03, 0x01, 0x00, 0x03, 0x01, 0x07};
     static const uint8_t bad_booked[] = {0x10, 0x40};
-    static const char *method[] = {"method 1", "method 2", "method 3"};
+    static const char *method[] = {"method 1", "an old file with method 2, read as method 1", "method 3"};
 
     plan("job A", a, sizeof a, CURVEPLAN_PLAN_BYTES);
     plan("25 bytes of room", a, sizeof a, 25);

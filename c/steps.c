@@ -1,6 +1,6 @@
 /*
  * A host that goes step by step: reads job A of document 01, orders, plans, checks, writes and reads bytes, fetches steps, and prints audits and a sheet. Then
- * it goes through a job with an empty list, and through job A in a drive with a booked place.
+ * it goes through a job with an empty list, through job A in a drive with a booked place, and through an old file of job A, with method 2.
  */
 #include <stdio.h>
 #include <string.h>
@@ -25,6 +25,9 @@ struct lists {
     uint64_t end;
 };
 
+/* Of these 2 is no method any more. */
+static const char *const methods[] = {"method 0", "method 1", "method 2", "method 3"};
+
 /* The tests in the order of a method. */
 static void print_order(size_t method, const uint16_t *order)
 {
@@ -33,6 +36,20 @@ static void print_order(size_t method, const uint16_t *order)
         printf(" %u", order[i]);
     }
     printf("\n");
+}
+
+/* Orders job A by a method. One that is refused changes nothing in the order that is lent. */
+static void print_order_by(size_t method, const uint64_t *wants)
+{
+    uint16_t order[TESTS];
+    mark(order, sizeof order);
+    uint64_t answer = curveplan_order_tests(PLACES, BOOKED, CURVES, method, wants, TESTS, order, TESTS);
+    if (curveplan_refused_48(answer)) {
+        print_answer(methods[method], answer, "tests");
+        print_change(order, sizeof order);
+    } else {
+        print_order(method, order);
+    }
 }
 
 static void print_text(const char *what, uint64_t answer, const uint8_t *text)
@@ -98,7 +115,6 @@ static void print_refusals_of_plans(const uint64_t *wants, const uint16_t *order
 static void print_empty_list(void)
 {
     static const uint8_t empty_list[] = {0x00}, end_alone[] = {0x01, 0x01, 0x03};
-    static const char *methods[] = {"method 0", "method 1", "method 2", "method 3"};
     static uint8_t text[CURVEPLAN_SHEET_BYTES];
     uint64_t wants[TESTS], answer;
     uint8_t job[sizeof empty_list], plan[CURVEPLAN_PLAN_BYTES];
@@ -182,6 +198,40 @@ static void print_booked(void)
     print_change(&lent, sizeof lent);
 }
 
+/* The bytes in which two jobs of the same length differ. */
+static void print_other_bytes(const uint8_t *before, const uint8_t *now, size_t count)
+{
+    for (size_t i = 0; i < count; i++) {
+        if (before[i] != now[i]) {
+            printf("byte %u: %02x before, %02x now\n", (unsigned)i, before[i], now[i]);
+        }
+    }
+}
+
+/* An old file of job A, with method 2: it reads as method 1, and is written back with 1, the only byte that changes. A handed 2 is refused. */
+static void print_old_file(void)
+{
+    static const uint8_t old_a[] = {0x0f, 0x02, 0x04, 0x04, 0x00, 0x02, 0x01, 0x03, 0x01, 0x06, 0x01, 0x03, 0x01, 0x08};
+    static uint8_t text[CURVEPLAN_SHEET_BYTES];
+    uint64_t wants[TESTS], answer;
+    uint16_t order[TESTS];
+    uint8_t job[sizeof old_a];
+
+    struct curveplan_job head = curveplan_read_job(old_a, sizeof old_a, wants, TESTS);
+    size_t places = head.places, booked = head.booked, curves = head.curves;
+    printf("job A with method 2: %u tests, %u places, %u curves, method %u\n", (unsigned)head.tests, (unsigned)places, (unsigned)curves, (unsigned)head.method);
+    answer = curveplan_write_job(places, booked, curves, head.method, wants, TESTS, job, sizeof job);
+    print_answer("written back", answer, "bytes");
+    print_other_bytes(old_a, job, sizeof job);
+    curveplan_order_tests(places, booked, curves, head.method, wants, TESTS, order, TESTS);
+    print_order(head.method, order);
+    print_text("sheet", curveplan_sheet(old_a, sizeof old_a, text, sizeof text), text);
+
+    mark(job, sizeof job);
+    print_answer("written with method 2", curveplan_write_job(places, booked, curves, 2, wants, TESTS, job, sizeof job), "bytes");
+    print_change(job, sizeof job);
+}
+
 int main(void)
 {
     static const uint16_t order[TESTS] = {0, 3, 1, 2};
@@ -191,7 +241,6 @@ int main(void)
     static const uint64_t worse_end = 0x3;
     static uint8_t text[CURVEPLAN_SHEET_BYTES];
     uint64_t wants[TESTS], drops[TESTS], loads[TESTS], end;
-    uint16_t by_method[TESTS];
     struct lists back;
     uint8_t job[sizeof job_a], plan[CURVEPLAN_PLAN_BYTES], worse[CURVEPLAN_PLAN_BYTES];
     uint64_t answer;
@@ -210,8 +259,7 @@ int main(void)
     print_answer("written back", answer, memcmp(job, job_a, sizeof job) == 0 ? "bytes, the same" : "bytes, others");
 
     for (unsigned method = 0; method <= 3; method++) {
-        curveplan_order_tests(PLACES, BOOKED, CURVES, method, wants, TESTS, by_method, TESTS);
-        print_order(method, by_method);
+        print_order_by(method, wants);
     }
 
     answer = curveplan_plan_order(PLACES, BOOKED, CURVES, wants, TESTS, HELD, order, TESTS, drops, TESTS, loads, TESTS, &end);
@@ -245,5 +293,6 @@ int main(void)
     print_refusals_of_plans(wants, order, drops, loads, end, plan_len);
     print_empty_list();
     print_booked();
+    print_old_file();
     return 0;
 }

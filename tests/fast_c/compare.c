@@ -1,10 +1,12 @@
 /*
  * Compares the C program with the library's call on random, damaged, boundary and two-fault jobs, with booked places and without, on empty lists, on jobs with
- * many curves of equal next use, and on jobs of method 1 with large degrees: the answer, and every byte of the plan's buffer. Fails on the first difference, on
- * a refusal that the call does not have, and if one of these never came up: some refusal, some method's success, an empty list planned without room or refused
- * for bytes behind it, a plan of a job with many equal next uses, a kind of degrees, an end with nothing held, with some places taken or with a full drive, the
- * longest job, the longest plan; with booked places some method's success, a plan of each method, an order and a refusal 7 that would be others if none were
- * booked, one place left, the places absent, as many booked as places, more, and 13 before or behind another fault. The same jobs in every run.
+ * many curves of equal next use, and on jobs of method 1 with large degrees: the answer, and every byte of the plan's buffer. Among each kind are old files,
+ * whose method byte is 2: with 1 in its place the library answers and writes the same. Fails on the first difference, on a refusal that the call does not have,
+ * and if one of these never came up: some refusal, some method's success, an empty list planned without room or refused for bytes behind it, a plan of a job
+ * with many equal next uses, a kind of degrees, an end with nothing held, with some places taken or with a full drive, the longest job, the longest plan; with
+ * booked places some method's success, a plan of each method, an order and a refusal 7 that would be others if none were booked, one place left, the places
+ * absent, as many booked as places, more, and 13 before or behind another fault; an old file of each kind planned and one refused, with booked places too, and
+ * one whose order would be another by method 0, and by method 3. The same jobs in every run.
  */
 #include <stdio.h>
 #include <string.h>
@@ -26,6 +28,9 @@
 /* The call's refusals; 5 is withdrawn. */
 static const unsigned REFUSALS[] = {1, 2, 3, 4, 6, 7, 9, 13};
 #define MOST_REFUSAL 13
+
+/* The methods; a method byte of 2 is read as 1. */
+static const unsigned METHODS[] = {0, 1, 3};
 
 static uint64_t state = 20261116;
 
@@ -254,7 +259,7 @@ static void dense_wants(uint64_t *wants, unsigned tests)
     }
 }
 
-/* A job of method 1 with large degrees. Its tests fit. */
+/* A job of method 1 with large degrees, or an old file that is read so. Its tests fit. */
 static void dense_job(struct bytes *job, const uint64_t *wants, unsigned tests)
 {
     unsigned widest = 1;
@@ -266,7 +271,7 @@ static void dense_job(struct bytes *job, const uint64_t *wants, unsigned tests)
         widest = size > widest ? size : widest;
     }
     job->length = 0;
-    put_head(job, some_drive(between(widest, 64)), 64, tests, 1);
+    put_head(job, some_drive(between(widest, 64)), 64, tests, PICK(1, 1, 2));
     for (unsigned t = 0; t < tests; t++) {
         put_record(job, wants[t]);
     }
@@ -387,7 +392,7 @@ static unsigned end_size(const uint8_t *plan, size_t length)
 /* What the head of a job says. */
 struct head {
     struct drive drive;
-    unsigned method;
+    unsigned method;  /* as it is read */
     size_t booked_at; /* where the booked places are or would be */
 };
 
@@ -400,7 +405,8 @@ static struct head head_of(const struct bytes *job)
     }
     head.booked_at += (map >> 1 & 1) + 2 * (map >> 2 & 1);
     if (map & 8) {
-        head.method = job->at[head.booked_at++];
+        unsigned byte = job->at[head.booked_at++];
+        head.method = byte == 2 ? 1 : byte;
     }
     if (map & 16) {
         head.drive.booked = job->at[head.booked_at];
@@ -468,6 +474,55 @@ static void count_booked_refused(const struct bytes *job, uint64_t answer, size_
     }
 }
 
+/* ---- old files: the method byte is 2 */
+
+/* What a job is made as. */
+enum kind { WITH_ANSWER, EMPTY_LIST, BOUNDARY, UNDAMAGED, ONE_FAULT, TWO_FAULTS, TIED, DENSE, KINDS };
+
+static const char *const KIND_NAMES[KINDS] = {
+    "with a known answer", "with an empty list", "on bounds", "random", "with one fault", "with two faults", "with many equal next uses", "with large degrees",
+};
+
+static enum kind made_as;
+
+/* Planned and refused, of each kind, and with booked places; planned, with another order if the method were 0 or 3. */
+static unsigned long old_planned[KINDS], old_refused[KINDS], old_booked_planned, old_booked_refused, listed_otherwise, packed_otherwise;
+
+/* Where the method byte is, if it is there and is 2; else 0. */
+static size_t old_method_at(const struct bytes *job)
+{
+    unsigned map = job->length == 0 ? 0 : job->at[0];
+    size_t at = 1 + (map & 1) + (map >> 1 & 1) + 2 * (map >> 2 & 1);
+    return (map & 8) != 0 && at < job->length && job->at[at] == 2 ? at : 0;
+}
+
+/* Whether another method gives another order. */
+static int orders_otherwise(const struct fast_job *read, unsigned method)
+{
+    struct fast_job other = *read;
+    uint8_t order[FAST_TESTS], by_method[FAST_TESTS];
+    other.method = method;
+    fast_order(read, order);
+    fast_order(&other, by_method);
+    return memcmp(order, by_method, read->tests) != 0;
+}
+
+static void count_old(const struct bytes *job, uint64_t answer)
+{
+    unsigned with_booked = job->at[0] >> 4 & 1;
+    if (curveplan_refused_16(answer)) {
+        old_refused[made_as]++;
+        old_booked_refused += with_booked;
+        return;
+    }
+    struct fast_job read;
+    fast_read(job->at, job->length, &read);
+    old_planned[made_as]++;
+    old_booked_planned += with_booked;
+    listed_otherwise += orders_otherwise(&read, 0);
+    packed_otherwise += orders_otherwise(&read, 3);
+}
+
 /* ---- comparing */
 
 enum ending { NOTHING, SOME, FULL };
@@ -517,7 +572,45 @@ static void count_planned(const struct bytes *job, const uint8_t *plan, size_t l
 
 static unsigned long all_planned(void)
 {
-    return planned[0] + planned[1] + planned[2] + planned[3];
+    return planned[0] + planned[1] + planned[3];
+}
+
+static void print_job(const struct bytes *job)
+{
+    printf("job");
+    for (size_t i = 0; i < job->length; i++) {
+        printf(" %02x", job->at[i]);
+    }
+    printf("\n");
+}
+
+/* Where two buffers differ first. */
+static void print_first_difference(const uint8_t *a, const uint8_t *b)
+{
+    for (size_t i = 0; i < PLAN_ROOM; i++) {
+        if (a[i] != b[i]) {
+            printf("; byte %zu: %02x, %02x", i, a[i], b[i]);
+            return;
+        }
+    }
+}
+
+/* Whether the library answers an old file otherwise with 1 in the place of the method byte, or leaves another byte in the plan's buffer. */
+static int differs_from_1(const struct bytes *job, size_t method_at, size_t room, uint64_t answer, const uint8_t *plan)
+{
+    static uint8_t by_1[JOB_ROOM], other[PLAN_ROOM];
+    memcpy(by_1, job->at, job->length);
+    by_1[method_at] = 1;
+    memset(other, FILL, sizeof other);
+    uint64_t answer_by_1 = curveplan_plan(by_1, job->length, other, room);
+    if (answer_by_1 == answer && memcmp(other, plan, sizeof other) == 0) {
+        return 0;
+    }
+    print_job(job);
+    printf("%zu bytes of room: the library answers %llu, and %llu with method 1", room, (unsigned long long)answer, (unsigned long long)answer_by_1);
+    print_first_difference(plan, other);
+    printf("\n");
+    return 1;
 }
 
 static int differs(const struct bytes *job, size_t room)
@@ -539,19 +632,16 @@ static int differs(const struct bytes *job, size_t room)
                 count_booked_refused(job, fast, room);
             }
         }
-        return 0;
-    }
-    printf("job");
-    for (size_t i = 0; i < job->length; i++) {
-        printf(" %02x", job->at[i]);
-    }
-    printf("\n%zu bytes of room: the library answers %llu, the C program %llu", room, (unsigned long long)library, (unsigned long long)fast);
-    for (size_t i = 0; i < sizeof ours; i++) {
-        if (ours[i] != theirs[i]) {
-            printf("; byte %zu: %02x, %02x", i, theirs[i], ours[i]);
-            break;
+        size_t method_at = old_method_at(job);
+        if (method_at == 0) {
+            return 0;
         }
+        count_old(job, fast);
+        return differs_from_1(job, method_at, room, library, theirs);
     }
+    print_job(job);
+    printf("%zu bytes of room: the library answers %llu, the C program %llu", room, (unsigned long long)library, (unsigned long long)fast);
+    print_first_difference(theirs, ours);
     printf(is_answer(fast) ? "\n" : "; the call has no such refusal\n");
     return 1;
 }
@@ -594,7 +684,7 @@ static int any_differs(const struct bytes *job)
 struct known {
     struct drive drive;
     unsigned tests;
-    unsigned methods;   /* by each method below this one */
+    unsigned methods;   /* with each method byte below this one, or none */
     uint64_t even, odd; /* what the tests want in turn */
     size_t length;      /* of the plan */
 };
@@ -773,6 +863,21 @@ static const struct settled SETTLED[] = {
     /* The second of two tests is too wide for seven places, and fits eight. */
     {JOB(0x14, 0x02, 0x00, 0x01, 0x01, 0x7f, 0x01, 0xff), 7, 1},
     {JOB(0x15, 0x09, 0x02, 0x00, 0x01, 0x01, 0x7f, 0x01, 0xff), 0, 4 + 4 + 3},
+    /* The method byte is still 1 to 3: at its absent value, old, above. */
+    {JOB(0x08, 0x00), 2, 1},
+    {JOB(0x08, 0x02), 0, 0},
+    {JOB(0x08, 0x04), 2, 1},
+    /* Behind a method byte of 2: a byte that is owed, a fault of the booked places, of a record, bytes behind the last; a test that is too wide, and fits. */
+    {JOB(0x0c, 0x01, 0x00, 0x02), 1, 4},
+    {JOB(0x18, 0x02), 1, 2},
+    {JOB(0x18, 0x02, 0x40), 2, 2},
+    {JOB(0x18, 0x02, 0x08), 13, 2},
+    {JOB(0x0c, 0x01, 0x00, 0x02, 0x01, 0x00), 3, 5},
+    {JOB(0x0e, 0x04, 0x01, 0x00, 0x02, 0x01, 0x10), 4, 6},
+    {JOB(0x0c, 0x01, 0x00, 0x02, 0x00, 0x00), 6, 5},
+    {JOB(0x08, 0x02, 0x00), 6, 2},
+    {JOB(0x0d, 0x02, 0x01, 0x00, 0x02, 0x01, 0x07), 7, 0},
+    {JOB(0x0d, 0x03, 0x01, 0x00, 0x02, 0x01, 0x07), 0, 4 + 3},
 };
 
 static int some_settled_differs(struct bytes *job)
@@ -931,14 +1036,14 @@ static int print_booked(void)
 {
     int missing = 0;
     printf("; with booked places planned by method");
-    for (unsigned method = 0; method < 4; method++) {
-        printf(" %u: %lu", method, booked[method]);
-        missing |= booked[method] == 0;
+    for (size_t i = 0; i < sizeof METHODS / sizeof *METHODS; i++) {
+        printf(" %u: %lu", METHODS[i], booked[METHODS[i]]);
+        missing |= booked[METHODS[i]] == 0;
     }
     printf(", of these with another plan if none were booked");
-    for (unsigned method = 0; method < 4; method++) {
-        printf(" %u: %lu", method, planned_by_places[method]);
-        missing |= planned_by_places[method] == 0;
+    for (size_t i = 0; i < sizeof METHODS / sizeof *METHODS; i++) {
+        printf(" %u: %lu", METHODS[i], planned_by_places[METHODS[i]]);
+        missing |= planned_by_places[METHODS[i]] == 0;
     }
     printf(", with another order: %lu, with one place left: %lu, with places absent: %lu", ordered_by_places, one_left, places_absent);
     missing |= ordered_by_places == 0 || one_left == 0 || places_absent == 0;
@@ -954,22 +1059,48 @@ static int print_booked(void)
     return missing || before_13 == 0;
 }
 
+/* What is counted of old files; whether something of it never came up. */
+static int print_old(void)
+{
+    int missing = 0;
+    unsigned long all_old_planned = 0, all_old_refused = 0;
+    for (unsigned i = 0; i < KINDS; i++) {
+        all_old_planned += old_planned[i];
+        all_old_refused += old_refused[i];
+    }
+    printf("; with method byte 2, all as with 1 in its place, planned: %lu, refused: %lu, of these", all_old_planned, all_old_refused);
+    for (unsigned i = 0; i < KINDS; i++) {
+        printf(" %s: %lu and %lu,", KIND_NAMES[i], old_planned[i], old_refused[i]);
+        missing |= old_planned[i] == 0 || old_refused[i] == 0;
+    }
+    printf(" with booked places: %lu and %lu", old_booked_planned, old_booked_refused);
+    missing |= old_booked_planned == 0 || old_booked_refused == 0;
+    printf("; planned with another order by method 0: %lu, by method 3: %lu", listed_otherwise, packed_otherwise);
+    return missing || listed_otherwise == 0 || packed_otherwise == 0;
+}
+
 int main(void)
 {
     static struct bytes job;
-    if (some_known_differs(&job) || longest_differs(&job) || some_settled_differs(&job) || some_empty_differs(&job)) {
+    made_as = WITH_ANSWER;
+    if (some_known_differs(&job) || longest_differs(&job) || some_settled_differs(&job)) {
+        return 1;
+    }
+    made_as = EMPTY_LIST;
+    if (some_empty_differs(&job)) {
         return 1;
     }
     for (unsigned i = 0; i < SMALL_JOBS + LARGE_JOBS; i++) {
         int large = i >= SMALL_JOBS;
-        unsigned kind = below(10);
-        if (kind < 2 && !large) {
+        unsigned tenth = below(10), faults = tenth < 6 ? 0 : tenth < 8 ? 1 : 2;
+        if (tenth < 2 && !large) {
+            made_as = BOUNDARY;
             crafted_job(&job);
         } else {
+            made_as = faults == 0 ? UNDAMAGED : faults == 1 ? ONE_FAULT : TWO_FAULTS;
             random_job(&job, large);
         }
-        /* Whole, with one fault, with two. */
-        for (unsigned faults = kind < 6 ? 0 : kind < 8 ? 1 : 2; faults > 0; faults--) {
+        for (; faults > 0; faults--) {
             damage(&job);
         }
         if (any_differs(&job)) {
@@ -977,6 +1108,7 @@ int main(void)
         }
     }
     unsigned long others = all_planned();
+    made_as = TIED;
     for (unsigned i = 0; i < TIED_JOBS; i++) {
         tied_job(&job);
         if (any_differs(&job)) {
@@ -985,6 +1117,7 @@ int main(void)
     }
     unsigned long tied = all_planned() - others;
     unsigned long by_degree = planned[1];
+    made_as = DENSE;
     if (some_dense_differs(&job)) {
         return 1;
     }
@@ -994,9 +1127,9 @@ int main(void)
     printf("; with an empty list: %lu, of these planned without room: %lu, refused for bytes behind it: %lu", empty, empty_without_room, empty_with_surplus);
     missing |= empty_without_room == 0 || empty_with_surplus == 0;
     printf("; the others planned by method");
-    for (unsigned method = 0; method < 4; method++) {
-        printf(" %u: %lu", method, planned[method]);
-        missing |= planned[method] == 0;
+    for (size_t i = 0; i < sizeof METHODS / sizeof *METHODS; i++) {
+        printf(" %u: %lu", METHODS[i], planned[METHODS[i]]);
+        missing |= planned[METHODS[i]] == 0;
     }
     printf("; of these with many equal next uses: %lu", tied);
     missing |= tied == 0;
@@ -1018,6 +1151,7 @@ int main(void)
     printf("; longest job %zu, longest plan %zu", longest_job, longest);
     missing |= longest_job != CURVEPLAN_JOB_BYTES || longest != LONGEST_PLAN;
     missing |= print_booked();
+    missing |= print_old();
     printf("\n");
     if (missing) {
         printf("fast_c: some outcome never came up\n");

@@ -7,6 +7,7 @@ use Rattle.job.specs.Refusal.{Outcome, done, refused, _>>=_, _>>_, mapped, room
 use Rattle.job.specs.Words.{capacity}
 use Rattle.job.specs.Handed.{wantsFit}
 use Rattle.job_bytes.specs.JobBytes.{Request, jobIn, readBytes}
+use Rattle.job_bytes.specs.OldFiles.{upgraded}
 use Rattle.job.proofs.Laws.{refused≢done, done-same, made-refused}
 use Rattle.job_bytes.proofs.SetRoundTrip.{Bytes}
 use Rattle.job_bytes.proofs.ReadExact.{read-exact}
@@ -17,7 +18,7 @@ use Rattle.plan_bytes.specs.PlanBytes.{planBytes, writePlan}
 use Rattle.plan_bytes.specs.Contracts.{writeSteps, writeStepsAnswer, writeStepsBuffer}
 use Rattle.plan_bytes.proofs.Writing.{passed-written}
 use Rattle.planned.specs.Planned.{Planned, planJob}
-use Rattle.planned.proofs.Composed.{orderOf, setsOf, checked, job-planned, job-too-large}
+use Rattle.planned.proofs.Composed.{old-planned, orderOf, setsOf, checked, job-planned, job-too-large}
 use Rattle.curveplan.specs.Call.{written, jobToPlan, callPlan}
 
 -- the plan bytes of a job
@@ -43,6 +44,11 @@ job-unread bs k i e = rw e refl
 pub call-unread : (bs : List ℕ) (k i : ℕ) → readBytes bs ≡ refused k i → (lent : ℕ) → jobToPlan bs lent ≡ refused k i
 unfolding jobToPlan _>>=_
 call-unread bs k i e lent = rw (job-unread bs k i e) refl
+
+-- 02, wish 8: an old job file with method 2 is answered as with 1 in its place
+pub old-called : (bs : List ℕ) (lent : ℕ) → jobToPlan bs lent ≡ jobToPlan (upgraded bs) lent
+unfolding jobToPlan
+old-called bs lent = rw (← (old-planned bs)) refl
 
 -- ---- what was planned passes the check, so that it is written the same without it
 module _ (bs : List ℕ) (all : Bytes bs) (p : Planned) (planned : planJob bs ≡ done p) where

@@ -1,8 +1,10 @@
 -- WHAT THE LIBRARY PROMISES, proved: each promise by the theorem that shows it.
 use Rattle.job.proofs.JobExact.{job-by-exact}
+use Rattle.job.proofs.MethodExact.{method-exact}
 use Rattle.job.proofs.HeldExact.{held-exact}
 use Rattle.job.proofs.OrderExact.{order-exact}
 use Rattle.job.proofs.Refuses.{withdrawn}
+use Rattle.job_bytes.proofs.OldFiles.{old-read, old-method}
 use Rattle.job_bytes.proofs.JobRoundTrip.{job-back, job-read}
 use Rattle.ordering.proofs.Complete.{order-complete}
 use Rattle.ordering.proofs.Degrees.{degree-most, degree-reached}
@@ -15,6 +17,7 @@ use Rattle.stepping.proofs.Planned.{refused-as-planning, as-planned}
 use Rattle.plan_bytes.proofs.PlanRoundTrip.{plan-back, plan-read}
 use Rattle.curveplan.specs.Library.{Library}
 use Rattle.curveplan.proofs.Answers.{call-tells, call-planned, call-none}
+use Rattle.curveplan.proofs.Composed.{old-called}
 use Rattle.curveplan.proofs.Booked.{booked-ordered, booked-planned, booked-checked}
 
 pub library : Library
@@ -41,6 +44,10 @@ library =
       carried-out = carried-exact;
       not-next = not-next-exact;
       state-kept = unchanged;
+      method-refused = method-exact;
+      old-read = old-read;
+      old-called = old-called;
+      old-method = old-method;
       job-back = job-back;
       job-read = job-read;
       plan-back = plan-back;

@@ -1,17 +1,19 @@
 -- WHAT THE LIBRARY PROMISES, in one place. The contracts of its functions set every answer, and all that is lent, equal to the rules that are spoken of here.
 use mathlib.Core.Path.{_≡_}
 use mathlib.Core.Logic.{_↔_, _⊎_}
+use mathlib.Core.Bool.{true}
 use mathlib.Core.List.{List, []}
 use Prim.Native.Nat.{ℕ, _+_, _*_, _/_, _%_, _^_, _≤_, _<_}
 use lib.ListN.{length, getD, take, drop, replicate}
 use Rattle.bitset.specs.Set.{size, below}
 use Rattle.job.specs.declared.Refusal.{Refusal}
 use Rattle.job.specs.Refusal.{done, refused, number}
-use Rattle.job.specs.Words.{Job, jobOf, capacity, IsJob, IsHolding, IsOrder}
-use Rattle.job.specs.Handed.{heldKnown, jobKnownBy}
+use Rattle.job.specs.Words.{Job, jobOf, capacity, IsJob, IsHolding, IsMethod, IsOrder}
+use Rattle.job.specs.Handed.{numbersKnown, heldKnown, jobKnownBy}
 use Rattle.job.specs.Order.{orderKnown}
 use Rattle.job_bytes.specs.SetBytes.{Bytes}
 use Rattle.job_bytes.specs.JobBytes.{Request, jobIn, request, readBytes, writeJob}
+use Rattle.job_bytes.specs.OldFiles.{oldMethod, upgraded}
 use Rattle.packages.specs.Tests.{wantsOf}
 use Rattle.ordering.specs.Methods.{degree, orderBy}
 use Rattle.ordering.specs.Ordering.{ordering}
@@ -51,7 +53,7 @@ unbooked j = jobOf (record { places = capacity (j .rig); booked = 0; curves = j 
 pub record Library : Type 0 where
   -- "Each refusal has exactly the condition shown": 10 and 13 are not given exactly for a job and a known method, 14 exactly for a holding of its curves, 8
   -- exactly for an order of its tests
-  pub jobs : (method : ℕ) (j : Job) → jobKnownBy method j ≡ done tt ↔ (IsJob j × (method ≤ 3))
+  pub jobs : (method : ℕ) (j : Job) → jobKnownBy method j ≡ done tt ↔ (IsJob j × IsMethod method)
   pub holdings : (j : Job) (held : ℕ) → heldKnown (j .rig .curves) held ≡ done tt ↔ IsHolding j held
   pub orders : (n : ℕ) (order : List ℕ) → orderKnown n order ≡ done tt ↔ IsOrder n order
   -- each method's order names each test exactly once
@@ -104,9 +106,19 @@ pub record Library : Type 0 where
   pub not-next : (s : State) (position k i : ℕ)
       → commit s position ≡ refused k i ↔ ((k ≡ 15) × (i ≡ s .committed) × ((position ≡ s .committed → ⊥) ⊎ (look s ≡ Done)))
   pub state-kept : (s : State) (position k i : ℕ) → commit s position ≡ refused k i → afterCommit s position ≡ s
-  -- writing and reading undo each other: a job ..
+  -- 02, wish 8: "A handed method 2 gets refusal 10 at place 3": given exactly where places, curves and the number of tests are known, and the method is none of
+  -- 0, 1 and 3
+  pub method-refused : (method : ℕ) (j : Job)
+      → jobKnownBy method j ≡ refused 10 3 ↔ ((numbersKnown (j .rig) (length (j .wants)) ≡ done tt) × (IsMethod method → ⊥))
+  -- "Old job files with method 2 still read, as method 1": whatever the bytes, also such as are refused, those with 1 in the place of a method byte 2 are read,
+  -- and answered by the call, the same ..
+  pub old-read : (bs : List ℕ) → readBytes bs ≡ readBytes (upgraded bs)
+  pub old-called : (bs : List ℕ) (lent : ℕ) → jobToPlan bs lent ≡ jobToPlan (upgraded bs) lent
+  -- .. and the method that is read of a method byte 2 is 1
+  pub old-method : (bs : List ℕ) (q : Request) → Bytes bs → readBytes bs ≡ done q → oldMethod bs ≡ true → q .head .method ≡ 1
+  -- writing and reading undo each other: a job, "written back with 1" where its method byte was 2, and to the byte as it was read elsewhere ..
   pub job-back : (method : ℕ) (j : Job) (lent : ℕ) (bytes : List ℕ) → writeJob method j lent ≡ done bytes → readBytes bytes ≡ done (request method j)
-  pub job-read : (bs : List ℕ) (q : Request) → Bytes bs → readBytes bs ≡ done q → writeJob (q .head .method) (jobIn q) (length bs) ≡ done bs
+  pub job-read : (bs : List ℕ) (q : Request) → Bytes bs → readBytes bs ≡ done q → writeJob (q .head .method) (jobIn q) (length bs) ≡ done (upgraded bs)
   -- .. and a plan, with its end set
   pub plan-back : (j : Job) (held : ℕ) (order : List ℕ) (p : Plan) (lent : ℕ) (bytes : List ℕ) → writePlan j held order p lent ≡ done bytes
       → (c : Contents) × (planSteps (j .rig .curves) (length (j .wants)) bytes ≡ done c) × (testsOf c ≡ order) × (planIn c ≡ p)

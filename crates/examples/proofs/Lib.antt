@@ -5,9 +5,11 @@
 --     Booked   examples of booked places
 --     Halfway  examples of plans from what is held
 --     Looks    examples of looks and commits
+--     OldFiles examples of old job files, with method 2
 pub mod Rules
 pub mod Starred
 pub mod Others
 pub mod Booked
 pub mod Halfway
 pub mod Looks
+pub mod OldFiles

@@ -5,16 +5,17 @@ use Rattle.bitset.specs.Set.{inside}
 use Rattle.job.specs.Refusal.{readOutcome, countOutcome, _>>=_, _>>_, mapped, demand, room, overwritten, leaves}
 use Rattle.lists.specs.Choice.{keep, choose, bestOf}
 use Rattle.job.specs.Handed.{between, listed, each, placesKnown, curvesKnown, testsKnown, methodKnown, wantsKnown, wantsFit, numbersKnown}
-use Rattle.job.specs.Handed.{bookedBelow, bookedKnown, heldKnown, jobKnownBy, countsKnown}
+use Rattle.job.specs.Handed.{isMethod, bookedBelow, bookedKnown, heldKnown, jobKnownBy, countsKnown}
 use Rattle.job.specs.Order.{orderFrom}
 use Rattle.job.specs.Calls.{orderingKnown, checkingKnown, planningKnown}
 use Rattle.job_bytes.specs.SetBytes.{groupOf, stands, groupBytes, groupMap, setBytes, byteAt, readGroup, readGroups}
-use Rattle.job_bytes.specs.JobBytes.{fields, readNumber, readField, readFields, headFields, readHead, readRecord, readRecords, atEnd, readBytes, readJob}
-use Rattle.job_bytes.specs.JobBytes.{readJobAnswer, readJobWants, numberBytes, headBytes, recordBytes, jobBytes, writeJob, writeJobAnswer, writeJobBuffer}
+use Rattle.job_bytes.specs.JobBytes.{fields, readNumber, readField, readFields, methodRead, headFields, readHead, readRecord, readRecords, atEnd, readBytes}
+use Rattle.job_bytes.specs.JobBytes.{readJob, readJobAnswer, readJobWants, numberBytes, headBytes, recordBytes, jobBytes, writeJob, writeJobAnswer, writeJobBuffer}
+use Rattle.job_bytes.specs.OldFiles.{methodAt, oldMethod, upgraded}
 use Rattle.packages.specs.Tests.{upTo}
 use Rattle.packages.specs.Packages.{flat, bestPair, without, joined, onPair, curvesOf, joinAll, try, pickTry, _orMore_, longer, runFrom, flipped, packages}
 use Rattle.ordering.specs.Methods.{weight, weights, degree, appended, grown, bestUnlisted, orElse, neighbour, nextOf, cuthillMcKee, reverseCuthillMcKee}
-use Rattle.ordering.specs.Methods.{reach, spanningTree, orderBy}
+use Rattle.ordering.specs.Methods.{orderBy}
 use Rattle.ordering.specs.Ordering.{ordering, orderAnswer, orderList}
 use Rattle.drive.specs.Steps.{heldAfter, moves, curveCount}
 use Rattle.drive.specs.Check.{orBreaks, keeps, checkFrom}
@@ -34,10 +35,10 @@ use Rattle.curveplan.specs.Call.{written, jobToPlan, numberOf, callAnswer, call
 
 unfoldable pub rules : Unit {0}
 unfolding ones trailingZeros under readOutcome countOutcome _>>=_ _>>_ mapped demand room overwritten leaves keep choose bestOf between inside listed each
-    placesKnown curvesKnown testsKnown methodKnown wantsKnown wantsFit numbersKnown bookedBelow bookedKnown heldKnown jobKnownBy countsKnown orderingKnown
-    checkingKnown planningKnown groupOf stands groupBytes groupMap setBytes byteAt readGroup readGroups fields readNumber readField readFields headFields readHead readRecord readRecords
-    atEnd readBytes readJob readJobAnswer readJobWants numberBytes zipWith flatten headBytes recordBytes jobBytes writeJob writeJobAnswer writeJobBuffer weight weights degree
-    upTo appended grown bestUnlisted orElse neighbour nextOf cuthillMcKee reverseCuthillMcKee reach spanningTree flat bestPair without joined onPair
+    placesKnown curvesKnown testsKnown isMethod methodKnown wantsKnown wantsFit numbersKnown bookedBelow bookedKnown heldKnown jobKnownBy countsKnown orderingKnown
+    checkingKnown planningKnown groupOf stands groupBytes groupMap setBytes byteAt readGroup readGroups fields readNumber readField readFields methodRead headFields readHead readRecord readRecords
+    atEnd readBytes methodAt oldMethod upgraded readJob readJobAnswer readJobWants numberBytes zipWith flatten headBytes recordBytes jobBytes writeJob writeJobAnswer writeJobBuffer weight weights degree
+    upTo appended grown bestUnlisted orElse neighbour nextOf cuthillMcKee reverseCuthillMcKee flat bestPair without joined onPair
     curvesOf joinAll try pickTry _orMore_ longer runFrom flipped packages orderBy ordering orderAnswer orderList orderFrom heldAfter moves curveCount
     orBreaks keeps checkFrom later useBy nextUse further chosenBy furthest andThen victims dropsFor planFrom steps inOrder ourPlan planning
     planAnswer planLists setsKnown checkedOutcome endKnown checking lookEnd lookAt isDone heldBehind commitAt stateAfter making stateMade endStep shownOf

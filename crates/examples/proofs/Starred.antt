@@ -9,10 +9,9 @@ starred =
     record {
       plan-bytes = refl;
       method-1 = refl;
-      method-2 = refl;
       method-3 = refl;
       loads-1 = refl;
-      loads-2-3 = refl;
+      loads-method-3 = refl;
       drops-at-2 = refl;
       loads-3 = refl;
       no-drops-at-2 = refl;

@@ -4,8 +4,10 @@
 --     Booked   examples of 02, wish 5
 --     Halfway  examples of 02, wish 6
 --     Looks    examples of 02, wish 7
+--     OldFiles examples of 02, wish 8
 pub mod Starred
 pub mod Others
 pub mod Booked
 pub mod Halfway
 pub mod Looks
+pub mod OldFiles

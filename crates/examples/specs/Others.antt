@@ -77,7 +77,6 @@ pub record Others : Type 0 where
   pub none-written-short : writeJob 3 (job 2 4 []) 3 ≡ refused 9 4
   pub none-order-0 : ordering 0 (job 2 4 []) 0 ≡ done []
   pub none-order-1 : ordering 1 (job 2 4 []) 0 ≡ done []
-  pub none-order-2 : ordering 2 (job 2 4 []) 0 ≡ done []
   pub none-order-3 : ordering 3 (job 2 4 []) 0 ≡ done []
   pub none-loads : planAnswer (job 2 4 []) 0 [] (setLists [] (7 ∷ [])) ≡ done (loads 0 0)
   pub none-lent : planLists (job 2 4 []) 0 [] (setLists [] (7 ∷ [])) ≡ setLists [] (7 ∷ [])
@@ -171,8 +170,7 @@ pub record Others : Type 0 where
   pub end-twice : readPlan 4 1 (0x04 ∷ 0x00 ∷ 0x01 ∷ 0x01 ∷ 0x0f ∷ 0x01 ∷ 0x01 ∷ 0x0f ∷ []) 1 ≡ refused 11 5
   pub end-early : readPlan 4 1 (0x01 ∷ 0x01 ∷ 0x0f ∷ 0x04 ∷ 0x00 ∷ []) 1 ≡ refused 11 0
   pub plan-curves-before-tests : readPlan 0 257 [] 0 ≡ refused 10 1
-  -- methods 2 and 3
-  pub method-2-weights : ordering 2 (job 4 64 (15 ∷ 23 ∷ 17 ∷ 6 ∷ [])) 4 ≡ done (0 ∷ 1 ∷ 2 ∷ 3 ∷ [])
+  -- method 3
   pub packages-without-common : ordering 3 (job 2 64 (1 ∷ 6 ∷ 8 ∷ [])) 3 ≡ done (0 ∷ 2 ∷ 1 ∷ [])
   pub packages-ties : ordering 3 (job 2 64 (3 ∷ 6 ∷ 9 ∷ [])) 3 ≡ done (1 ∷ 0 ∷ 2 ∷ [])
   pub packages-flipped : ordering 3 (job 3 64 (7 ∷ 56 ∷ 49 ∷ [])) 3 ≡ done (0 ∷ 2 ∷ 1 ∷ [])

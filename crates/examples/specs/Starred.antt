@@ -1,4 +1,5 @@
--- The starred examples of document 01, in one theorem on the written rules; with the end step and the ties of 02, wishes 1 and 2.
+-- The starred examples of document 01, in one theorem on the written rules; with the end step and the ties of 02, wishes 1 and 2, and without the order that wish 8
+-- lets fall away.
 use mathlib.Core.Path.{_≡_}
 use mathlib.Core.List.{List, [], _∷_}
 use Prim.Native.Nat.{ℕ}
@@ -39,12 +40,11 @@ loads n end = record { count = n; end = end }
 pub record Starred : Type 0 where
   -- "A's plan bytes"
   pub plan-bytes : jobToPlan a-bytes 25 ≡ done a-plan
-  -- "A's wants, method 1: 2 0 1 3. Methods 2 and 3: 0 2 1 3. Loads 4 in each."
+  -- "A's wants, method 1: 2 0 1 3. Methods 2 and 3: 0 2 1 3. Loads 4 in each."; 02, wish 8, of method 2: "its starred order falls away"
   pub method-1 : ordering 1 (job 2 4 a-wants) 4 ≡ done (2 ∷ 0 ∷ 1 ∷ 3 ∷ [])
-  pub method-2 : ordering 2 (job 2 4 a-wants) 4 ≡ done (0 ∷ 2 ∷ 1 ∷ 3 ∷ [])
   pub method-3 : ordering 3 (job 2 4 a-wants) 4 ≡ done (0 ∷ 2 ∷ 1 ∷ 3 ∷ [])
   pub loads-1 : planAnswer (job 2 4 a-wants) 0 (2 ∷ 0 ∷ 1 ∷ 3 ∷ []) four ≡ done (loads 4 10)
-  pub loads-2-3 : planAnswer (job 2 4 a-wants) 0 (0 ∷ 2 ∷ 1 ∷ 3 ∷ []) four ≡ done (loads 4 10)
+  pub loads-method-3 : planAnswer (job 2 4 a-wants) 0 (0 ∷ 2 ∷ 1 ∷ 3 ∷ []) four ≡ done (loads 4 10)
   -- "Wants {0} {1} {2} {0}, 2 places: step 2 drops 1; 3 loads."
   pub drops-at-2 : planLists (job 2 64 (1 ∷ 2 ∷ 4 ∷ 1 ∷ [])) 0 (0 ∷ 1 ∷ 2 ∷ 3 ∷ []) four .drops ≡ 0 ∷ 0 ∷ 2 ∷ 0 ∷ []
   pub loads-3 : planAnswer (job 2 64 (1 ∷ 2 ∷ 4 ∷ 1 ∷ [])) 0 (0 ∷ 1 ∷ 2 ∷ 3 ∷ []) four ≡ done (loads 3 5)

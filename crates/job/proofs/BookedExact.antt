@@ -10,7 +10,7 @@ use lib.ListN.{length}
 use borrow.Author.Tests.{leb-true, leb-false, le-leb, lt-leb, ltb-false, le-ltb}
 use Rattle.job.specs.Refusal.{Outcome, done, refused, _>>_, demand}
 use Rattle.job.specs.declared.Rig.{Rig}
-use Rattle.job.specs.Words.{Job, jobOf, IsJob}
+use Rattle.job.specs.Words.{Job, jobOf, IsJob, IsMethod}
 use Rattle.job.specs.Handed.{placesKnown, numbersKnown, bookedBelow, bookedKnown, jobKnownBy}
 use Rattle.job.proofs.Laws.{both-done, done-both, demand-true, demand-false, demand-done, demand-refused, refused-split}
 use Rattle.job.proofs.Examination.{refused-both, beforeBooked, by-parts}
@@ -24,10 +24,10 @@ noneBooked j = jobOf (record { places = j .rig .places; booked = 0; curves = j .
 -- ---- of the booked places alone
 module _ (rig : Rig) where
   -- the two refusals
-  abbrev OfBooked : ℕ → ℕ → Type 0
+  abbrev pub OfBooked : ℕ → ℕ → Type 0
   OfBooked k i = ((63 < rig .booked) × (k ≡ 10) × (i ≡ 260)) ⊎ ((rig .places ≤ rig .booked) × (rig .booked ≤ 63) × (k ≡ 13) × (i ≡ 0))
 
-  booked-refused : (k i : ℕ) → bookedKnown rig ≡ refused k i → OfBooked k i
+  pub booked-refused : (k i : ℕ) → bookedKnown rig ≡ refused k i → OfBooked k i
   unfolding bookedKnown bookedBelow
   booked-refused k i e = go (refused-split (demand (leb (rig .booked) 63) 10 260) _ k i e)
     where
@@ -57,7 +57,7 @@ module _ (rig : Rig) where
 -- ---- behind all else
 module _ (method : ℕ) (j : Job) where
   -- all else is passed exactly by what would be a job with no place booked, and a known method
-  before-exact : beforeBooked method j ≡ done tt ↔ (IsJob (noneBooked j) × (method ≤ 3))
+  before-exact : beforeBooked method j ≡ done tt ↔ (IsJob (noneBooked j) × IsMethod method)
   unfolding numbersKnown
   before-exact = (
     λ e.
@@ -77,7 +77,7 @@ module _ (method : ℕ) (j : Job) where
       go (inr (tt, e, f)) = (e, f)
 
   -- "a handed count above 63 is 10 with place 259 + 1 = 260": 10 AT 260
-  pub above-63-exact : jobKnownBy method j ≡ refused 10 260 ↔ (IsJob (noneBooked j) × (method ≤ 3) × (63 < j .rig .booked))
+  pub above-63-exact : jobKnownBy method j ≡ refused 10 260 ↔ (IsJob (noneBooked j) × IsMethod method × (63 < j .rig .booked))
   above-63-exact = (
     λ e.
         let b = of-booked 10 260 (λ n. omega (arith, n .1)) e in
@@ -88,7 +88,7 @@ module _ (method : ℕ) (j : Job) where
 
   -- "13, booked not below places, .. 0 for handed numbers after 10": 13
   pub none-left-exact : (i : ℕ)
-      → jobKnownBy method j ≡ refused 13 i ↔ (IsJob (noneBooked j) × (method ≤ 3) × (j .rig .places ≤ j .rig .booked) × (j .rig .booked ≤ 63) × (i ≡ 0))
+      → jobKnownBy method j ≡ refused 13 i ↔ (IsJob (noneBooked j) × IsMethod method × (j .rig .places ≤ j .rig .booked) × (j .rig .booked ≤ 63) × (i ≡ 0))
   none-left-exact i = (
     λ e.
         let b = of-booked 13 i (λ n. omega (arith, n .0)) e in

@@ -11,7 +11,7 @@ use Rattle.job.specs.Refusal.{Outcome, done, refused, number, figure, ex
 use Rattle.job.specs.declared.Rig.{Rig}
 use Rattle.job.specs.Words.{Job}
 use Rattle.job.specs.Handed.{between, placesKnown, curvesKnown, testsKnown, methodKnown, wantsKnown, numbersKnown, bookedKnown, jobKnownBy}
-use Rattle.job.specs.Handed.{countsKnown}
+use Rattle.job.specs.Handed.{countsKnown, isMethod}
 use Rattle.job.proofs.Laws.{both, both-done, done-both, both-assoc, demand-true, demand-done}
 
 -- a sequence whose first part is refused
@@ -76,14 +76,14 @@ module _ (method : ℕ) (job : Job) where
   by-refused k i e = refused-both _ _ k i e
 
   module _ (e : numbersKnown (job .rig) (length (job .wants)) ≡ done tt) where
-    pub by-method : 3 < method → jobKnownBy method job ≡ refused 10 3
+    pub by-method : isMethod method ≡ false → jobKnownBy method job ≡ refused 10 3
     unfolding jobKnownBy methodKnown demand _>>_
-    by-method h = rw (e, lt-leb method 3 h) refl
+    by-method h = rw (e, h) refl
 
-    module _ (h : method ≤ 3) where
+    module _ (h : isMethod method ≡ true) where
       by-rest : jobKnownBy method job ≡ _>>_ (wantsKnown (job .rig .curves) (job .wants)) (bookedKnown (job .rig))
       unfolding jobKnownBy methodKnown demand _>>_
-      by-rest = rw (e, le-leb method 3 h) refl
+      by-rest = rw (e, h) refl
 
       pub by-wants : (k i : ℕ) → wantsKnown (job .rig .curves) (job .wants) ≡ refused k i → jobKnownBy method job ≡ refused k i
       by-wants k i w = by-rest ∙ refused-both _ _ k i w

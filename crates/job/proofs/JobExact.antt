@@ -1,21 +1,21 @@
 -- What is handed over passes the examination exactly where it is a job, with a known method or without.
 use mathlib.Core.Path.{_≡_, _∙_}
 use mathlib.Core.Logic.{_↔_}
-use mathlib.Core.Bool.{true}
+use mathlib.Core.Bool.{true, not}
 use Prim.Native.Nat.{ℕ, _^_, _≤_, _<_}
 use native.Mathlib.Omega.{arith}
 use native.Mathlib.Nat.{mod-eq-of-lt, mod-lt}
-use lib.Dec.{leb, ltb}
+use lib.Dec.{leb, ltb, eqb}
 use lib.Pow.{pow-pos}
 use lib.Bits.{and-mask}
 use lib.ListN.{length, getD}
-use borrow.Author.Tests.{leb-true, le-leb, ltb-true, lt-ltb, eqb-true, eq-eqb}
+use borrow.Author.Tests.{leb-true, le-leb, ltb-true, lt-ltb, eqb-true, eqb-false, eq-eqb, ne-eqb, not-true}
 use Rattle.bitset.specs.Set.{_∖_, inside}
 use Rattle.job.specs.Refusal.{done, demand}
 use Rattle.job.specs.Handed.{between, allCurves, placesKnown, curvesKnown, testsKnown, methodKnown, wantsKnown, numbersKnown, jobKnown}
-use Rattle.job.specs.Handed.{bookedBelow, bookedKnown, jobKnownBy, countsKnown}
+use Rattle.job.specs.Handed.{isMethod, bookedBelow, bookedKnown, jobKnownBy, countsKnown}
 use Rattle.job.specs.declared.Rig.{Rig}
-use Rattle.job.specs.Words.{Job, IsJob}
+use Rattle.job.specs.Words.{Job, IsJob, IsMethod}
 use Rattle.job.proofs.Laws.{both, and, demand-true, demand-done, both-done, done-both, each-true, true-each}
 
 -- ---- curves below the number of curves
@@ -27,6 +27,18 @@ below-inside c w h = eq-eqb (w ∖ allCurves c) 0 (omega (arith, and-mask w c, m
 pub inside-below : (c w : ℕ) → inside w (allCurves c) ≡ true → w < 2 ^ c
 unfolding inside
 inside-below c w e = omega (arith, and-mask w c, eqb-true (w ∖ allCurves c) 0 e, mod-lt w (pow-pos c))
+
+-- ---- the methods
+
+pub true-method : (method : ℕ) → isMethod method ≡ true → IsMethod method
+unfolding isMethod
+true-method method e =
+    let b = both (not (eqb method 2)) (leb method 3) e in
+    (leb-true method 3 (b .1), eqb-false method 2 (not-true (eqb method 2) (b .0)))
+
+pub method-true : (method : ℕ) → IsMethod method → isMethod method ≡ true
+unfolding isMethod
+method-true method is = rw (ne-eqb method 2 (is .1)) (le-leb method 3 (is .0))
 
 -- ---- what passes the examination
 
@@ -90,25 +102,17 @@ module _ (j : Job) where
       }
 
   module _ (method : ℕ) where
-    method-le : methodKnown method ≡ done tt → method ≤ 3
-    unfolding methodKnown
-    method-le e = leb-true method 3 (demand-true _ 10 3 e)
-
-    method-done : method ≤ 3 → methodKnown method ≡ done tt
-    unfolding methodKnown
-    method-done h = demand-done _ 10 3 (le-leb method 3 h)
-
-    pub job-by-exact : jobKnownBy method j ≡ done tt ↔ (IsJob j × (method ≤ 3))
-    unfolding jobKnownBy
+    pub job-by-exact : jobKnownBy method j ≡ done tt ↔ (IsJob j × IsMethod method)
+    unfolding jobKnownBy methodKnown
     job-by-exact = (
       λ e.
           let a = both-done (numbersKnown (j .rig) n) _ tt e in
           let m = both-done (methodKnown method) _ tt (a .1) in
           let w = both-done (wantsKnown (j .rig .curves) (j .wants)) _ tt (m .1) in
-          (is-job (a .0) (w .0) (w .1), method-le (m .0)),
-      λ x. done-both _ _ (numbers-done (x .0)) ∙ done-both _ _ (method-done (x .1)) ∙ done-both _ _ (wants-done (x .0))
+          (is-job (a .0) (w .0) (w .1), true-method method (demand-true _ 10 3 (m .0))),
+      λ x. done-both _ _ (numbers-done (x .0)) ∙ done-both _ _ (demand-done _ 10 3 (method-true method (x .1))) ∙ done-both _ _ (wants-done (x .0))
           ∙ booked-done (j .rig) (x .0 .booked-bound) (x .0 .places-bounds .1),
     )
 
   pub job-exact : jobKnown j ≡ done tt ↔ IsJob j
-  job-exact = (λ e. job-by-exact 0 .0 e .0, λ is. job-by-exact 0 .1 (is, omega arith))
+  job-exact = (λ e. job-by-exact 0 .0 e .0, λ is. job-by-exact 0 .1 (is, (omega arith, λ e. omega arith)))

@@ -5,6 +5,7 @@
 --     Orders        counting in lists of tests
 --     JobExact      what passes the examination is a job, and a job passes
 --     BookedExact   of the booked places: exactly when 10 at 260, and 13, are given
+--     MethodExact   of the method: exactly when 10 at 3 is given
 --     HeldExact     of the curves held at the start: exactly when 14 is given, and at which curve
 --     Faults        a refusal names the first position with a fault
 --     Marks         flags of the tests that were met
@@ -17,6 +18,7 @@ pub mod Refuses
 pub mod Orders
 pub mod JobExact
 pub mod BookedExact
+pub mod MethodExact
 pub mod Faults
 pub mod HeldExact
 pub mod Marks

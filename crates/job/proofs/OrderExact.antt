@@ -3,7 +3,7 @@ use mathlib.Core.Path.{_≡_, refl, sym, ap, _∙_, subst}
 use mathlib.Core.Logic.{_↔_}
 use mathlib.Core.Bool.{not, _&&_}
 use mathlib.Core.List.{List, [], _∷_, _++_, append-nil, append-assoc}
-use Prim.Native.Nat.{ℕ, zero, suc, _+_, _≤_, _<_}
+use Prim.Native.Nat.{ℕ, _+_, _≤_, _<_}
 use native.Mathlib.Omega.{arith}
 use native.Mathlib.Decide.{decLe}
 use lib.ListN.{length, getD, length-append}
@@ -13,7 +13,7 @@ use Rattle.job.specs.Refusal.{done, demand}
 use Rattle.job.specs.Handed.{listed}
 use Rattle.job.proofs.Laws.{both, and, demand-true, demand-done, both-done, done-both}
 use Rattle.job.specs.Words.{digit, count, IsOrder}
-use Rattle.job.proofs.Orders.{count-append, one-same, unlisted, uncounted, Part, part-one, part-none, whole-part, order-length}
+use Rattle.job.proofs.Orders.{count-append, one-same, unlisted, uncounted, Part, part-one, part-none, whole-part, order-length, own-entries}
 use Rattle.job.specs.Order.{orderFrom, orderKnown}
 use Rattle.job.proofs.Refuses.{Refuses, refuses-demand, refuses-both}
 
@@ -77,17 +77,7 @@ order-refuses n before (t ∷ ts) =
 
 -- an order names only tests of the job, so the wants of each step are those of a test
 pub own-tests : (n : ℕ) (order : List ℕ) → IsOrder n order → (i : ℕ) → i < length order → getD order i 0 < n
-unfolding count
-own-tests n order o i h = go order (o .only) i h
-  where
-    go : (ts : List ℕ) → ((t : ℕ) → n ≤ t → count t ts ≡ 0) → (i : ℕ) → i < length ts → getD ts i 0 < n
-    go [] own i h = absurd (omega arith)
-    go (t ∷ ts) own zero h = below (decLe n t)
-      where
-        below : Dec (n ≤ t) → t < n
-        below (yes l) = absurd (omega (arith, own t l, one-same t))
-        below (no l) = omega arith
-    go (t ∷ ts) own (suc i) h = go ts (λ s l. omega (arith, own s l)) i (omega arith)
+own-tests n order o = own-entries n order (o .only)
 
 -- the order has an entry for each test ..
 pub order-long : (n : ℕ) (order : List ℕ) → orderKnown n order ≡ done tt → length order ≡ n

@@ -156,3 +156,14 @@ whole-part n ss p h = record { once = all-ones n (λ t. count t ss) (p .most) (o
 pub part-none : (n : ℕ) → Part n []
 unfolding count
 part-none n = record { short = omega arith; most = λ t. omega arith; own = λ t h. refl }
+
+-- where nothing else is counted, each entry is one of the n tests
+pub own-entries : (n : ℕ) (ss : List ℕ) → ((t : ℕ) → n ≤ t → count t ss ≡ 0) → (i : ℕ) → i < length ss → getD ss i 0 < n
+unfolding count
+own-entries n [] own i h = absurd (omega arith)
+own-entries n (s ∷ ss) own zero h = below (decLe n s)
+  where
+    below : Dec (n ≤ s) → s < n
+    below (yes l) = absurd (omega (arith, own s l, one-same s))
+    below (no l) = omega arith
+own-entries n (s ∷ ss) own (suc i) h = own-entries n ss (λ t l. omega (arith, own t l)) i (omega arith)

@@ -91,22 +91,33 @@ withdrawn r = in-table r .2
 abbrev pub BeforeBooked : ℕ → ℕ → Type 0
 BeforeBooked k i = (k ≡ 10) × (i < 260)
 
-numbers-refuse : (rig : Rig) (tests : ℕ) → Refuses BeforeBooked (numbersKnown rig tests)
+-- at places 0 to 2, as far as the number of tests
+abbrev pub OfNumbers : ℕ → ℕ → Type 0
+OfNumbers k i = (k ≡ 10) × (i < 3)
+
+pub numbers-refuse : (rig : Rig) (tests : ℕ) → Refuses OfNumbers (numbersKnown rig tests)
 unfolding numbersKnown placesKnown curvesKnown testsKnown
 numbers-refuse rig tests =
-    refuses-both BeforeBooked _ _ (refuses-demand BeforeBooked _ 10 0 (refl, omega arith))
-    (refuses-both BeforeBooked _ _ (refuses-demand BeforeBooked _ 10 1 (refl, omega arith)) (refuses-demand BeforeBooked _ 10 2 (refl, omega arith)))
+    refuses-both OfNumbers _ _ (refuses-demand OfNumbers _ 10 0 (refl, omega arith))
+    (refuses-both OfNumbers _ _ (refuses-demand OfNumbers _ 10 1 (refl, omega arith)) (refuses-demand OfNumbers _ 10 2 (refl, omega arith)))
 
-wants-refuse : (curves : ℕ) (wants : List ℕ) → length wants ≤ 256 → Refuses BeforeBooked (wantsKnown curves wants)
+-- at places from 4 on, of the wants
+abbrev pub OfWants : ℕ → ℕ → Type 0
+OfWants k i = (k ≡ 10) × (3 < i) × (i < 260)
+
+pub wants-refuse : (curves : ℕ) (wants : List ℕ) → length wants ≤ 256 → Refuses OfWants (wantsKnown curves wants)
 unfolding wantsKnown
-wants-refuse curves wants few = refuses-each BeforeBooked _ 10 4 wants (λ t l. (refl, omega arith))
+wants-refuse curves wants few = refuses-each OfWants _ 10 4 wants (λ t l. (refl, omega arith, omega arith))
 
 pub before-refuses : (method : ℕ) (j : Job) → Refuses BeforeBooked (beforeBooked method j)
 unfolding methodKnown
 before-refuses method j =
-    refuses-then BeforeBooked _ _ (numbers-refuse (j .rig) (length (j .wants)))
+    refuses-then BeforeBooked _ _
+    (refuses-more OfNumbers BeforeBooked (numbersKnown (j .rig) (length (j .wants))) (λ k i n. (n .0, omega (arith, n .1)))
+    (numbers-refuse (j .rig) (length (j .wants))))
     (λ e. refuses-both BeforeBooked _ _ (refuses-demand BeforeBooked _ 10 3 (refl, omega arith))
-    (wants-refuse (j .rig .curves) (j .wants) (known-bounds (j .rig) (length (j .wants)) e .1)))
+    (refuses-more OfWants BeforeBooked (wantsKnown (j .rig .curves) (j .wants)) (λ k i n. (n .0, n .2))
+    (wants-refuse (j .rig .curves) (j .wants) (known-bounds (j .rig) (length (j .wants)) e .1))))
 
 -- and the whole
 abbrev pub HandedRefusal : ℕ → ℕ → Type 0

@@ -1,5 +1,5 @@
 -- "Handed lists and counts: .. 10 in its own order", 13, 14, and 7: numbers that are handed over directly are examined the same way as bytes.
-use mathlib.Core.Bool.{Bool, false, _&&_, _||_}
+use mathlib.Core.Bool.{Bool, false, not, _&&_, _||_}
 use mathlib.Core.List.{List, [], _∷_}
 use Prim.Native.Nat.{ℕ, suc}
 use lib.ListN.{length}
@@ -31,7 +31,7 @@ each ok k i (x ∷ xs) = do
   each ok k (suc i) xs
 
 -- 10: "0 places, 1 curves, 2 more than 256 tests, 3 method, 4 + t: wants of test t name a foreign curve", with the bounds "Places in the drive 1 to 64.
--- Curves 1 to 64", and the methods 0 to 3
+-- Curves 1 to 64"
 unfoldable pub placesKnown : ℕ → Outcome (Unit {0})
 placesKnown places = demand (between 1 64 places) 10 0
 
@@ -43,9 +43,13 @@ curvesKnown curves = demand (between 1 64 curves) 10 1
 unfoldable pub testsKnown : ℕ → Outcome (Unit {0})
 testsKnown tests = demand (leb tests 256) 10 2
 
--- "3 method"
+-- the methods are 0 to 3, but for 2: 02, wish 8, "Method 2 goes."
+unfoldable pub isMethod : ℕ → Bool
+isMethod method = not (eqb method 2) && leb method 3
+
+-- "3 method"; wish 8: "A handed method 2 gets refusal 10 at place 3"
 unfoldable pub methodKnown : ℕ → Outcome (Unit {0})
-methodKnown method = demand (leb method 3) 10 3
+methodKnown method = demand (isMethod method) 10 3
 
 -- "4 + t: wants of test t name a foreign curve"
 unfoldable pub wantsKnown : ℕ → List ℕ → Outcome (Unit {0})

@@ -5,7 +5,7 @@ ghost use lib.ListN.{length};
 ghost use Rattle.lists.specs.Lent.{was};
 ghost use Rattle.job.specs.Refusal.{number, figure, examinedOutcome};
 ghost use Rattle.job.specs.Words.{jobOf, capacity};
-ghost use Rattle.job.specs.Handed.{between, numbersKnown, wantsKnown, wantsFit, bookedKnown, bookedBelow, heldKnown, jobKnownBy, countsKnown};
+ghost use Rattle.job.specs.Handed.{between, isMethod, numbersKnown, wantsKnown, wantsFit, bookedKnown, bookedBelow, heldKnown, jobKnownBy, countsKnown};
 ghost use Rattle.job.specs.Order.{orderKnown};
 ghost use Rattle.job.specs.Calls.{orderingKnown, checkingKnown, planningKnown, orderAloneKnown};
 
@@ -19,8 +19,10 @@ pub const MOST_TESTS: usize = 256;
 // 02, wish 5: "booked places, 1..63, absent 0".
 pub const MOST_BOOKED: usize = 63;
 
-// The methods are 0 to 3.
-pub const LAST_METHOD: usize = 3;
+// The methods are 0 to 3, but for 2, which old job files may still have (02, wish 8).
+const LAST_METHOD: usize = 3;
+
+pub const OLD_METHOD: usize = 2;
 
 // Why a call is refused: the rows of document 01's table in its order, each with the figure that is returned beside its number, and those of 02 behind them.
 // Row 5 is withdrawn (02, wish 3). The comment gives the table's own word.
@@ -173,6 +175,17 @@ fn examine_numbers(rig: Rig, tests: usize) -> Examined
     examine_counts(rig.curves, tests)
 }
 
+// The methods: 0 as listed, 1 reverse Cuthill-McKee, 3 packages.
+fn is_method(method: usize) -> bool
+    ensures { λ r. ⌜ r ≡ isMethod method ⌝ }
+{
+    if method == OLD_METHOD {
+        false
+    } else {
+        method <= LAST_METHOD
+    }
+}
+
 // 10, 4 + t: "wants of test t name a foreign curve".
 fn examine_wants(curves: usize, wants: &[u64]) -> Examined
     requires { ⌜ (curves ≤ 64) × (length (now wants) ≤ 256) ⌝ }
@@ -217,7 +230,7 @@ pub fn examine_job(rig: Rig, method: usize, wants: &[u64]) -> Examined
     if let Examined::Refused(r) = examine_numbers(rig, wants.len()) {
         return Examined::Refused(r);
     }
-    if LAST_METHOD < method {
+    if !is_method(method) {
         return Examined::Refused(Refusal::BadArgument(3));
     }
     if let Examined::Refused(r) = examine_wants(rig.curves, wants) {

@@ -2,8 +2,8 @@
 use mathlib.Core.Path.{_≡_, refl, sym, ap, _∙_, subst}
 use mathlib.Core.Logic.{_↔_}
 use mathlib.Core.Bool.{Bool, true, false}
-use mathlib.Core.List.{List, [], _∷_, _++_, append-assoc, append-nil, zipWith, flatten}
-use Prim.Native.Nat.{ℕ, suc, _-_, _%_, _≤_, _<_}
+use mathlib.Core.List.{List, [], _∷_, _++_, append-assoc, zipWith, flatten}
+use Prim.Native.Nat.{ℕ, _-_, _≤_, _<_}
 use native.Mathlib.Omega.{arith}
 use native.Mathlib.Nat.{mod-eq-of-lt}
 use lib.Dec.{ltb}
@@ -15,11 +15,11 @@ use Rattle.job.specs.Refusal.{Outcome, done, refused, _>>=_, _>>_, demand}
 use Rattle.job.specs.Handed.{bookedBelow}
 use Rattle.job_bytes.specs.declared.fields.Field.{Field}
 use Rattle.job_bytes.specs.SetBytes.{Got}
-use Rattle.job_bytes.specs.JobBytes.{Request, fields, valuesOf, headFields, readHead, readBytes, numberBytes, headBytes}
+use Rattle.job_bytes.specs.JobBytes.{Request, fields, headFields, readHead, readBytes, numberBytes, headBytes}
 use Rattle.job.proofs.Laws.{refused≢done, demand-refused}
 use Rattle.job.proofs.Refuses.{refuses}
 use Rattle.job_bytes.proofs.SetRoundTrip.{Bytes}
-use Rattle.job_bytes.proofs.HeadRoundTrip.{fieldsMap, fieldsBytes, bytesOf, head-bytes, within, table-read}
+use Rattle.job_bytes.proofs.HeadRoundTrip.{fieldsMap, fieldsBytes, bytesOf, head-bytes, fields-append, within, standing, table-read}
 use Rattle.job_bytes.proofs.Spans.{Spans, span-done, table-span}
 use Rattle.job_bytes.proofs.Heads.{head-booked}
 use Rattle.job_bytes.proofs.Records.{whole-head}
@@ -27,29 +27,20 @@ use Rattle.job_bytes.proofs.ReadRefuses.{ByByte, table, behindHead, tes
 
 -- ---- the byte
 
-fields-snoc : (fs : List Field) (vs : List ℕ) (f : Field) (v : ℕ) → length fs ≡ length vs
-    → fieldsBytes (fs ++ (f ∷ [])) (vs ++ (v ∷ [])) ≡ fieldsBytes fs vs ++ bytesOf f v
-unfolding fieldsBytes zipWith flatten
-fields-snoc [] [] f v l = append-nil (bytesOf f v)
-fields-snoc [] (w ∷ vs) f v l = absurd (omega (arith, l))
-fields-snoc (g ∷ fs) [] f v l = absurd (omega (arith, l))
-fields-snoc (g ∷ fs) (w ∷ vs) f v l =
-    ap (λ (bs : List ℕ). bytesOf g w ++ bs) (fields-snoc fs vs f v (omega (arith, l))) ∙ sym (append-assoc (bytesOf g w) (fieldsBytes fs vs) (bytesOf f v))
-
 -- a head with booked places ends in their number
-last-byte : (h : Head) → 0 < h .rig .booked → h .rig .booked < 256
-    → (front : List ℕ) × (headBytes (valuesOf h) ≡ front ++ (h .rig .booked ∷ []))
-unfolding fields numberBytes
-last-byte h some small = (
-  fieldsMap fields (valuesOf h) ∷ fieldsBytes (take 4 fields) vs,
-  head-bytes (valuesOf h) ∙ ap {B = List ℕ} (λ bs. fieldsMap fields (valuesOf h) ∷ bs) (fields-snoc (take 4 fields) vs f b refl ∙ rw own refl),
+last-byte : (h : Head) (m : ℕ) → 0 < h .rig .booked → h .rig .booked < 256
+    → (front : List ℕ) × (headBytes (standing h m) ≡ front ++ (h .rig .booked ∷ []))
+unfolding fields numberBytes fieldsBytes zipWith flatten
+last-byte h m some small = (
+  fieldsMap fields (standing h m) ∷ fieldsBytes (take 4 fields) vs,
+  head-bytes (standing h m) ∙ ap {B = List ℕ} (λ bs. fieldsMap fields (standing h m) ∷ bs) (fields-append (take 4 fields) (f ∷ []) vs (b ∷ []) refl ∙ rw own refl),
 )
   where
     b : ℕ
     b = h .rig .booked
 
     vs : List ℕ
-    vs = h .rig .places ∷ h .rig .curves ∷ h .tests ∷ h .method ∷ []
+    vs = h .rig .places ∷ h .rig .curves ∷ h .tests ∷ m ∷ []
 
     f : Field
     f = record { width = 1; low = 1; high = 63; absent = 0 }
@@ -66,7 +57,7 @@ booked-byte bs g all e some =
     let t = table-read bs g e in
     let s = span-done (subst (Spans 7 0 bs) e (table-span bs)) in
     let w = within _ b 0 63 (omega arith, omega arith) (omega arith, omega arith) (t .have .1 .1 .1 .1 .0) in
-    let l = last-byte (g .value) some (omega (arith, w .1)) in
+    let l = last-byte (g .value) (t .method) some (omega (arith, w .1)) in
     let y : bs ≡ l .0 ++ (b ∷ g .rest) = t .exact all .0 ∙ ap (λ (z : List ℕ). z ++ g .rest) (l .1) ∙ append-assoc (l .0) (b ∷ []) (g .rest) in
     let n : g .next - 1 ≡ length (l .0) =
     omega (arith, ap length y, length-append (l .0) (b ∷ g .rest), ap length (s .behind), length-drop (g .next) bs, s .within) in

@@ -9,14 +9,15 @@ use native.Mathlib.Nat.{pow-succ'}
 use native.Mathlib.Decide.{ℕ-discrete}
 use lib.Dec.{leb, ltb, eqb}
 use lib.Pow.{pow-add}
-use lib.ListN.{length, length-append}
+use lib.ListN.{length, getD, length-append}
 use borrow.Author.Tests.{ltb-true, leb-true, lt-ltb, le-leb, eq-eqb, ne-eqb, not-true}
 use Rattle.job.specs.declared.Head.{Head}
 use Rattle.job.specs.Refusal.{done, refused, _>>=_, _>>_, demand}
 use Rattle.job.specs.Handed.{between, bookedBelow}
+use Rattle.job.specs.Words.{IsMethod}
 use Rattle.job_bytes.specs.declared.fields.Field.{Field}
 use Rattle.job_bytes.specs.SetBytes.{Got, got, byteAt}
-use Rattle.job_bytes.specs.JobBytes.{fields, headOf, valuesOf, readNumber, readField, readFields, headFields, readHead, numberBytes}
+use Rattle.job_bytes.specs.JobBytes.{fields, methodRead, headOf, valuesOf, readNumber, readField, readFields, headFields, readHead, numberBytes}
 use Rattle.job_bytes.specs.JobBytes.{headBytes}
 use Rattle.job.proofs.Laws.{both, done-same, refused≢done, demand-true, both-done, bind-done}
 use Rattle.job_bytes.proofs.SetRoundTrip.{Bytes}
@@ -41,6 +42,16 @@ fieldsBytes fs vs = flatten (zipWith bytesOf fs vs)
 pub head-bytes : (vs : List ℕ) → headBytes vs ≡ fieldsMap fields vs ∷ fieldsBytes fields vs
 unfolding headBytes fieldsMap fieldsBytes
 head-bytes vs = refl
+
+pub fields-append : (fs gs : List Field) (vs ws : List ℕ) → length fs ≡ length vs
+    → fieldsBytes (fs ++ gs) (vs ++ ws) ≡ fieldsBytes fs vs ++ fieldsBytes gs ws
+unfolding fieldsBytes zipWith flatten
+fields-append [] gs [] ws l = refl
+fields-append [] gs (v ∷ vs) ws l = absurd (omega (arith, l))
+fields-append (f ∷ fs) gs [] ws l = absurd (omega (arith, l))
+fields-append (f ∷ fs) gs (v ∷ vs) ws l =
+    ap (λ (bs : List ℕ). bytesOf f v ++ bs) (fields-append fs gs vs ws (omega (arith, l)))
+    ∙ sym (append-assoc (bytesOf f v) (fieldsBytes fs vs) (fieldsBytes gs ws))
 
 -- ---- what a field can have: its absent value, or one that it holds
 
@@ -101,7 +112,7 @@ field-back f i v rest wide (inr e) =
     let h = held f v e in
     rw (h .2, number-back (f .width) i v rest (omega arith), e) refl
 
-bit-le : (b : Bool) → cond b 0 1 ≤ 1
+pub bit-le : (b : Bool) → cond b 0 1 ≤ 1
 bit-le true = omega arith
 bit-le false = omega arith
 
@@ -134,16 +145,17 @@ fields-back (f ∷ fs) (v ∷ vs) acc i rest w h =
     rw (m, d, append-assoc bs (fieldsBytes fs vs) rest, field-back f i v (fieldsBytes fs vs ++ rest) (w .0) (h .0))
     (fields-back fs vs (acc ++ (v ∷ [])) (i + length bs) rest (w .1) (h .1) ∙ rw (n, append-assoc acc (v ∷ []) vs) refl)
 
-pub head-back : (h : Head) (rest : List ℕ) → AllHave fields (valuesOf h) → h .rig .booked < h .rig .places
+pub head-back : (h : Head) (rest : List ℕ) → AllHave fields (valuesOf h) → (h .method ≡ 2 → ⊥) → h .rig .booked < h .rig .places
     → readHead (headBytes (valuesOf h) ++ rest) ≡ done (got h (length (headBytes (valuesOf h))) rest)
-unfolding readHead headFields bookedBelow byteAt demand _>>=_ _>>_
-head-back h rest have below =
+unfolding readHead headFields bookedBelow methodRead byteAt demand _>>=_ _>>_
+head-back h rest have new below =
     let n : 1 + length (fieldsBytes fields (valuesOf h)) ≡ suc (length (fieldsBytes fields (valuesOf h))) = omega arith in
     rw (
       head-bytes (valuesOf h),
       lt-ltb _ _ (map-lt fields (valuesOf h)),
       fields-back fields (valuesOf h) [] 1 rest wide have,
       n,
+      ne-eqb (h .method) 2 new,
       lt-ltb (h .rig .booked) (h .rig .places) below,
     ) refl
   where
@@ -214,8 +226,12 @@ fields-read (f ∷ fs) map i acc bs g e =
           (omega (arith, a .0, b .0), a .1 ∙ ap (λ (l : List ℕ). own ++ l) (b .1) ∙ sym (append-assoc own (fieldsBytes fs (s .values)) (g .rest)), b .2);
     }
 
+-- the values that stand in the bytes of a head, of which the method's need not be the head's
+abbrev pub standing : Head → ℕ → List ℕ
+standing h m = h .rig .places ∷ h .rig .curves ∷ h .tests ∷ m ∷ h .rig .booked ∷ []
+
 -- the fields of a head, and the head of its fields
-same-values : (vs : List ℕ) → AllHave fields vs → valuesOf (headOf vs) ≡ vs
+same-values : (vs : List ℕ) → AllHave fields vs → standing (headOf vs) (getD vs 3 0) ≡ vs
 unfolding fields
 same-values [] h = absurd h
 same-values (p ∷ []) h = absurd (h .1)
@@ -226,8 +242,10 @@ same-values (p ∷ c ∷ t ∷ m ∷ b ∷ []) h = refl
 same-values (p ∷ c ∷ t ∷ m ∷ b ∷ x ∷ vs) h = absurd (h .1 .1 .1 .1 .1)
 
 pub record TableRead (bs : List ℕ) (g : Got Head) : Type 0 where
-  pub have : AllHave fields (valuesOf (g .value))
-  pub exact : Bytes bs → (bs ≡ headBytes (valuesOf (g .value)) ++ g .rest) × Bytes (g .rest)
+  pub method : ℕ
+  pub read : g .value .method ≡ methodRead method
+  pub have : AllHave fields (standing (g .value) method)
+  pub exact : Bytes bs → (bs ≡ headBytes (standing (g .value) method) ++ g .rest) × Bytes (g .rest)
 
 pub table-read : (bs : List ℕ) (g : Got Head) → headFields bs ≡ done g → TableRead bs g
 unfolding headFields byteAt _>>=_
@@ -240,6 +258,8 @@ table-read (M ∷ bs) g e =
     subst (TableRead (M ∷ bs)) (done-same (x .2))
     (rw (r .value)
     (record {
+      method = getD (r .values) 3 0;
+      read = refl;
       have = rw s (r .have);
       exact = λ all.
           let a = r .exact (all .1) (ltb-true M _ (demand-true _ 2 0 (m .0))) in
@@ -256,8 +276,8 @@ head-parts bs g e =
     subst (λ (h : Got Head). (headFields bs ≡ done h) × (h .value .rig .booked < h .value .rig .places)) (done-same (y .1))
     (x .1, ltb-true (h .value .rig .booked) (h .value .rig .places) (demand-true _ 13 (h .next - 1) (y .0)))
 
-pub head-read : (bs : List ℕ) (g : Got Head) → readHead bs ≡ done g → Bytes bs → (bs ≡ headBytes (valuesOf (g .value)) ++ g .rest) × Bytes (g .rest)
-head-read bs g e = table-read bs g (head-parts bs g e .0) .exact
+pub head-read : (bs : List ℕ) (g : Got Head) → readHead bs ≡ done g → TableRead bs g
+head-read bs g e = table-read bs g (head-parts bs g e .0)
 
 -- the numbers of a head that was read are in range
 pub record InRange (h : Head) : Type 0 where
@@ -265,17 +285,29 @@ pub record InRange (h : Head) : Type 0 where
   pub booked : h .rig .booked < h .rig .places
   pub curves : (1 ≤ h .rig .curves) × (h .rig .curves ≤ 64)
   pub tests : h .tests ≤ 256
-  pub method : h .method ≤ 3
+  pub method : IsMethod (h .method)
 
-in-range : (h : Head) → AllHave fields (valuesOf h) → h .rig .booked < h .rig .places → InRange h
+pub method-le : (h : Head) (m : ℕ) → AllHave fields (standing h m) → m ≤ 3
 unfolding fields
-in-range h a below =
+method-le h m a = within _ m 0 3 (omega arith, omega arith) (omega arith, omega arith) (a .1 .1 .1 .0) .1
+
+known : (m : ℕ) → m ≤ 3 → IsMethod (methodRead m)
+unfolding methodRead
+known m l = go (ℕ-discrete m 2)
+  where
+    go : Dec (m ≡ 2) → IsMethod (methodRead m)
+    go (yes e) = rw (eq-eqb m 2 e) (omega arith, λ z. omega arith)
+    go (no d) = rw (ne-eqb m 2 d) (l, d)
+
+in-range : (h : Head) (m : ℕ) → h .method ≡ methodRead m → AllHave fields (standing h m) → h .rig .booked < h .rig .places → InRange h
+unfolding fields
+in-range h m read a below =
     record {
       places = within _ (h .rig .places) 1 64 (omega arith, omega arith) (omega arith, omega arith) (a .0);
       booked = below;
       curves = within _ (h .rig .curves) 1 64 (omega arith, omega arith) (omega arith, omega arith) (a .1 .0);
       tests = within _ (h .tests) 0 256 (omega arith, omega arith) (omega arith, omega arith) (a .1 .1 .0) .1;
-      method = within _ (h .method) 0 3 (omega arith, omega arith) (omega arith, omega arith) (a .1 .1 .1 .0) .1;
+      method = rw read (known m (method-le h m a));
     }
 
 pub range-in : (h : Head) → InRange h → AllHave fields (valuesOf h)
@@ -286,10 +318,13 @@ range-in h r = (
     has _ (h .rig .curves) (λ n. r .curves),
     (
       has _ (h .tests) (λ n. (omega arith, r .tests)),
-      (has _ (h .method) (λ n. (omega arith, r .method)), (has _ (h .rig .booked) (λ n. (omega arith, omega (arith, r .booked, r .places .1))), tt)),
+      (has _ (h .method) (λ n. (omega arith, r .method .0)), (has _ (h .rig .booked) (λ n. (omega arith, omega (arith, r .booked, r .places .1))), tt)),
     ),
   ),
 )
 
 pub head-range : (bs : List ℕ) (g : Got Head) → readHead bs ≡ done g → InRange (g .value)
-head-range bs g e = let p = head-parts bs g e in in-range (g .value) (table-read bs g (p .0) .have) (p .1)
+head-range bs g e =
+    let p = head-parts bs g e in
+    let t = table-read bs g (p .0) in
+    in-range (g .value) (t .method) (t .read) (t .have) (p .1)

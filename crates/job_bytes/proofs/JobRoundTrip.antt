@@ -1,4 +1,5 @@
--- "Writing and reading undo each other for every job that reads": job bytes.
+-- "Writing and reading undo each other for every job that reads": job bytes; and 02, wish 8: "Reading back and writing are exact for every other job" than an
+-- old one with method 2, which is "written back with 1".
 use mathlib.Core.Path.{_≡_, refl, sym, ap, _∙_, subst}
 use mathlib.Core.List.{List, [], _∷_, _++_, append-assoc, append-nil}
 use Prim.Native.Nat.{ℕ, zero, suc, _+_, _^_, _≤_, _<_}
@@ -10,11 +11,13 @@ use Rattle.job.specs.Handed.{jobKnownBy}
 use Rattle.job_bytes.specs.SetBytes.{groupMap, groupBytes, setBytes, Got, got, byteAt}
 use Rattle.job_bytes.specs.JobBytes.{Request, jobIn, request, valuesOf, readHead, readRecord, readRecords, atEnd, readBytes, headBytes, recordBytes}
 use Rattle.job_bytes.specs.JobBytes.{jobBytes, writeJob}
+use Rattle.job_bytes.specs.OldFiles.{upgraded}
 use Rattle.job.proofs.Laws.{done-same, refused≢done, both-done, done-both, bind-done, done-room}
 use Rattle.job.specs.Words.{Job, jobOf, IsJob}
 use Rattle.job.proofs.JobExact.{job-by-exact}
 use Rattle.job_bytes.proofs.SetRoundTrip.{set-back, Bytes, SetRead, set-read}
-use Rattle.job_bytes.proofs.HeadRoundTrip.{InRange, range-in, head-range, head-back, head-read}
+use Rattle.job_bytes.proofs.HeadRoundTrip.{InRange, range-in, standing, method-le, head-range, head-back, head-read}
+use Rattle.job_bytes.proofs.OldFiles.{upgraded-length, head-upgraded}
 
 -- ---- written, then read
 
@@ -57,7 +60,7 @@ job-back method j lent bytes e =
         record { places = x .0 .places-bounds; booked = x .0 .booked-bound; curves = x .0 .curves-bounds; tests = x .0 .tests-bound; method = x .1 } in
         let z : recordBytes (j .wants) ≡ recordBytes (j .wants) ++ [] = sym (append-nil (recordBytes (j .wants))) in
         let r = records-back (j .rig .curves) (x .0 .curves-bounds .1) (length (headBytes (valuesOf h))) [] (j .wants) [] (x .0 .own-curves) in
-        rw (head-back h (recordBytes (j .wants)) (range-in h ok) (ok .booked), z, r) refl
+        rw (head-back h (recordBytes (j .wants)) (range-in h ok) (x .1 .1) (ok .booked), z, r) refl
 
 -- ---- read, then written
 
@@ -130,25 +133,28 @@ job-written h ws bs ok count known bytes =
     same : jobBytes (request (h .method) (jobOf (h .rig) ws)) ≡ bs
     same = ap (λ (x : Head). headBytes (valuesOf x) ++ recordBytes ws) head ∙ sym bytes
 
-job-found : (h : Head) (bs rest : List ℕ) (g : Got (List ℕ)) → InRange h → bs ≡ headBytes (valuesOf h) ++ rest
+job-found : (h : Head) (bs rest : List ℕ) (g : Got (List ℕ)) → InRange h → upgraded bs ≡ headBytes (valuesOf h) ++ rest
     → RecordsRead (h .rig .curves) (h .tests) [] rest g → g .rest ≡ []
-    → writeJob (h .method) (jobOf (h .rig) (g .value)) (length bs) ≡ done bs
+    → writeJob (h .method) (jobOf (h .rig) (g .value)) (length bs) ≡ done (upgraded bs)
 job-found h bs rest g ok bytes r none =
-    rw (r .value)
-    (job-written h (r .wants) bs ok (r .count) (r .known)
+    rw (r .value, ← (upgraded-length bs))
+    (job-written h (r .wants) (upgraded bs) ok (r .count) (r .known)
     (bytes ∙ ap (λ (l : List ℕ). headBytes (valuesOf h) ++ l)
     (r .bytes ∙ ap (λ (l : List ℕ). recordBytes (r .wants) ++ l) none ∙ append-nil (recordBytes (r .wants)))))
 
--- BYTES THAT READ AS A JOB are those that are written for it
-pub job-read : (bs : List ℕ) (q : Request) → Bytes bs → readBytes bs ≡ done q → writeJob (q .head .method) (jobIn q) (length bs) ≡ done bs
+-- BYTES THAT READ AS A JOB are those that are written for it, with 1 in the place of a method byte 2
+pub job-read : (bs : List ℕ) (q : Request) → Bytes bs → readBytes bs ≡ done q → writeJob (q .head .method) (jobIn q) (length bs) ≡ done (upgraded bs)
 unfolding readBytes
 job-read bs q all e =
     let x = bind-done (readHead bs) _ q e in
-    let H = head-read bs (x .0) (x .1) all in
+    let t = head-read bs (x .0) (x .1) in
+    let H = t .exact all in
     let h = x .0 .value in
+    let bytes : upgraded bs ≡ headBytes (valuesOf h) ++ x .0 .rest =
+    ap upgraded (H .0) ∙ head-upgraded h (t .method) (x .0 .rest) (method-le h (t .method) (t .have)) ∙ ap (λ (m : ℕ). headBytes (standing h m) ++ x .0 .rest) (sym (t .read)) in
     let y = bind-done (readRecords (h .rig .curves) (h .tests) [] (x .0 .next) (x .0 .rest)) _ q (x .2) in
     let R : RecordsRead (h .rig .curves) (h .tests) [] (x .0 .rest) (y .0) =
     records-read (h .rig .curves) (h .tests) (x .0 .next) [] (x .0 .rest) (y .0) (H .1) (y .1) in
     let z = both-done (atEnd 6 (y .0 .next) (y .0 .rest)) (done (record { head = h; wants = y .0 .value })) q (y .2) in
-    subst (λ (q : Request). writeJob (q .head .method) (jobIn q) (length bs) ≡ done bs) (done-same (z .1))
-    (job-found h bs (x .0 .rest) (y .0) (head-range bs (x .0) (x .1)) (H .0) R (end-none 6 (y .0 .next) (y .0 .rest) (z .0)))
+    subst (λ (q : Request). writeJob (q .head .method) (jobIn q) (length bs) ≡ done (upgraded bs)) (done-same (z .1))
+    (job-found h bs (x .0 .rest) (y .0) (head-range bs (x .0) (x .1)) bytes R (end-none 6 (y .0 .next) (y .0 .rest) (z .0)))

@@ -11,6 +11,8 @@
 --     SetRoundTrip  a set that is written reads back, and the other way round
 --     HeadRoundTrip the same of a head, by induction over the table of fields
 --     JobRoundTrip  the same of a job
+--     Alike         readings of bytes that differ at one place, before it
+--     OldFiles      bytes are read as those with 1 in the place of a method byte 2, and what a head's bytes become so
 --     JobBounds     how long job bytes are, how large their figures, and that bytes behind the 2,312th change nothing
 --     ReadExact     bytes that read give a job
 --     ReadRefuses   reading refuses by 1 to 4, 6 and 13 only
@@ -26,6 +28,8 @@ pub mod JobWritten
 pub mod SetRoundTrip
 pub mod GroupByte
 pub mod HeadRoundTrip
+pub mod Alike
+pub mod OldFiles
 pub mod JobRoundTrip
 pub mod JobBounds
 pub mod ReadExact

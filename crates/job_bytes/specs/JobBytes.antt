@@ -58,11 +58,15 @@ readFields (f ∷ fs) map vs i bs = do
   v ← readField f (map % 2) i bs
   readFields fs (map / 2) (vs ++ (v .value ∷ [])) (v .next) (v .rest)
 
+-- 02, wish 8: "Old job files with method 2 still read, as method 1": the method that the value of its field stands for
+unfoldable pub methodRead : ℕ → ℕ
+methodRead v = cond (eqb v 2) 1 v
+
 -- the head of its fields' values, in bit order
 abbrev pub headOf : List ℕ → Head
-headOf vs = record { rig = record { places = getD vs 0 0; booked = getD vs 4 0; curves = getD vs 1 0 }; tests = getD vs 2 0; method = getD vs 3 0 }
+headOf vs = record { rig = record { places = getD vs 0 0; booked = getD vs 4 0; curves = getD vs 1 0 }; tests = getD vs 2 0; method = methodRead (getD vs 3 0) }
 
--- .. and the values of a head
+-- .. and the values with which a head is written
 abbrev pub valuesOf : Head → List ℕ
 valuesOf h = h .rig .places ∷ h .rig .curves ∷ h .tests ∷ h .method ∷ h .rig .booked ∷ []
 

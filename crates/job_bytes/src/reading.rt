@@ -9,7 +9,7 @@ ghost use Rattle.lists.specs.Lent.{was, after};
 ghost use Rattle.job.specs.Handed.{between};
 ghost use Rattle.job.specs.Refusal.{done, mapped, readOutcome, countOutcome};
 ghost use Rattle.job_bytes.specs.SetBytes.{Got, got};
-ghost use Rattle.job_bytes.specs.JobBytes.{fields, readNumber, readField, headOf, headFields, readHead, readRecords, readJobAnswer, readJobWants};
+ghost use Rattle.job_bytes.specs.JobBytes.{fields, readNumber, readField, methodRead, headOf, headFields, readHead, readRecords, readJobAnswer, readJobWants};
 use crate::fields::FIELDS;
 use crate::fields::Field;
 use crate::fields::MAPS;
@@ -71,6 +71,13 @@ fn read_field(job: &[u8], at: usize, stands: usize, field: Field) -> Counted
     Counted::Refused(Refusal::BadHeader(at))
 }
 
+// "Old job files with method 2 still read, as method 1".
+fn method_read(value: usize) -> usize
+    ensures { λ r. ⌜ r ≡ methodRead value ⌝ }
+{
+    if value == job::OLD_METHOD { 1 } else { value }
+}
+
 // A head of its fields' values.
 fn head_of(values: &[usize]) -> Head
     requires { ⌜ 5 ≤ length (now values) ⌝ }
@@ -83,7 +90,7 @@ fn head_of(values: &[usize]) -> Head
             curves: values[1],
         },
         tests: values[2],
-        method: values[3],
+        method: method_read(values[3]),
     }
 }
 

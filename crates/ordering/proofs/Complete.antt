@@ -17,10 +17,10 @@ use Rattle.job.proofs.Orders.{count-reverse, unlisted, uncounted, sum-count, Pa
 use Rattle.packages.specs.Tests.{upTo}
 use Rattle.packages.proofs.Listed.{upTo-order}
 use Rattle.packages.proofs.Rounds.{packages-order}
-use Rattle.ordering.specs.Methods.{appended, grown, bestUnlisted, neighbour, orElse, nextOf, smaller, cuthillMcKee, degree, reverseCuthillMcKee, reach}
-use Rattle.ordering.specs.Methods.{spanningTree, asListed, orderBy}
+use Rattle.ordering.specs.Methods.{appended, grown, bestUnlisted, neighbour, orElse, nextOf, smaller, cuthillMcKee, degree, reverseCuthillMcKee}
+use Rattle.ordering.specs.Methods.{asListed, orderBy}
 
--- ---- smaller and larger keys rank
+-- ---- smaller keys rank
 
 pub ranked-least : (key : ℕ → ℕ) → Ranked (λ s t. ltb (key s) (key t))
 ranked-least key =
@@ -28,14 +28,6 @@ ranked-least key =
       self = λ x. le-ltb (key x) (key x) (omega arith);
       less = λ x y z p q. le-ltb (key x) (key y) (omega (arith, ltb-true (key y) (key z) p, ltb-false (key x) (key z) q));
       more = λ x y z p q. lt-ltb (key y) (key x) (omega (arith, ltb-true (key y) (key z) p, ltb-false (key x) (key z) q));
-    }
-
-pub ranked-most : (key : ℕ → ℕ) → Ranked (λ s t. ltb (key t) (key s))
-ranked-most key =
-    record {
-      self = λ x. le-ltb (key x) (key x) (omega arith);
-      less = λ x y z p q. le-ltb (key y) (key x) (omega (arith, ltb-true (key z) (key y) p, ltb-false (key z) (key x) q));
-      more = λ x y z p q. lt-ltb (key x) (key y) (omega (arith, ltb-true (key z) (key y) p, ltb-false (key z) (key x) q));
     }
 
 -- ---- a list that grows by unlisted tests
@@ -125,13 +117,6 @@ reverse-cuthill-mckee wants =
     let o : IsOrder (length wants) (cuthillMcKee wants ds) = cuthill-order wants ds in
     record { once = λ t l. count-reverse t (cuthillMcKee wants ds) ∙ o .once t l; only = λ t l. count-reverse t (cuthillMcKee wants ds) ∙ o .only t l }
 
--- ---- 2
-
-spanning-tree : (wants : List ℕ) → IsOrder (length wants) (spanningTree wants)
-unfolding spanningTree
-spanning-tree wants =
-    grown-order (length wants) _ (λ ts. best-remaining (λ s t. ltb (reach wants ts t) (reach wants ts s)) (ranked-most (reach wants ts)) (length wants) ts)
-
 -- ---- the methods by their numbers
 
 -- EACH METHOD'S ORDER names each test exactly once
@@ -139,5 +124,4 @@ pub order-complete : (method places : ℕ) (wants : List ℕ) → IsOrder (lengt
 unfolding orderBy
 order-complete zero places wants = as-listed wants
 order-complete (suc zero) places wants = reverse-cuthill-mckee wants
-order-complete (suc (suc zero)) places wants = spanning-tree wants
-order-complete (suc (suc (suc m))) places wants = packages-order places wants
+order-complete (suc (suc m)) places wants = packages-order places wants

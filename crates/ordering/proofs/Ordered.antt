@@ -12,7 +12,7 @@ use Rattle.job.proofs.Examination.{refused-both}
 use Rattle.job.proofs.Orders.{order-length}
 use Rattle.packages.specs.Tests.{upTo}
 use Rattle.packages.specs.Packages.{packages}
-use Rattle.ordering.specs.Methods.{reverseCuthillMcKee, spanningTree, orderBy}
+use Rattle.ordering.specs.Methods.{reverseCuthillMcKee, orderBy}
 use Rattle.ordering.specs.Ordering.{ordering}
 use Rattle.ordering.proofs.Complete.{order-complete}
 
@@ -26,16 +26,11 @@ module _ (places : ℕ) (wants : List ℕ) where
   unfolding orderBy
   by-1 m e = rw e refl
 
-  pub by-2 : (m : ℕ) → m ≡ 2 → orderBy m places wants ≡ spanningTree wants
+  pub by-3 : (m : ℕ) → (m ≡ 0 → ⊥) → (m ≡ 1 → ⊥) → orderBy m places wants ≡ packages places wants
   unfolding orderBy
-  by-2 m e = rw e refl
-
-  pub by-3 : (m : ℕ) → (m ≡ 0 → ⊥) → (m ≡ 1 → ⊥) → (m ≡ 2 → ⊥) → orderBy m places wants ≡ packages places wants
-  unfolding orderBy
-  by-3 zero p q r = absurd (p refl)
-  by-3 (suc zero) p q r = absurd (q refl)
-  by-3 (suc (suc zero)) p q r = absurd (r refl)
-  by-3 (suc (suc (suc m))) p q r = refl
+  by-3 zero p q = absurd (p refl)
+  by-3 (suc zero) p q = absurd (q refl)
+  by-3 (suc (suc m)) p q = refl
 
 -- ---- the examinations
 module _ (method : ℕ) (j : Job) (lent : ℕ) where

@@ -27,10 +27,6 @@ fn write_order(capacity: usize, method: usize, wants: &[u64], order: &mut [u16])
         growing::reverse_cuthill_mckee(wants, order);
         return;
     }
-    if method == 2 {
-        growing::spanning_tree(wants, order);
-        return;
-    }
     packages::package_order(capacity, wants, order);
 }
 

@@ -219,19 +219,6 @@ fn write_common(set: u64, others: &[u64], counts: &mut [u16])
     }
 }
 
-// How many curves a set has in common with each of at most 256 others: written to the beginning of `counts`, where they fit.
-pub fn count_common(set: u64, others: &[u64], counts: &mut [u16])
-    ensures { λ _. ⌜ after counts ≡ entered (map (common set) (was others)) (was counts) ⌝ }
-{
-    if 256 < others.len() {
-        return;
-    }
-    if counts.len() < others.len() {
-        return;
-    }
-    write_common(set, others, counts);
-}
-
 // What the package k has in common with itself and with each package behind it, each count in that package's place.
 fn count_behind(curves: &[u64], counts: &mut [u16], k: usize)
     requires { ⌜ (k < length (now curves)) × (length (now curves) ≤ length (now counts)) ⌝ }

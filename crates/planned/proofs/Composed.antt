@@ -10,10 +10,12 @@ use Rattle.job.specs.Words.{capacity}
 use Rattle.job.specs.Handed.{wantsFit}
 use Rattle.job.specs.Calls.{orderingKnown, planningKnown}
 use Rattle.job_bytes.specs.JobBytes.{Request, jobIn, readBytes}
+use Rattle.job_bytes.specs.OldFiles.{upgraded}
 use Rattle.job.proofs.Laws.{done-both}
 use Rattle.job.proofs.JobExact.{job-by-exact}
 use Rattle.job.proofs.Orders.{no-order}
 use Rattle.job_bytes.proofs.SetRoundTrip.{Bytes}
+use Rattle.job_bytes.proofs.OldFiles.{old-read}
 use Rattle.job_bytes.proofs.ReadExact.{ReadJob, read-exact}
 use Rattle.ordering.specs.Methods.{orderBy}
 use Rattle.ordering.proofs.Complete.{order-complete}
@@ -26,6 +28,11 @@ use Rattle.planning.proofs.Sequence.{exact-known, planning-known, plan-done}
 use Rattle.planning.proofs.Demand3.{our-check}
 use Rattle.planning.proofs.WithoutTests.{no-steps}
 use Rattle.planned.specs.Planned.{orderRequest, planInOrder, orderAndPlan, planJob}
+
+-- 02, wish 8: an old job file with method 2 is planned as with 1 in its place
+pub old-planned : (bs : List ℕ) → planJob bs ≡ planJob (upgraded bs)
+unfolding planJob
+old-planned bs = rw (← (old-read bs)) refl
 
 -- the order and the plan of a job
 abbrev pub orderOf : Request → List ℕ

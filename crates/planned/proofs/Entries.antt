@@ -114,7 +114,7 @@ module _ (bs : List ℕ) (all : Bytes bs) where
           count = sym c ∙ ap curveCount (sym (f .loads));
           few = omega (arith, f .read .tests, f .read .is-job .tests-bound);
           room = omega (arith, f .read .is-job .places-bounds .1);
-          method = f .read .method;
+          method = f .read .method .0;
           order = f .order;
           plan = rw (f .drops, f .loads, ← d) refl;
           order-long = ap length (f .order) ∙ f .order-long;

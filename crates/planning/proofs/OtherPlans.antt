@@ -8,7 +8,7 @@ use Rattle.bitset.specs.Set.{inside}
 use Rattle.job.specs.Refusal.{Outcome, done, refused, _>>=_, _>>_, mapped, demand, room}
 use Rattle.lists.specs.Choice.{keep, choose, bestOf}
 use Rattle.job.specs.Words.{Job, jobOf}
-use Rattle.job.specs.Handed.{between, listed, each, placesKnown, curvesKnown, testsKnown, methodKnown, wantsKnown, wantsFit, numbersKnown}
+use Rattle.job.specs.Handed.{between, listed, each, placesKnown, curvesKnown, testsKnown, isMethod, methodKnown, wantsKnown, wantsFit, numbersKnown}
 use Rattle.job.specs.Handed.{bookedBelow, bookedKnown, heldKnown, jobKnownBy}
 use Rattle.job.specs.Order.{orderFrom}
 use Rattle.job.specs.Calls.{checkingKnown, planningKnown}
@@ -61,7 +61,7 @@ pub record OtherPlans : Type 0 where
   step-before-end : checked (0 ∷ 2 ∷ 0 ∷ []) (1 ∷ 2 ∷ 0 ∷ []) 0 ≡ refused 12 1
 
 pub other-plans : OtherPlans
-unfolding ones inside _>>=_ _>>_ mapped demand room keep choose bestOf between listed each placesKnown curvesKnown testsKnown methodKnown wantsKnown
+unfolding ones inside _>>=_ _>>_ mapped demand room keep choose bestOf between listed each placesKnown curvesKnown testsKnown isMethod methodKnown wantsKnown
     wantsFit numbersKnown bookedBelow bookedKnown heldKnown jobKnownBy orderFrom checkingKnown planningKnown inOrder heldAfter moves curveCount orBreaks keeps
     checkFrom later useBy nextUse further chosenBy furthest andThen victims dropsFor planFrom ourPlan planning planAnswer setsKnown checkedOutcome endKnown checking
 other-plans =

@@ -7,6 +7,7 @@
 --     Fitted   a text that was measured, and is then refused or written
 --     Longest  the longest sheet
 --     WithoutTests the sheet of a job without tests
+--     OldFiles the sheet and the audit of an old job file, with method 2
 --     Auditing an audit, stage by stage
 --     Reporting the sheet, stage by stage
 --     Fewest   what an audit says: the loads of a plan, and the fewest
@@ -21,6 +22,7 @@ pub mod Fitted
 pub mod Fewest
 pub mod Longest
 pub mod WithoutTests
+pub mod OldFiles
 pub mod Auditing
 pub mod Reporting
 pub mod Inputs

@@ -3,9 +3,9 @@
 //! another answer than places less booked.
 
 use crate::generate::{
-    self, all_curves, any_booked, damage, enough, fitting_or_not, flipping_job, job_bytes, lent,
-    one_of, permutation, random_set, spoil_end, spoil_order, spoil_plan, spoil_tests, spoil_wants,
-    Case, Job, Size, SomePlan, FUNCTIONS, JOB, PLAN_MADE, PLAN_ORDER, SHEET, WILD, WILD_BOOKED,
+    self, all_curves, any_booked, damage, enough, fitting_or_not, flipping_job, lent, one_of,
+    permutation, random_set, spoil_end, spoil_order, spoil_plan, spoil_tests, spoil_wants, Case,
+    Job, Size, SomePlan, FUNCTIONS, JOB, PLAN_MADE, PLAN_ORDER, SHEET, WILD, WILD_BOOKED,
     WILD_METHODS,
 };
 use crate::holding;
@@ -13,6 +13,7 @@ use crate::random::Random;
 use crate::reference::{self, less_booked, Answer, Plan, PlannedJob, Refusal};
 use crate::states::Made;
 use crate::walks;
+use crate::withdrawn::old_or_new;
 
 // ---------------------------------------------------------------------------------------------
 // Jobs and cases
@@ -45,7 +46,7 @@ pub fn longest_job(random: &mut Random) -> Job {
         places,
         booked: random.between(1, places - 8),
         curves,
-        method: random.pick(&[1, 2]),
+        method: 1,
         wants,
     }
 }
@@ -81,7 +82,8 @@ fn any_byte(random: &mut Random, places: usize) -> u8 {
 /// them, or with both; at times the longest, or that with a byte behind it.
 pub fn any_bytes(random: &mut Random) -> Vec<u8> {
     if random.chance(1, 32) {
-        let mut bytes = job_bytes(&longest_job(random));
+        let job = longest_job(random);
+        let mut bytes = old_or_new(random, &job);
         if random.chance(1, 2) {
             bytes.push(random.pick(&[0, 1, 255]));
         }
@@ -89,7 +91,7 @@ pub fn any_bytes(random: &mut Random) -> Vec<u8> {
     }
     let mut job = job(random);
     widen(random, &mut job);
-    let mut bytes = job_bytes(&job);
+    let mut bytes = old_or_new(random, &job);
     if random.chance(1, 4) {
         return bytes;
     }

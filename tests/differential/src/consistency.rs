@@ -12,6 +12,7 @@ use crate::reference::*;
 use crate::states::Made;
 use crate::ties;
 use crate::tuned;
+use crate::withdrawn;
 use std::collections::BTreeSet;
 
 /// A small job whose tests all fit: places less booked up to 4, curves up to 6, tests up to 7 or none.
@@ -517,7 +518,7 @@ fn job_bytes_round_trip() {
 #[test]
 fn job_bytes_that_read_are_those_written() {
     let mut random = Random::new(6);
-    let (mut read, mut with_booked) = (0, 0);
+    let (mut read, mut with_booked, mut with_2) = (0, 0, 0);
     for round in 0..20_000 {
         let bytes = match round % 4 {
             0 => booked::any_bytes(&mut random),
@@ -528,10 +529,12 @@ fn job_bytes_that_read_are_those_written() {
             with_booked += (job.booked > 0) as usize;
             let (places, booked, curves) = (job.places, job.booked, job.curves);
             let again = write_job(places, booked, curves, job.method, &job.wants, JOB);
-            assert_eq!(again, Ok(bytes));
+            with_2 += (again != Ok(bytes.clone())) as usize;
+            assert_eq!(again, Ok(withdrawn::written_back(&bytes)));
         }
     }
     assert!(read > 8_000 && with_booked > 3_000, "{read}, {with_booked}");
+    assert!(with_2 > 1_000, "{with_2}");
 }
 
 #[test]
@@ -753,7 +756,7 @@ fn every_short_end_of_a_plan() {
 }
 
 /// The bytes of jobs without tests, and places, booked places, curves and method: every job, but where
-/// some are booked only with some numbers of curves.
+/// some are booked only with some numbers of curves. Those of method 1 have a byte of 1, or of 2.
 fn jobs_without_tests() -> Vec<(Vec<u8>, [usize; 4])> {
     let mut jobs = Vec::new();
     for places in 1..=64 {
@@ -762,12 +765,12 @@ fn jobs_without_tests() -> Vec<(Vec<u8>, [usize; 4])> {
                 if booked > 0 && ![1, 8, 9, 63, 64].contains(&curves) {
                     continue;
                 }
-                for method in 0..=3 {
+                for (byte, method) in [(0, 0), (1, 1), (2, 1), (3, 3)] {
                     let mut bytes = vec![0];
                     for (bit, value, absent) in [
                         (1, places, 8),
                         (2, curves, 64),
-                        (8, method, 0),
+                        (8, byte, 0),
                         (16, booked, 0),
                     ] {
                         if value != absent {
@@ -798,7 +801,7 @@ fn every_job_without_tests() {
         let needed = bytes.len();
         assert_eq!(needed, empty::job_length(places, booked, curves, method));
         let written = |length: usize| write_job(places, booked, curves, method, &[], length);
-        assert_eq!(written(needed), Ok(bytes.clone()));
+        assert_eq!(written(needed), Ok(withdrawn::written_back(&bytes)));
         assert_eq!(written(needed - 1), Err(refusal(9, needed)));
         let order = order_tests(places, booked, curves, method, &[], 0);
         assert_eq!(order, Ok(vec![]));
@@ -1073,7 +1076,7 @@ fn every_order_names_each_test_once() {
     for round in 0..4_000 {
         let size = if round < 12 { Size::Full } else { Size::Small };
         let job = generate::job(&mut random, size);
-        for method in 0..4 {
+        for method in withdrawn::HANDED {
             if size == Size::Full && method == 3 && round > 0 {
                 continue;
             }
@@ -1119,6 +1122,7 @@ fn tuned_and_the_c_program_agree() {
             0..=11 => generate::job_bytes(&generate::longest_job(&mut random, 1 + round % 4)),
             12..=499 => empty::job_bytes(&mut random),
             _ if round % 8 == 0 => booked::any_bytes(&mut random),
+            _ if round % 8 == 1 => withdrawn::any_bytes(&mut random),
             _ => generate::any_job_bytes(&mut random, size),
         };
         let length = match round {

@@ -2,9 +2,10 @@
 //! that does not hold them all, or holds them wrongly, would give another order.
 
 use crate::generate::{
-    all_curves, enough, job_bytes, random_set, with_booked, Case, Job, FUNCTIONS, PLAN_MADE, SHEET,
+    all_curves, enough, random_set, with_booked, Case, Job, FUNCTIONS, PLAN_MADE, SHEET,
 };
 use crate::random::Random;
+use crate::withdrawn::old_or_new;
 use std::collections::BTreeSet;
 
 /// The largest degree there is: 255 other tests, and 64 curves in common with each.
@@ -177,14 +178,20 @@ pub fn case(function: usize, random: &mut Random) -> Option<Case> {
                 order_len,
             }
         }
-        "plan" if random.chance(1, 24) => Case::Call {
-            job: job_bytes(&job(random)),
-            plan_len: enough(random, PLAN_MADE),
-        },
-        "sheet" if random.chance(1, 12) => Case::Sheet {
-            job: job_bytes(&job(random)),
-            out_len: enough(random, SHEET),
-        },
+        "plan" if random.chance(1, 24) => {
+            let job = job(random);
+            Case::Call {
+                job: old_or_new(random, &job),
+                plan_len: enough(random, PLAN_MADE),
+            }
+        }
+        "sheet" if random.chance(1, 12) => {
+            let job = job(random);
+            Case::Sheet {
+                job: old_or_new(random, &job),
+                out_len: enough(random, SHEET),
+            }
+        }
         _ => return None,
     })
 }

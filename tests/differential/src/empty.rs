@@ -11,6 +11,7 @@ use crate::random::Random;
 use crate::reference;
 use crate::states::Any;
 use crate::walks;
+use crate::withdrawn;
 
 /// Whether the list of a case has no tests. `None`: its function has to do with no list of tests.
 pub fn without_tests(case: &Case) -> Option<bool> {
@@ -134,7 +135,10 @@ fn numbers(random: &mut Random) -> (usize, usize, usize, usize) {
         places,
         booked,
         number(random, 1, 64, 64, &WILD),
-        number(random, 0, 3, 0, &WILD_METHODS),
+        match random.below(3) {
+            0 => random.pick(&WILD_METHODS),
+            _ => random.pick(&withdrawn::HANDED),
+        },
     )
 }
 
@@ -146,7 +150,7 @@ fn job(random: &mut Random) -> Job {
         places,
         booked,
         curves: random.between(1, 64),
-        method: random.below(4),
+        method: random.pick(&withdrawn::HANDED),
         wants: vec![],
     }
 }
@@ -369,7 +373,7 @@ pub fn case(function: usize, random: &mut Random) -> Option<Case> {
         }
         "audit" => {
             let (job, plan, mut ending) = planned(random);
-            let mut bytes = generate::job_bytes(&job);
+            let mut bytes = withdrawn::old_or_new(random, &job);
             if random.chance(1, 3) {
                 bytes = job_bytes(random);
                 ending = None; // of another job
@@ -476,7 +480,9 @@ pub fn faults(case: &Case) -> Vec<&'static str> {
     match case {
         Case::WriteJob { method, .. }
         | Case::OrderTests { method, .. }
-        | Case::ExamineBy { method, .. } => note(*method > 3, "10:3"),
+        | Case::ExamineBy { method, .. } => {
+            note(!withdrawn::HANDED.contains(method), "10:3");
+        }
         _ => {}
     }
     match case {

@@ -74,10 +74,10 @@ fn a_plan() -> Vec<u8> {
     [bytes(A_STEPS), bytes(A_END)].concat()
 }
 
-/// Job A with methods 1 to 3: curves 1 and 2 are held when test 3 comes, and never used again.
+/// Job A with methods 1 and 3: curves 1 and 2 are held when test 3 comes, and never used again.
 #[test]
 fn job_a_by_every_method() {
-    for (method, first, second) in [(1, 2, 0), (2, 0, 2), (3, 0, 2)] {
+    for (method, first, second) in [(1, 2, 0), (3, 0, 2)] {
         let job = write_job(2, 0, 4, method, &a_wants(), 99).unwrap();
         assert_eq!(
             sheet(&job),
@@ -239,12 +239,7 @@ fn refusals_of_the_end_of_job_a() {
 
 #[test]
 fn job_a_orders() {
-    for (method, expected) in [
-        (0, [0, 1, 2, 3]),
-        (1, [2, 0, 1, 3]),
-        (2, [0, 2, 1, 3]),
-        (3, [0, 2, 1, 3]),
-    ] {
+    for (method, expected) in [(0, [0, 1, 2, 3]), (1, [2, 0, 1, 3]), (3, [0, 2, 1, 3])] {
         let order = order_tests(2, 0, 4, method, &a_wants(), 4).unwrap();
         assert_eq!(order, expected);
         let made = plan(2, 0, 4, &a_wants(), 0, &order, 4, 4).unwrap();
@@ -439,7 +434,6 @@ fn ties_of_tests_and_packages_stay() {
     // All weights are 0, or all 1.
     let alike = sets(&[&[0], &[0], &[0]]);
     for wants in [&apart, &alike] {
-        assert_eq!(order_tests(2, 0, 3, 2, wants, 3), Ok(vec![0, 1, 2]));
         assert_eq!(order_tests(2, 0, 3, 3, wants, 3), Ok(vec![0, 1, 2]));
     }
 }
@@ -488,7 +482,7 @@ fn a_list_without_tests() {
     assert_eq!(read_job(&job, 0), Ok(read));
     assert_eq!(write_job(8, 0, 64, 0, &[], 1), Ok(job.clone()));
     assert_eq!(write_job(8, 0, 64, 0, &[], 0), Err(no(9, 1)));
-    for method in 0..=3 {
+    for method in [0, 1, 3] {
         assert_eq!(order_tests(8, 0, 64, method, &[], 0), Ok(vec![]));
         assert_eq!(order_tests(8, 0, 64, method, &[], 9), Ok(vec![]));
     }
@@ -530,7 +524,7 @@ const WITHOUT_TESTS: [(&str, usize, usize, usize); 8] = [
     ("03 02 04", 2, 4, 0),
     ("08 03", 8, 64, 3),
     ("09 40 01", 64, 64, 1),
-    ("0a 3f 02", 8, 63, 2),
+    ("0a 3f 01", 8, 63, 1),
     ("0b 02 04 03", 2, 4, 3),
 ];
 
@@ -603,6 +597,7 @@ fn refusals_of_lists_without_tests() {
         (usize::MAX, 64, 0, 0),
         (8, 0, 9, 1),
         (8, 65, 0, 1),
+        (8, 64, 2, 3),
         (8, 64, 4, 3),
         (8, 64, usize::MAX, 3),
     ] {
@@ -817,6 +812,7 @@ fn refusals_of_handed_numbers() {
     assert_eq!(order_tests(usize::MAX, 0, 1, 0, &wants, 0), Err(no(10, 0)));
     assert_eq!(order_tests(64, 0, 65, 9, &wants, 0), Err(no(10, 1)));
     assert_eq!(order_tests(64, 0, 64, 9, &wants, 0), Err(no(10, 2)));
+    assert_eq!(order_tests(64, 0, 64, 2, &wants[..256], 0), Err(no(10, 3)));
     assert_eq!(order_tests(64, 0, 64, 4, &wants[..256], 0), Err(no(10, 3)));
     assert_eq!(order_tests(64, 0, 1, 3, &[1, 0, 2, 4], 0), Err(no(10, 6)));
     assert_eq!(

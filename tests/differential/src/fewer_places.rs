@@ -8,6 +8,7 @@ use crate::random::Random;
 use crate::reference::*;
 use crate::states::Made;
 use crate::tuned;
+use crate::withdrawn::HANDED;
 use std::collections::BTreeSet;
 
 fn bytes(text: &str) -> Vec<u8> {
@@ -246,7 +247,8 @@ fn every_head() {
         (vec![0, 0], 0, false),
         (vec![1, 1], 257, false),
     ]);
-    let methods = fields(0, &[1, 3], &[0, 4]);
+    let mut methods = fields(0, &[1, 3], &[0, 4]);
+    methods.push((vec![2], 1, true));
     let bookeds = fields(0, &[1, 6, 7, 8, 62, 63], &[0, 64, 255]);
     let mut outcomes = [0; 14];
     let mut read = BTreeSet::new();
@@ -370,6 +372,7 @@ const PLACES: Fault = ((10, 0), |handed| handed.places = 0);
 const CURVES: Fault = ((10, 1), |handed| handed.curves = 65);
 const TESTS: Fault = ((10, 2), |handed| handed.wants.resize(257, 0));
 const METHOD: Fault = ((10, 3), |handed| handed.method = 4);
+const METHOD_2: Fault = ((10, 3), |handed| handed.method = 2);
 const FOREIGN: Fault = ((10, 6), |handed| handed.wants[2] |= 1 << 63);
 const RANGE: Fault = ((10, 260), |handed| handed.booked = 64);
 const BOOKED: Fault = ((13, 0), |handed| handed.booked = handed.booked.max(5));
@@ -420,17 +423,19 @@ fn the_sequence_of_handed_numbers() {
     sequence(&[PLACES, CURVES, TESTS, FOREIGN, RANGE, BOOKED], |h| {
         examine(h.places, h.booked, h.curves, &h.wants)
     });
-    let numbers = [PLACES, CURVES, TESTS, METHOD, FOREIGN, RANGE, BOOKED];
-    sequence(&numbers, |h| {
-        examine_by(h.places, h.booked, h.curves, h.method, &h.wants)
-    });
-    // Map, five fields, and two bytes for each test.
-    sequence(&[&numbers[..], &[short(15)]].concat(), |h| {
-        write_job(h.places, h.booked, h.curves, h.method, &h.wants, h.lent).map(|_| ())
-    });
-    sequence(&[&numbers[..], &[WIDE, short(4)]].concat(), |h| {
-        order_tests(h.places, h.booked, h.curves, h.method, &h.wants, h.lent).map(|_| ())
-    });
+    for method in [METHOD, METHOD_2] {
+        let numbers = [PLACES, CURVES, TESTS, method, FOREIGN, RANGE, BOOKED];
+        sequence(&numbers, |h| {
+            examine_by(h.places, h.booked, h.curves, h.method, &h.wants)
+        });
+        // Map, five fields, and two bytes for each test.
+        sequence(&[&numbers[..], &[short(15)]].concat(), |h| {
+            write_job(h.places, h.booked, h.curves, h.method, &h.wants, h.lent).map(|_| ())
+        });
+        sequence(&[&numbers[..], &[WIDE, short(4)]].concat(), |h| {
+            order_tests(h.places, h.booked, h.curves, h.method, &h.wants, h.lent).map(|_| ())
+        });
+    }
     let numbers = [PLACES, CURVES, TESTS, FOREIGN, RANGE, BOOKED, HELD];
     sequence(&[&numbers[..], &[ORDER, WIDE, short(4)]].concat(), |h| {
         let (places, booked, curves, held) = (h.places, h.booked, h.curves, h.held);
@@ -526,7 +531,7 @@ fn alike(places: usize, booked: usize, curves: usize, wants: &[u64], random: &mu
     let fewer = places - booked;
     let tests = wants.len();
     let any_order = permutation(random, tests);
-    for method in 0..=3 {
+    for method in HANDED {
         let order = order_tests(places, booked, curves, method, wants, tests);
         assert_eq!(order, order_tests(fewer, 0, curves, method, wants, tests));
         let job = write_job(places, booked, curves, method, wants, JOB).unwrap();
@@ -671,7 +676,7 @@ fn every_booked_byte_round_trips() {
                 (64, 0, &[][..]),
                 (64, 3, &[]),
                 (5, 0, &[0b1_0001]),
-                (63, 2, &[0, 1 << 62, 1]),
+                (63, 1, &[0, 1 << 62, 1]),
             ] {
                 let written = write_job(places, booked, curves, method, wants, JOB).unwrap();
                 let read = read_job(&written, wants.len()).unwrap();

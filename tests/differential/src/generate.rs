@@ -9,6 +9,7 @@ use crate::random::Random;
 use crate::reference::{self, TieRule};
 use crate::states::Any;
 use crate::walks::{self, List, Move};
+use crate::withdrawn::{self, old_or_new};
 use std::fmt::Write;
 
 /// One call with everything handed to it. Lengths are those of the lists and buffers lent.
@@ -620,7 +621,8 @@ pub fn size(random: &mut Random) -> Size {
     }
 }
 
-/// A job within the bounds (a test may still want more curves than places less booked).
+/// A job within the bounds (a test may still want more curves than places less booked), its method one
+/// that may be handed over.
 #[derive(Clone, Debug)]
 pub struct Job {
     pub places: usize,
@@ -777,11 +779,12 @@ pub fn job(random: &mut Random, size: Size) -> Job {
     }
 }
 
+/// Method 1 twice as often as each other: half of its jobs in bytes have 2.
 fn method_of(random: &mut Random, tests: usize) -> usize {
-    let method = random.below(4);
+    let method = random.pick(&[0, 1, 1, 3]);
     if method == 3 && tests > 150 && !random.chance(1, 3) {
         // All pairs again for every join: a few of these are enough.
-        return random.below(3);
+        return random.pick(&[0, 1, 1]);
     }
     method
 }
@@ -1109,17 +1112,23 @@ pub fn damage(random: &mut Random, bytes: &mut Vec<u8>) {
     }
 }
 
-/// Job bytes: as written, damaged once, damaged twice, crafted, or anything.
+/// The bytes of a job.
+fn any_job(random: &mut Random, size: Size) -> Vec<u8> {
+    let job = job(random, size);
+    old_or_new(random, &job)
+}
+
+/// Job bytes: sound, damaged once, damaged twice, crafted, or anything.
 pub fn any_job_bytes(random: &mut Random, size: Size) -> Vec<u8> {
     match random.below(20) {
-        0..=8 => job_bytes(&job(random, size)),
+        0..=8 => any_job(random, size),
         9..=12 => {
-            let mut bytes = job_bytes(&job(random, size));
+            let mut bytes = any_job(random, size);
             damage(random, &mut bytes);
             bytes
         }
         13..=14 => {
-            let mut bytes = job_bytes(&job(random, size));
+            let mut bytes = any_job(random, size);
             damage(random, &mut bytes);
             damage(random, &mut bytes);
             bytes
@@ -1183,7 +1192,25 @@ pub(crate) const WILD: [usize; 12] = [
     usize::MAX,
 ];
 
-pub(crate) const WILD_METHODS: [usize; 7] = [4, 5, 255, 256, 1 << 16, 1 << 32, usize::MAX];
+/// Numbers that are no method's: 2 among them, and those whose low bytes are one's.
+pub(crate) const WILD_METHODS: [usize; 16] = [
+    2,
+    2,
+    2,
+    2,
+    4,
+    5,
+    255,
+    256,
+    257,
+    259,
+    1 << 16,
+    (1 << 16) + 1,
+    1 << 32,
+    (1 << 32) + 3,
+    1 << 63,
+    usize::MAX,
+];
 
 /// Numbers of booked places that are out of range.
 pub(crate) const WILD_BOOKED: [usize; 14] = [
@@ -1931,7 +1958,7 @@ fn audited(random: &mut Random, size: Size) -> (Vec<u8>, Vec<u8>, Option<Ending>
     if random.chance(1, 4) {
         let (ending, _) = random.pick(&ENDINGS);
         let EndedPlan { job, plan, .. } = ended_plan(random, size, ending);
-        let mut bytes = job_bytes(&job);
+        let mut bytes = old_or_new(random, &job);
         if random.chance(1, 12) {
             damage(random, &mut bytes);
             return (bytes, plan, None); // perhaps of another job
@@ -1957,7 +1984,7 @@ fn audited(random: &mut Random, size: Size) -> (Vec<u8>, Vec<u8>, Option<Ending>
         let at = random.below(tests);
         made.order[at] = random.pick(&made.order);
     }
-    let mut bytes = job_bytes(&job);
+    let mut bytes = old_or_new(random, &job);
     let mut plan = made.bytes();
     match random.below(14) {
         0..=7 => {}
@@ -2143,6 +2170,11 @@ pub fn case(seed: u64, number: u64, only: Option<usize>) -> Case {
     }
     if let Some(case) = holding::case(function, random) {
         return case;
+    }
+    if random.chance(1, 12) {
+        if let Some(case) = withdrawn::case(function, random) {
+            return case;
+        }
     }
     let size = size(random);
     case_of(function, size, random)

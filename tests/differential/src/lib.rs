@@ -2,8 +2,9 @@
 //! out step by step (`states`) and of the small public functions below it (`parts`), where its tie rule
 //! matters (`ties`), two fast implementations for the benchmark (`tuned`, and in C `fast`), random inputs
 //! (`generate`), among them lists without tests (`empty`), lists with large degrees (`degrees`), drives
-//! with booked places (`booked`), drives that hold something at the start (`holding`) and lists carried
-//! out (`walks`), and the library under test (`product`, only with the feature of that name).
+//! with booked places (`booked`), drives that hold something at the start (`holding`), lists carried out
+//! (`walks`) and jobs with the withdrawn method (`withdrawn`), and the library under test (`product`, only
+//! with the feature of that name).
 
 pub mod booked;
 pub mod degrees;
@@ -18,6 +19,7 @@ pub mod states;
 pub mod ties;
 pub mod tuned;
 pub mod walks;
+pub mod withdrawn;
 
 #[cfg(feature = "product")]
 pub mod product;
@@ -32,6 +34,8 @@ mod fewer_places;
 mod halfway;
 #[cfg(test)]
 mod look_then_commit;
+#[cfg(test)]
+mod method_two;
 #[cfg(test)]
 mod stored;
 #[cfg(test)]

@@ -12,9 +12,11 @@
 //! outcome, a kind or two faults of a list without tests, of booked places a kind of byte or handed
 //! number, two faults, or a way in which the raw places would give another answer, of what is held at
 //! the start a kind, 14 beside another fault, a way in which an empty drive would give another answer, or
-//! a place where a list is cut halfway, or of states a kind of made ones, two faults, a kind of move, step
-//! or wrong position of a walk, or a kind of numbers that were not made, or of commits of these; also if a
-//! kind of degrees, or of looks and commits, was reached too seldom.
+//! a place where a list is cut halfway, of states a kind of made ones, two faults, a kind of move, step
+//! or wrong position of a walk, or a kind of numbers that were not made, or of commits of these, or of the
+//! withdrawn method 2 a kind of job bytes or handed number, two faults, or a way in which another method
+//! gives another order; also if a kind of degrees, of looks and commits, or of the withdrawn method was
+//! reached too seldom.
 
 use differential::booked;
 use differential::degrees;
@@ -30,6 +32,7 @@ use differential::states::{self, Any, Made, Shown};
 use differential::ties;
 use differential::tuned;
 use differential::walks::{self, List, Move};
+use differential::withdrawn;
 use std::collections::BTreeMap;
 use std::env;
 use std::fmt::Debug;
@@ -520,11 +523,20 @@ fn run(case: &Case, random: &mut Random, subjects: &[Box<dyn Subject>]) -> Verdi
             let behind = behind.iter().filter(|kind| **kind == "13+9");
             notes.extend(behind.map(|kind| (READ_BOOKED, *kind, 1)));
             notes.extend(kinds_of_bytes(READ_BOOKED, READ_LENGTHS, job));
+            notes.extend(all(READ_OLD, withdrawn::job_kinds(job, *wants_len)));
+            // What was read is written back, and ordered where the method byte is 2.
+            let again = answer.as_ref().ok().map(|read| ReadAgain::new(job, read));
+            notes.extend(again.iter().flat_map(|again| again.notes(job)));
             for subject in subjects {
                 let mut wants = Lent::new("wants", random, *wants_len, &wants);
                 let found = subject.read_job(job, wants.part());
-                results
-                    .push(found.map(|found| compare((number, head), found, &[wants.difference()])));
+                let mut result =
+                    found.map(|found| compare((number, head), found, &[wants.difference()]));
+                if let (Some(Ok(())), Ok(read), Some(again)) = (&result, &answer, &again) {
+                    let wants = &wants.part()[..read.tests];
+                    result = again.compared(subject.as_ref(), random, read, wants);
+                }
+                results.push(result);
             }
             outcome(&answer)
         }
@@ -543,9 +555,24 @@ fn run(case: &Case, random: &mut Random, subjects: &[Box<dyn Subject>]) -> Verdi
                 let mut out = Lent::new("out", random, *out_len, &bytes);
                 let found =
                     subject.write_job(*places, *booked, *curves, *method, wants, out.part());
-                results.push(found.map(|found| compare(number, found, &[out.difference()])));
+                let mut result = found.map(|found| compare(number, found, &[out.difference()]));
+                if let (Some(Ok(())), Ok(bytes)) = (&result, &answer) {
+                    // Read back it is the job that was handed over.
+                    let numbers = [*places, *booked, *curves, wants.len(), *method];
+                    let expected = (wants.len() as u64, numbers);
+                    let mut again = Lent::new("wants", random, wants.len(), wants);
+                    let found = subject.read_job(&out.part()[..bytes.len()], again.part());
+                    result = found.map(|found| {
+                        compare(expected, found, &[again.difference()])
+                            .map_err(|text| format!("{text}of reading what was written\n"))
+                    });
+                }
+                results.push(result);
             }
             notes.extend(on_bound(JOBS_WRITTEN, &answer, JOB, LONGEST_JOB));
+            if answer.is_ok() {
+                notes.push((JOBS_READ_BACK, withdrawn::number_kind(*method), 1));
+            }
             outcome(&answer)
         }
         Case::OrderTests {
@@ -899,13 +926,16 @@ fn run(case: &Case, random: &mut Random, subjects: &[Box<dyn Subject>]) -> Verdi
                 notes.extend(kinds_of_ties(CALL_TIES, &planned));
                 notes.extend(kinds_of_degrees(CALL_DEGREES, &planned));
                 notes.extend(all(CALL_RAW, booked::call_kinds(&planned)));
+                notes.extend(kinds_of_orders(CALL_ORDERS, job, &planned));
             }
             if let Some(test) = too_wide(&answer) {
                 notes.extend(all(CALL_WIDE, booked::wide_job_kinds(job, test)));
             }
             notes.extend(all(CALL_BOOKED, booked::behind_13(job, usize::MAX)));
             notes.extend(kinds_of_bytes(CALL_BOOKED, CALL_JOB_LENGTHS, job));
-            outcome(&answer)
+            let name = outcome(&answer);
+            notes.extend(all(CALL_OLD, withdrawn::outcome_kind(job, &name)));
+            name
         }
         Case::Sheet { job, out_len } => {
             let planned = reference::planned_job(job);
@@ -925,12 +955,14 @@ fn run(case: &Case, random: &mut Random, subjects: &[Box<dyn Subject>]) -> Verdi
                 notes.extend(kinds_of_ties(SHEET_TIES, &planned));
                 notes.extend(kinds_of_degrees(SHEET_DEGREES, &planned));
                 notes.extend(all(SHEET_RAW, booked::sheet_kinds(&planned)));
+                notes.extend(kinds_of_orders(SHEET_ORDERS, job, &planned));
             }
             if let Some(test) = too_wide(&planned) {
                 notes.extend(all(SHEET_WIDE, booked::wide_job_kinds(job, test)));
             }
             notes.extend(all(SHEET_BOOKED, booked::behind_13(job, usize::MAX)));
             notes.extend(kinds_of_bytes(SHEET_BOOKED, SHEET_JOB_LENGTHS, job));
+            notes.extend(all(SHEET_OLD, withdrawn::outcome_kind(job, &name)));
             if text.len() == SHEET {
                 let short = *out_len < SHEET;
                 notes.push((SHEETS, if short { "longest-short" } else { "longest" }, 1));
@@ -965,6 +997,13 @@ fn run(case: &Case, random: &mut Random, subjects: &[Box<dyn Subject>]) -> Verdi
                 Ok(audit) => notes.push((AUDITS, "every-plan-tried", audit.tried as u64)),
             }
             let name = text_outcome(&text, *out_len);
+            notes.extend(all(AUDITED_OLD, withdrawn::outcome_kind(job, &name)));
+            if let (Ok(_), "ok", Some((order, by))) =
+                (&audit, &name[..], withdrawn::audited_order(job, plan))
+            {
+                notes.push((AUDITED_ORDERS, by, 1));
+                notes.extend(all(AUDITED_ORDERS, withdrawn::order_kinds(job, &order)));
+            }
             match audit {
                 Ok(audit) if name == "ok" && audit.loads > audit.fewest => "ok:more".to_string(),
                 Err(Refused::Plan(no)) if name == "plan:12" => {
@@ -1201,6 +1240,13 @@ fn run(case: &Case, random: &mut Random, subjects: &[Box<dyn Subject>]) -> Verdi
         notes.extend(all(numbers, booked::number_kinds(places, booked)));
         notes.extend(all(twice, booked::twice(case)));
     }
+    if let Some(method) = withdrawn::handed(case) {
+        let called = case.function();
+        let table = METHOD_TABLES.iter().find(|table| table.0 == called);
+        let (_, numbers, twice, _) = table.expect("all are there");
+        notes.extend(all(numbers, [withdrawn::number_kind(method)]));
+        notes.extend(all(twice, withdrawn::twice(case)));
+    }
     let table = HELD_TABLES.iter().find(|table| table.0 == case.function());
     if let Some((_, kinds, twice)) = table {
         notes.extend(all(kinds, holding::kinds(case, outcome == "ok")));
@@ -1210,6 +1256,70 @@ fn run(case: &Case, random: &mut Random, subjects: &[Box<dyn Subject>]) -> Verdi
         outcome,
         notes,
         results,
+    }
+}
+
+/// What is to come of a job that was read.
+struct ReadAgain {
+    /// What it is written back as.
+    bytes: Vec<u8>,
+    /// Its order, of a job whose method byte is 2.
+    order: Option<Result<Vec<u16>, Refusal>>,
+}
+
+impl ReadAgain {
+    fn new(job: &[u8], read: &reference::Job) -> ReadAgain {
+        let (places, booked, curves) = (read.places, read.booked, read.curves);
+        let (method, wants) = (read.method, &read.wants);
+        let bytes = reference::write_job(places, booked, curves, method, wants, job.len());
+        let bytes = bytes.expect("a job that was read can be written");
+        assert_eq!(bytes, withdrawn::written_back(job));
+        let order = withdrawn::field_of_2(job)
+            .map(|_| reference::order_tests(places, booked, curves, 1, wants, wants.len()));
+        ReadAgain { bytes, order }
+    }
+
+    fn notes(&self, job: &[u8]) -> Vec<Note> {
+        let back = WRITTEN_BACK[(self.bytes != job) as usize];
+        let mut notes = vec![(READ_BACK, back, 1)];
+        match &self.order {
+            None => {}
+            Some(Ok(order)) => {
+                notes.push((READ_ORDERED, "done", 1));
+                notes.extend(all(READ_ORDERED, withdrawn::order_kinds(job, order)));
+            }
+            Some(Err(_)) => notes.push((READ_ORDERED, "refused:7", 1)),
+        }
+        notes
+    }
+
+    /// The subject writes what it has read, and orders it.
+    fn compared(
+        &self,
+        subject: &dyn Subject,
+        random: &mut Random,
+        read: &reference::Job,
+        wants: &[u64],
+    ) -> Option<Result<(), String>> {
+        let (places, booked, curves) = (read.places, read.booked, read.curves);
+        let count = self.bytes.len();
+        let length = count + random.below(3);
+        let mut out = Lent::new("out", random, length, &self.bytes);
+        let found = subject.write_job(places, booked, curves, read.method, wants, out.part())?;
+        let written = compare(count as u64, found, &[out.difference()]);
+        if let Err(text) = written {
+            return Some(Err(format!("{text}of writing what was read\n")));
+        }
+        let Some(answer) = &self.order else {
+            return Some(Ok(()));
+        };
+        let number = number_of(answer, |order| order.len() as u64);
+        let result = answer.clone().unwrap_or_default();
+        let mut order = Lent::new("order", random, wants.len(), &result);
+        let found =
+            subject.order_tests(places, booked, curves, read.method, wants, order.part())?;
+        let ordered = compare(number, found, &[order.difference()]);
+        Some(ordered.map_err(|text| format!("{text}of ordering what was read\n")))
     }
 }
 
@@ -1346,6 +1456,18 @@ fn kinds_of_degrees(title: &'static str, planned: &Result<PlannedJob, Refusal>) 
     }
 }
 
+/// The kinds of a planned job's order, if the method byte is 2.
+fn kinds_of_orders(
+    title: &'static str,
+    job: &[u8],
+    planned: &Result<PlannedJob, Refusal>,
+) -> Vec<Note> {
+    match planned {
+        Ok((_, order, _)) => all(title, withdrawn::order_kinds(job, order)),
+        Err(_) => Vec::new(),
+    }
+}
+
 /// What is told of the booked places of job bytes, and of their length.
 fn kinds_of_bytes(title: &'static str, lengths: &'static str, job: &[u8]) -> Vec<Note> {
     let mut notes = all(title, booked::job_kinds(job));
@@ -1461,7 +1583,7 @@ const HEADS: [&str; 23] = [
     "tests-0",
     "booked",
 ];
-const METHODS: [&str; 4] = ["method-0", "method-1", "method-2", "method-3"];
+const METHODS: [&str; 3] = ["method-0", "method-1", "method-3"];
 const LENT: [&str; 2] = ["exact", "longer"];
 const SEVERAL_LENT: [&str; 3] = ["exact", "longer", "mixed"];
 const LISTS: [&str; 3] = ["drops", "loads", "both"];
@@ -1760,6 +1882,19 @@ const AUDITED_RAW: &str = "plans audited, raw places";
 const AUDITS_REFUSED: &str = "audits, refused";
 /// The fewest loads of an audit were confirmed by trying every plan.
 const AUDITS: &str = "audits";
+/// Job bytes with the withdrawn method.
+const READ_OLD: &str = "jobs read, method byte 2";
+const READ_ORDERED: &str = "jobs read, method byte 2, ordered by what was read";
+const CALL_OLD: &str = "C calls, method byte 2";
+const CALL_ORDERS: &str = "C calls, method byte 2, order by method 1";
+const SHEET_OLD: &str = "sheets, method byte 2";
+const SHEET_ORDERS: &str = "sheets, method byte 2, order by method 1";
+const AUDITED_OLD: &str = "audits, method byte 2";
+const AUDITED_ORDERS: &str = "plans audited, method byte 2, order by method 1";
+/// What every job that was read is written back as, and the methods of those written that are read back.
+const READ_BACK: &str = "jobs read, written back";
+const WRITTEN_BACK: [&str; 2] = ["same-bytes", "1-for-2"];
+const JOBS_READ_BACK: &str = "jobs written, read back by method";
 /// Faults in what a state is made of, and its kinds.
 const MADE_FAULTS: &str = "states made, faults";
 const MADE_STATES: &str = "states made";
@@ -1798,6 +1933,15 @@ const HANDED_TABLES: [(usize, &str, &str, &[&str]); 8] = [
         &["10:0", "10:1", "10:2", "10:4+t", "7", "8", "14"]),
 ];
 
+/// For each function that is handed a method: its number, the titles of its values and of a 2 beside
+/// another fault, and what it can refuse behind 13.
+#[rustfmt::skip]
+const METHOD_TABLES: [(usize, &str, &str, &[&str]); 3] = [
+    (1, "jobs written, method", "jobs written, method 2 handed", &["9"]),
+    (2, "orders made, method", "orders made, method 2 handed", &["7", "9"]),
+    (12, "numbers with method examined, method", "numbers with method examined, method 2 handed", &[]),
+];
+
 /// For each function that is handed a holding: its number, and the titles of its kinds and of 14 beside
 /// another fault.
 const HELD_TABLES: [(usize, &str, &str); 4] = [
@@ -1820,10 +1964,14 @@ const HELD_TABLES: [(usize, &str, &str); 4] = [
 ];
 
 /// How often each name of these tables has to be met; of the others once is enough.
-const LEAST: [(&str, u64); 10] = [
+const LEAST: [(&str, u64); 14] = [
     (ORDERED_DEGREES, 5),
     (CALL_DEGREES, 5),
     (SHEET_DEGREES, 5),
+    (READ_BACK, 500),
+    (CALL_ORDERS, 20),
+    (SHEET_ORDERS, 20),
+    (AUDITED_ORDERS, 20),
     (LOOKED_STATES, 10),
     (COMMITTED_STATES, 10),
     (COMMITS, 20),
@@ -1842,10 +1990,17 @@ fn tables() -> Vec<(&'static str, &'static str, Vec<&'static str>)> {
     let (jobs_read, jobs_planned, jobs_audited) = (jobs(&["13+9"]), jobs(&["13+7"]), jobs(&[]));
     let written_lengths = [LONGEST, LONGEST_HELD].concat();
     let states_made = [&walks::MADE[..], &walks::TOO_MANY].concat();
-    let tables: [(&str, &str, &[&str]); 60] = [
+    let jobs_old = [&withdrawn::JOBS[..], &[withdrawn::SHORT]].concat();
+    let jobs_ordered = [&["done", "refused:7"][..], &withdrawn::ORDERS].concat();
+    let orders_audited = [&withdrawn::ORDERS[..], &withdrawn::AUDITED].concat();
+    let tables: [(&str, &str, &[&str]); 70] = [
         ("read_job", READ_BOOKED, &jobs_read),
         ("read_job", READ_LENGTHS, &booked::LONGEST),
+        ("read_job", READ_OLD, &jobs_old),
+        ("read_job", READ_BACK, &WRITTEN_BACK),
+        ("read_job", READ_ORDERED, &jobs_ordered),
         ("write_job", JOBS_WRITTEN, &LONGEST_JOB),
+        ("write_job", JOBS_READ_BACK, &["0", "1", "3"]),
         ("order_tests", ORDERED_RAW, &booked::ORDERS),
         ("order_tests", ORDERED_WIDE, &booked::WIDE),
         ("plan_order", PLANNED_RAW, &booked::PLANS),
@@ -1856,13 +2011,19 @@ fn tables() -> Vec<(&'static str, &'static str, Vec<&'static str>)> {
         ("plan", CALL_JOB_LENGTHS, &booked::LONGEST),
         ("plan", CALL_RAW, &booked::CALLS),
         ("plan", CALL_WIDE, &booked::WIDE),
+        ("plan", CALL_OLD, &withdrawn::CALLS),
+        ("plan", CALL_ORDERS, &withdrawn::ORDERS),
         ("sheet", SHEET_BOOKED, &jobs_planned),
         ("sheet", SHEET_JOB_LENGTHS, &booked::LONGEST),
         ("sheet", SHEET_RAW, &booked::SHEETS),
         ("sheet", SHEET_WIDE, &booked::WIDE),
+        ("sheet", SHEET_OLD, &withdrawn::CALLS),
+        ("sheet", SHEET_ORDERS, &withdrawn::ORDERS),
         ("audit", AUDITED_BOOKED, &jobs_audited),
         ("audit", AUDITED_LENGTHS, &booked::LONGEST),
         ("audit", AUDITED_RAW, &booked::AUDITS),
+        ("audit", AUDITED_OLD, &withdrawn::AUDITS),
+        ("audit", AUDITED_ORDERS, &orders_audited),
         ("order_tests", FLIPS_WON, &FLIPS),
         ("order_tests", ORDERED_DEGREES, &degrees),
         ("plan_order", PLANNED_ENDS, &SETS),
@@ -1911,6 +2072,10 @@ fn tables() -> Vec<(&'static str, &'static str, Vec<&'static str>)> {
         let refusals = [refusals, &["10:260", "13"]].concat();
         tables.push((FUNCTIONS[function], numbers, booked::NUMBERS.to_vec()));
         tables.push((FUNCTIONS[function], twice, booked::twice_names(&refusals)));
+    }
+    for (function, numbers, twice, behind) in METHOD_TABLES {
+        tables.push((FUNCTIONS[function], numbers, withdrawn::NUMBERS.to_vec()));
+        tables.push((FUNCTIONS[function], twice, withdrawn::twice_names(behind)));
     }
     for (function, kinds, twice) in HELD_TABLES {
         let name = FUNCTIONS[function];

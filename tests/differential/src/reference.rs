@@ -70,6 +70,36 @@ fn sets_of(list: &[u64]) -> Vec<Curves> {
 }
 
 // ---------------------------------------------------------------------------------------------
+// Methods
+
+/// A method: its number, under which it is handed over and written; the bytes of job bytes that read as
+/// it; and its order of a list for so many places less booked.
+struct Method {
+    number: usize,
+    bytes: &'static [usize],
+    order: fn(usize, &[Curves], &mut Flips) -> Vec<usize>,
+}
+
+/// The number 2 is no method's any more, and its byte reads as 1 (wish 8). Method 0 has no byte.
+const METHODS: [Method; 3] = [
+    Method {
+        number: 0,
+        bytes: &[],
+        order: |_, wants, _| (0..wants.len()).collect(),
+    },
+    Method {
+        number: 1,
+        bytes: &[1, 2],
+        order: |_, wants, _| reverse_cuthill_mckee(wants),
+    },
+    Method {
+        number: 3,
+        bytes: &[3],
+        order: packages,
+    },
+];
+
+// ---------------------------------------------------------------------------------------------
 // Job bytes
 
 /// A job as it was read.
@@ -80,6 +110,7 @@ pub struct Job {
     pub booked: usize,
     pub curves: usize,
     pub tests: usize,
+    /// 0, 1 or 3.
     pub method: usize,
     pub wants: Vec<u64>,
 }
@@ -154,7 +185,11 @@ pub fn read_job(job: &[u8], wants_len: usize) -> Answer<Job> {
         offset += 2;
     }
     if stands(3) {
-        method = in_field(owed(job, offset)?, 1, 3, 0, offset)?;
+        let byte = owed(job, offset)?;
+        method = match METHODS.iter().find(|method| method.bytes.contains(&byte)) {
+            Some(method) => method.number,
+            None => return refuse(2, offset),
+        };
         offset += 1;
     }
     if stands(4) {
@@ -270,8 +305,8 @@ fn handed(
     if wants.len() > 256 {
         return refuse(10, 2);
     }
-    if let Some(method) = method {
-        if method > 3 {
+    if let Some(number) = method {
+        if METHODS.iter().all(|method| method.number != number) {
             return refuse(10, 3);
         }
     }
@@ -393,12 +428,9 @@ pub fn order_and_flips(
         return refuse(9, wants.len());
     }
     let mut flips = Flips::default();
-    let order = match method {
-        0 => (0..wants.len()).collect(),
-        1 => reverse_cuthill_mckee(&sets),
-        2 => spanning_tree(&sets),
-        _ => packages(capacity, &sets, &mut flips),
-    };
+    let known = METHODS.iter().find(|known| known.number == method);
+    let known = known.expect("another number is refused");
+    let order = (known.order)(capacity, &sets, &mut flips);
     Ok((order.iter().map(|&test| test as u16).collect(), flips))
 }
 
@@ -470,36 +502,6 @@ fn reverse_cuthill_mckee(wants: &[Curves]) -> Vec<usize> {
         along += 1;
     }
     list.reverse();
-    list
-}
-
-fn spanning_tree(wants: &[Curves]) -> Vec<usize> {
-    let weight = weights(wants);
-    let mut list = Vec::new();
-    if !wants.is_empty() {
-        list.push(0);
-    }
-    while list.len() < wants.len() {
-        let mut best: Option<(usize, usize)> = None;
-        for test in 0..wants.len() {
-            if list.contains(&test) {
-                continue;
-            }
-            let greatest = list
-                .iter()
-                .map(|&listed| weight[listed][test])
-                .max()
-                .unwrap();
-            let better = match best {
-                None => true,
-                Some((_, so_far)) => greatest > so_far,
-            };
-            if better {
-                best = Some((test, greatest));
-            }
-        }
-        list.push(best.unwrap().0);
-    }
     list
 }
 

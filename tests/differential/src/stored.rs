@@ -4,6 +4,7 @@
 use crate::generate::{JOB, PLAN_MADE, PLAN_READ, SHEET};
 use crate::reference::*;
 use crate::ties::both_plans;
+use crate::withdrawn::{field_of_2, written_back};
 use std::collections::BTreeSet;
 use std::fs;
 use std::path::PathBuf;
@@ -162,6 +163,35 @@ fn booked_places() {
     for program in ["sheet", "audit"] {
         assert_eq!(stored(program, "refused_13_absent_places", "job"), [16, 8]);
         assert_eq!(stored(program, "empty_list_booked", "job"), [16, 7]);
+    }
+}
+
+/// Old jobs with a method byte of 2 print what they print with 1; job A's is another order than the other
+/// methods'.
+#[test]
+fn method_2() {
+    let mut old = 0;
+    for name in names("sheet", &["job", "out"]) {
+        let job = stored("sheet", &name, "job");
+        if field_of_2(&job).is_some() {
+            old += 1;
+            let printed = String::from_utf8(stored("sheet", &name, "out")).unwrap();
+            assert_eq!(sheet(&written_back(&job)), printed, "{name}");
+            assert!(!printed.contains("method 2"), "{name}");
+        }
+    }
+    assert!(old > 1, "{old}");
+    for (old, new) in [
+        ("job_a_method_2", "job_a_method_1"),
+        ("empty_list_method_2", "empty_list_method_1"),
+    ] {
+        let job = stored("sheet", old, "job");
+        assert_eq!(written_back(&job), stored("sheet", new, "job"));
+        assert_eq!(stored("sheet", old, "out"), stored("sheet", new, "out"));
+    }
+    for other in ["job_a", "job_a_method_3"] {
+        let printed = stored("sheet", "job_a_method_2", "out");
+        assert_ne!(printed, stored("sheet", other, "out"));
     }
 }
 

@@ -11,7 +11,7 @@ use Rattle.packages.specs.Packages.{packages}
 use Rattle.packages.proofs.Listed.{length-upTo}
 use Rattle.packages.proofs.Rounds.{packages-long}
 use Rattle.packages.proofs.Entered.{entered-all}
-use Rattle.ordering.proofs.Ordered.{by-0, by-1, by-2, by-3}
+use Rattle.ordering.proofs.Ordered.{by-0, by-1, by-3}
 use borrow.Author.Needs.{needs}
 use Rattle.ordering.proofs.write_order.Statement.{statement}
 use Rattle.ordering.proofs.write_order.Tie as tie
@@ -33,18 +33,13 @@ returns-2 c =
 
 returns-3 : tie.Need-returns-3
 returns-3 c =
-    let a = c .before .before .before .before .before .before .before .before .before .args in
-    c .before .before .spanning-tree .ensures ∙ over (now (a .order)) _ _ (by-2 (a .capacity) (now (a .wants)) (a .method) (omega arith))
-
-returns-4 : tie.Need-returns-4
-returns-4 c =
-    let a = c .before .before .before .before .before .before .before .before .before .args in
+    let a = c .before .before .before .before .before .before .before .before .args in
     let ws = now (a .wants) in
     c .before .before .package-order .ensures
     ∙ entered-all (packages (a .capacity) ws) (now (a .order)) _ (packages-long (a .capacity) ws) (omega arith) (omega arith)
-    ∙ over (now (a .order)) _ _ (by-3 (a .capacity) ws (a .method) (λ e. omega arith) (λ e. omega arith) (λ e. omega arith))
+    ∙ over (now (a .order)) _ _ (by-3 (a .capacity) ws (a .method) (λ e. omega arith) (λ e. omega arith))
 
 pub write-order-spec : {M : Type 1} → statement M
 write-order-spec =
     tie.close (tie.spec (λ c κs. search needs) (λ c. search needs) returns (λ c κs. search needs) (λ c. search needs) returns-2 (λ c κs. search needs)
-    (λ c. search needs) returns-3 (λ c κs. search needs) (λ c. search needs) returns-4)
+    (λ c. search needs) returns-3)

@@ -23,6 +23,7 @@ use std::time::Instant;
 #[cfg(feature = "product")]
 use differential::product;
 
+const METHODS: [usize; 3] = [0, 1, 3];
 const TESTS: [usize; 3] = [16, 64, 256];
 /// Tests of all jobs of a row together.
 const ALL_TESTS: usize = 16 * 256;
@@ -163,7 +164,8 @@ fn measure(calls: &[(&str, Call)], jobs: &[Vec<u8>], rounds: usize, clock: u64) 
 struct Stages {
     call: u64,
     read: u64,
-    orders: [u64; 4],
+    /// By each of the methods.
+    orders: [u64; 3],
     /// The library's planning; of the C program, planning and writing.
     plan: u64,
 }
@@ -172,7 +174,7 @@ struct Stages {
 const UNTIMED: Stages = Stages {
     call: u64::MAX,
     read: u64::MAX,
-    orders: [u64::MAX; 4],
+    orders: [u64::MAX; 3],
     plan: u64::MAX,
 };
 
@@ -186,7 +188,7 @@ fn note<T>(least: &mut u64, clock: u64, stage: impl FnOnce() -> T) {
 }
 
 #[cfg(feature = "product")]
-fn time_library(kind: &Kind, jobs: &[&[u8]; 4], clock: u64, least: &mut Stages) {
+fn time_library(kind: &Kind, jobs: &[&[u8]; 3], clock: u64, least: &mut Stages) {
     let (mut wants, mut order) = ([0u64; 256], [0u16; 256]);
     let (mut drops, mut loads, mut end) = ([0u64; 256], [0u64; 256], 0);
     let mut plan = [0u8; PLAN];
@@ -198,8 +200,10 @@ fn time_library(kind: &Kind, jobs: &[&[u8]; 4], clock: u64, least: &mut Stages) 
         tests = product::read_job(black_box(jobs[0]), &mut wants).tests;
     });
     let wants = &wants[..tests];
-    for method in [1, 2, 3, 0] {
-        note(&mut least.orders[method], clock, || {
+    // As listed last.
+    for m in [1, 2, 0] {
+        let method = METHODS[m];
+        note(&mut least.orders[m], clock, || {
             product::order_tests(kind.places, 0, CURVES, method, black_box(wants), &mut order)
         });
     }
@@ -219,17 +223,15 @@ fn time_library(kind: &Kind, jobs: &[&[u8]; 4], clock: u64, least: &mut Stages) 
 }
 
 #[cfg(feature = "product")]
-fn time_c_program(jobs: &[&[u8]; 4], clock: u64, least: &mut Stages) {
+fn time_c_program(jobs: &[&[u8]; 3], clock: u64, least: &mut Stages) {
     let mut plan = [0u8; PLAN];
     let mut stages = fast::Stages::new();
     note(&mut least.call, clock, || {
         fast::call(black_box(jobs[0]), &mut plan)
     });
-    for method in [1, 2, 3, 0] {
-        note(&mut least.read, clock, || {
-            stages.read(black_box(jobs[method]))
-        });
-        note(&mut least.orders[method], clock, || stages.order());
+    for m in [1, 2, 0] {
+        note(&mut least.read, clock, || stages.read(black_box(jobs[m])));
+        note(&mut least.orders[m], clock, || stages.order());
     }
     note(&mut least.plan, clock, || stages.steps());
 }
@@ -239,16 +241,16 @@ fn time_c_program(jobs: &[&[u8]; 4], clock: u64, least: &mut Stages) {
 fn print_stages(tests: usize, rounds: usize, clock: u64) {
     println!(
         "\n| places | wants | reading | planning | writing | C: reading | planning and writing \
-         | ordering 0 | 1 | 2 | 3 | C: ordering 1 | 2 | 3 |\n|---|---|{}",
-        "---|".repeat(12)
+         | ordering 0 | 1 | 3 | C: ordering 1 | 3 |\n|---|---|{}",
+        "---|".repeat(10)
     );
     for kind in kinds() {
-        let lists: Vec<Vec<Vec<u8>>> = (0..4).map(|method| kind.jobs(method, tests)).collect();
+        let lists = METHODS.map(|method| kind.jobs(method, tests));
         let count = lists[0].len();
         let mut least = vec![[UNTIMED; 2]; count];
         for _ in 0..rounds {
             for (j, least) in least.iter_mut().enumerate() {
-                let jobs = [0, 1, 2, 3].map(|method| lists[method][j].as_slice());
+                let jobs = [0, 1, 2].map(|m| lists[m][j].as_slice());
                 time_library(&kind, &jobs, clock, &mut least[0]);
                 time_c_program(&jobs, clock, &mut least[1]);
             }
@@ -270,10 +272,8 @@ fn print_stages(tests: usize, rounds: usize, clock: u64) {
             mean(&|s| s[0].orders[0]),
             mean(&|s| s[0].orders[1]),
             mean(&|s| s[0].orders[2]),
-            mean(&|s| s[0].orders[3]),
             mean(&|s| s[1].orders[1]),
             mean(&|s| s[1].orders[2]),
-            mean(&|s| s[1].orders[3]),
         ];
         println!(
             "| {} | {} | {} |",
@@ -468,8 +468,8 @@ fn main() {
     println!("{}", "---|".repeat(calls.len() * TESTS.len()));
 
     let clock = clock_time();
-    let mut worst = vec![vec![Worst::default(); calls.len()]; 4];
-    for (method, worst) in worst.iter_mut().enumerate() {
+    let mut worst = vec![vec![Worst::default(); calls.len()]; METHODS.len()];
+    for (method, worst) in METHODS.into_iter().zip(&mut worst) {
         for kind in kinds() {
             let mut cells = vec![Vec::new(); calls.len()];
             for tests in TESTS {
@@ -503,7 +503,7 @@ fn main() {
         print!(" {name}, worst ratio | in |");
     }
     println!("\n|---|{}", "---|---|".repeat(calls.len() - 1));
-    for (method, worst) in worst.iter().enumerate() {
+    for (method, worst) in METHODS.into_iter().zip(&worst) {
         print!("| {method} |");
         for worst in &worst[1..] {
             print!(" {:.2} | {} |", worst.ratio, worst.place);
