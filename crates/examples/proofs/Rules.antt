@@ -10,7 +10,8 @@ use Rattle.job.specs.Order.{orderFrom}
 use Rattle.job.specs.Calls.{orderingKnown, checkingKnown, planningKnown}
 use Rattle.job_bytes.specs.SetBytes.{groupOf, stands, groupBytes, groupMap, setBytes, byteAt, readGroup, readGroups}
 use Rattle.job_bytes.specs.JobBytes.{fields, readNumber, readField, readFields, methodRead, headFields, readHead, readRecord, readRecords, atEnd, readBytes}
-use Rattle.job_bytes.specs.JobBytes.{readJob, readJobAnswer, readJobWants, numberBytes, headBytes, recordBytes, jobBytes, writeJob, writeJobAnswer, writeJobBuffer}
+use Rattle.job_bytes.specs.JobBytes.{readJob, readJobAnswer, readJobWants, numberBytes, headBytes, recordBytes, jobBytes, writeJob, writeJobAnswer}
+use Rattle.job_bytes.specs.JobBytes.{writeJobBuffer}
 use Rattle.job_bytes.specs.OldFiles.{methodAt, oldMethod, upgraded}
 use Rattle.packages.specs.Tests.{upTo}
 use Rattle.packages.specs.Packages.{flat, bestPair, without, joined, onPair, curvesOf, joinAll, try, pickTry, _orMore_, longer, runFrom, flipped, packages}
@@ -35,15 +36,15 @@ use Rattle.curveplan.specs.Call.{written, jobToPlan, numberOf, callAnswer, call
 
 unfoldable pub rules : Unit {0}
 unfolding ones trailingZeros under readOutcome countOutcome _>>=_ _>>_ mapped demand room overwritten leaves keep choose bestOf between inside listed each
-    placesKnown curvesKnown testsKnown isMethod methodKnown wantsKnown wantsFit numbersKnown bookedBelow bookedKnown heldKnown jobKnownBy countsKnown orderingKnown
-    checkingKnown planningKnown groupOf stands groupBytes groupMap setBytes byteAt readGroup readGroups fields readNumber readField readFields methodRead headFields readHead readRecord readRecords
-    atEnd readBytes methodAt oldMethod upgraded readJob readJobAnswer readJobWants numberBytes zipWith flatten headBytes recordBytes jobBytes writeJob writeJobAnswer writeJobBuffer weight weights degree
-    upTo appended grown bestUnlisted orElse neighbour nextOf cuthillMcKee reverseCuthillMcKee flat bestPair without joined onPair
-    curvesOf joinAll try pickTry _orMore_ longer runFrom flipped packages orderBy ordering orderAnswer orderList orderFrom heldAfter moves curveCount
-    orBreaks keeps checkFrom later useBy nextUse further chosenBy furthest andThen victims dropsFor planFrom steps inOrder ourPlan planning
-    planAnswer planLists setsKnown checkedOutcome endKnown checking lookEnd lookAt isDone heldBehind commitAt stateAfter making stateMade endStep shownOf
-    inTurn tried heldThrough setField stepBytes stepsBytes endBytes writePlan writePlanAnswer writePlanBuffer
-    readSet readStep readSteps readEnd readPlanBytes planSteps readPlan readPlanAnswer readPlanOrder readPlanLists endParts partAt fetched orEmpty
-    stepPart text highDigits decimal curveText curvesText setText stepText stepsText endText headText planText printed sheet writeSheet
-    sheetAnswer sheetBuffer orderRequest planInOrder orderAndPlan planJob written jobToPlan numberOf callAnswer callPlan
+    placesKnown curvesKnown testsKnown isMethod methodKnown wantsKnown wantsFit numbersKnown bookedBelow bookedKnown heldKnown jobKnownBy countsKnown
+    orderingKnown checkingKnown planningKnown groupOf stands groupBytes groupMap setBytes byteAt readGroup readGroups fields readNumber readField readFields
+    methodRead headFields readHead readRecord readRecords atEnd readBytes methodAt oldMethod upgraded readJob readJobAnswer readJobWants numberBytes zipWith
+    flatten headBytes recordBytes jobBytes writeJob writeJobAnswer writeJobBuffer weight weights degree upTo appended grown bestUnlisted orElse neighbour
+    nextOf cuthillMcKee reverseCuthillMcKee flat bestPair without joined onPair curvesOf joinAll try pickTry _orMore_ longer runFrom flipped packages
+    orderBy ordering orderAnswer orderList orderFrom heldAfter moves curveCount orBreaks keeps checkFrom later useBy nextUse further chosenBy furthest
+    andThen victims dropsFor planFrom steps inOrder ourPlan planning planAnswer planLists setsKnown checkedOutcome endKnown checking lookEnd lookAt isDone
+    heldBehind commitAt stateAfter making stateMade endStep shownOf inTurn tried heldThrough setField stepBytes stepsBytes endBytes writePlan
+    writePlanAnswer writePlanBuffer readSet readStep readSteps readEnd readPlanBytes planSteps readPlan readPlanAnswer readPlanOrder readPlanLists endParts
+    partAt fetched orEmpty stepPart text highDigits decimal curveText curvesText setText stepText stepsText endText headText planText printed sheet
+    writeSheet sheetAnswer sheetBuffer orderRequest planInOrder orderAndPlan planJob written jobToPlan numberOf callAnswer callPlan
 rules = tt

@@ -1,5 +1,5 @@
--- The starred examples of document 01, in one theorem on the written rules; with the end step and the ties of 02, wishes 1 and 2, and without the order that wish 8
--- lets fall away.
+-- The starred examples of document 01, in one theorem on the written rules; with the end step and the ties of 02, wishes 1 and 2, and without the order that
+-- wish 8 lets fall away.
 use mathlib.Core.Path.{_≡_}
 use mathlib.Core.List.{List, [], _∷_}
 use Prim.Native.Nat.{ℕ}

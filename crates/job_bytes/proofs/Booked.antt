@@ -33,7 +33,8 @@ last-byte : (h : Head) (m : ℕ) → 0 < h .rig .booked → h .rig .booked < 256
 unfolding fields numberBytes fieldsBytes zipWith flatten
 last-byte h m some small = (
   fieldsMap fields (standing h m) ∷ fieldsBytes (take 4 fields) vs,
-  head-bytes (standing h m) ∙ ap {B = List ℕ} (λ bs. fieldsMap fields (standing h m) ∷ bs) (fields-append (take 4 fields) (f ∷ []) vs (b ∷ []) refl ∙ rw own refl),
+  head-bytes (standing h m)
+      ∙ ap {B = List ℕ} (λ bs. fieldsMap fields (standing h m) ∷ bs) (fields-append (take 4 fields) (f ∷ []) vs (b ∷ []) refl ∙ rw own refl),
 )
   where
     b : ℕ

@@ -151,7 +151,8 @@ job-read bs q all e =
     let H = t .exact all in
     let h = x .0 .value in
     let bytes : upgraded bs ≡ headBytes (valuesOf h) ++ x .0 .rest =
-    ap upgraded (H .0) ∙ head-upgraded h (t .method) (x .0 .rest) (method-le h (t .method) (t .have)) ∙ ap (λ (m : ℕ). headBytes (standing h m) ++ x .0 .rest) (sym (t .read)) in
+    ap upgraded (H .0) ∙ head-upgraded h (t .method) (x .0 .rest) (method-le h (t .method) (t .have))
+    ∙ ap (λ (m : ℕ). headBytes (standing h m) ++ x .0 .rest) (sym (t .read)) in
     let y = bind-done (readRecords (h .rig .curves) (h .tests) [] (x .0 .next) (x .0 .rest)) _ q (x .2) in
     let R : RecordsRead (h .rig .curves) (h .tests) [] (x .0 .rest) (y .0) =
     records-read (h .rig .curves) (h .tests) (x .0 .next) [] (x .0 .rest) (y .0) (H .1) (y .1) in

@@ -1,5 +1,5 @@
--- 02, wish 8: "Old job files with method 2 still read, as method 1": whatever the bytes, they are read as those with 1 in the place of a method byte 2. And what
--- the bytes of a head become so.
+-- 02, wish 8: "Old job files with method 2 still read, as method 1": whatever the bytes, they are read as those with 1 in the place of a method byte 2. And
+-- what the bytes of a head become so.
 use mathlib.Core.Path.{_≡_, refl, sym, ap, _∙_}
 use mathlib.Core.Bool.{Bool, true, false, cond}
 use mathlib.Core.List.{List, [], _∷_, _++_, append-assoc, zipWith, flatten}
