@@ -1,6 +1,7 @@
 /*
  * The rig's curve planner. The formats, the orders, the plan and the refusals are those of document 01, with the end step, the tie rule, the list without
- * tests, the booked places, the curves held at the start, and looks and commits of document 02, and without method 2 (wishes 1 to 8; wish 4 changes no answer).
+ * tests, the booked places, the curves held at the start, looks and commits, and every drive size together of document 02, and without method 2 (wishes 1 to 9;
+ * wish 4 changes no answer).
  *
  * One call goes from a job's bytes to its plan's bytes: curveplan_plan, in the archive libcurveplan.a. The other functions take the steps between one by one,
  * and are in libexports.a; the smaller parts of these are declared in curveplan_parts.h.
@@ -40,6 +41,10 @@ extern "C" {
 #define CURVEPLAN_PLAN_BYTES 5130    /* a plan: 20 bytes for each of 256 steps, and 10 for the end step */
 #define CURVEPLAN_SHEET_BYTES 105000 /* a sheet */
 #define CURVEPLAN_AUDIT_BYTES 128    /* an audit */
+#define CURVEPLAN_TABLE_BYTES 2048   /* a table of drive sizes */
+
+#define CURVEPLAN_SIZES 64       /* drive sizes: 1 to 64 places */
+#define CURVEPLAN_TOO_FEW 65535u /* the load count of a drive that is too small for some test; no other count reaches it */
 
 /*
  * The refusals. Behind each stand the calls that can answer it; `plan` alone is curveplan_plan.
@@ -54,12 +59,12 @@ enum curveplan_refusal {
     CURVEPLAN_TEST_TOO_LARGE = 7,   /* a test wants more curves than there are places less booked; figure: the lowest such test (plan, order_tests,
                                        plan_order, make_state) */
     CURVEPLAN_BAD_ORDER = 8,        /* figure: the first position with a number out of range or seen before, or the first missing or surplus position, the
-                                       smaller (plan_order, make_state, check_plan, write_plan) */
+                                       smaller (plan_order, make_state, check_plan, write_plan, all_sizes, fewest_places) */
     CURVEPLAN_BUFFER_TOO_SMALL = 9, /* a lent list or buffer cannot take the result; figure: the entries that it needs (every call that fills one) */
     CURVEPLAN_BAD_ARGUMENT = 10,    /* a handed number; figure: 0 places (not 1 to 64), 1 curves (not 1 to 64), 2 more than 256 tests,
                                        3 method (not 0, 1 or 3), 4 + t: the wants of test t name a curve that the job lacks, 260 booked (above 63); asked in
-                                       this order (write_job, order_tests; without the method plan_order, make_state, check_plan, write_plan; curves and tests
-                                       only read_plan) */
+                                       this order (write_job, order_tests; without the method plan_order, make_state, check_plan, write_plan; curves, tests
+                                       and wants all_sizes, fewest_places; curves and tests only read_plan) */
     CURVEPLAN_BAD_PLAN_BYTES = 11,  /* figure: the offset of the first malformed or surplus byte; the length if a byte is owed (read_plan) */
     CURVEPLAN_PLAN_REJECTED = 12,   /* figure: the first missing or surplus position of the drops or loads, the smaller; else the first step that breaks a
                                        rule of the check; else the number of tests, where the end set is not what is held (check_plan, write_plan) */
@@ -139,6 +144,22 @@ uint64_t curveplan_order_tests(size_t places, size_t booked, size_t curves, size
  */
 uint64_t curveplan_plan_order(size_t places, size_t booked, size_t curves, const uint64_t *wants, size_t tests, uint64_t held, const uint16_t *order,
                               size_t order_len, uint64_t *drops, size_t drops_len, uint64_t *loads, size_t loads_len, uint64_t *end);
+
+/*
+ * Every drive size together: the load counts of one order of the tests for drives with 1 to 64 places, none booked, from an empty drive, in one walk along the
+ * list. The count for p places goes to `counts[p - 1]`, of which there are CURVEPLAN_SIZES; it is the one that curveplan_plan_order answers for so many places,
+ * or CURVEPLAN_TOO_FEW where some test wants more curves than p. More places never mean more loads, and 64 places need one for each different curve that the
+ * list wants. Answers 0, or a refusal.
+ * Refusals: 10 (curves, tests, wants); 8: those of curveplan_plan_order for any number of places, but 7 and 9.
+ */
+uint64_t curveplan_all_sizes(size_t curves, const uint64_t *wants, size_t tests, const uint16_t *order, size_t order_len, uint16_t *counts);
+
+/*
+ * The fewest places that need at most so many loads for an order of the tests, 1 to 64. A size that is too small for some test never serves, whatever the count.
+ * Answers 0 for none, which is exactly where the list wants more different curves than `loads`.
+ * Refusals: those of curveplan_all_sizes.
+ */
+uint64_t curveplan_fewest_places(size_t curves, const uint64_t *wants, size_t tests, const uint16_t *order, size_t order_len, size_t loads);
 
 /*
  * A list of tests that is carried out step by step: where it stands. The host shows the next step (curveplan_look) before the drive moves, and names its
@@ -243,6 +264,15 @@ uint64_t curveplan_sheet(const uint8_t *job, size_t job_len, uint8_t *out, size_
  * Refusals: 9 with the count of the bytes.
  */
 uint64_t curveplan_audit(const uint8_t *job, size_t job_len, const uint8_t *plan, size_t plan_len, uint8_t *out, size_t out_len);
+
+/*
+ * Writes the table of drive sizes of a job to `out`, and answers how many bytes it has: for its list in the order of its method, a line for each number of places
+ * from 1 on, with the loads or `too few`, up to the size from which more places save no load; and, where `asked` is not 0, the fewest places for at most `loads`
+ * loads. The order is that of the job's own drive, and is asked for as by the sheet: a job that is refused, by 7 too, has the table `refused N at F`, which is no
+ * refusal of this call.
+ * Refusals: 9 with the count of the bytes.
+ */
+uint64_t curveplan_size_table(const uint8_t *job, size_t job_len, size_t asked, size_t loads, uint8_t *out, size_t out_len);
 
 #ifdef __cplusplus
 }

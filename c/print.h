@@ -1,4 +1,4 @@
-/* What steps.c, rest.c and look.c print with: sets, steps, answers and bytes, and what changed of a lent list. */
+/* What steps.c, rest.c, look.c and sizes.c print with: sets, steps, answers and bytes, and what changed of a lent list. */
 #ifndef PRINT_H
 #define PRINT_H
 

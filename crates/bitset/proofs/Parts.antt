@@ -1,16 +1,16 @@
 -- Parts of sets, bit by bit: `a ≼ b` says of each number what `a ⊆ b` says of the sets, and goes into `omega` as it is.
-use mathlib.Core.Path.{_≡_, ap}
+use mathlib.Core.Path.{_≡_, refl, ap, _∙_}
 use mathlib.Core.Bool.{true}
 use mathlib.Core.List.{[], _∷_}
-use Prim.Native.Nat.{ℕ, zero, suc, _+_, _-_, _^_, _≤_, _<_}
+use Prim.Native.Nat.{ℕ, zero, suc, _+_, _-_, _^_, _≤_, _<_, min}
 use native.Mathlib.Decide.{ℕ-discrete, decLe}
 use native.Mathlib.Omega.{arith}
-use lib.Pow.{pow-pos, pow-mono}
+use lib.Pow.{pow-pos, pow-mono, pow-lt}
 use borrow.Author.Tests.{eqb-true, eq-eqb}
 use Rattle.bitset.specs.Set.{_∩_, _∪_, _∖_, size, bit, inside, below}
 use Rattle.bitset.proofs.Bits.{bitwise, bit-∩, bit-∖, bit-single, bit-other, bit-beyond, bit-empty, same-by-bits, size-empty, sizes-eq}
 use Rattle.bitset.proofs.Laws.{size-none}
-use Rattle.bitset.proofs.Element.{bit-not}
+use Rattle.bitset.proofs.Element.{bit-not, size-single}
 
 -- each number of a is one of b; and no number is in both
 infix 4 _≼_
@@ -54,6 +54,14 @@ in-range n s h k = go (decLe n k)
         let e : (2 ^ n - 1) - 0 ≡ 2 ^ n - 1 = omega arith in
         omega (arith, bit-not n k 0 (pow-pos n) (omega arith), ap (bit k) e, bit-empty k)
 
+-- the numbers below n: 1 of each of them, and 0 of each other
+pub bit-below : (k n : ℕ) → bit k (below n) ≡ min 1 (n - k)
+bit-below k n = go (decLe n k)
+  where
+    go : Dec (n ≤ k) → bit k (below n) ≡ min 1 (n - k)
+    go (yes h) = omega (arith, bit-beyond k (below n) (omega (arith, pow-mono h, pow-pos n)))
+    go (no h) = omega (arith, in-range n (2 ^ k) (pow-lt (omega arith)) k, bit-single k)
+
 -- a set with elements is not 0
 pub positive : (s : ℕ) → 0 < size s → 0 < s
 positive zero h = absurd (omega (arith, size-empty))
@@ -79,6 +87,16 @@ module _ (v s : ℕ) where
   -- taken out and put back
   pub put-back : bit v s ≡ 1 → 2 ^ v ∪ (s ∖ 2 ^ v) ≡ s
   put-back h = same-by-bits (2 ^ v ∪ (s ∖ 2 ^ v)) s (λ k. simp bitwise (omega (arith, single-≼ h k)))
+
+-- one element, where it is one of the set
+pub size-single-of : (k s : ℕ) → size (s ∩ 2 ^ k) ≡ bit k s
+size-single-of k s = go (bit k s) refl
+  where
+    go : (d : ℕ) → bit k s ≡ d → size (s ∩ 2 ^ k) ≡ d
+    go zero e = ap size (same-by-bits (s ∩ 2 ^ k) 0 (λ j. simp (bitwise, bit-empty) (omega (arith, single-apart k s e j)))) ∙ size-empty
+    go (suc d) e =
+        let o : bit k s ≡ 1 = omega arith in
+        omega (arith, ap size (same-by-bits (s ∩ 2 ^ k) (2 ^ k) (λ j. simp bitwise (omega (arith, single-≼ k s o j)))), size-single k)
 
 pub rest-same : (k s : ℕ) → bit k (s ∖ 2 ^ k) ≡ 0
 rest-same k s = omega (arith, bit-∖ k s (2 ^ k), bit-single k)

@@ -4,6 +4,7 @@ use Rattle.job.proofs.MethodExact.{method-exact}
 use Rattle.job.proofs.HeldExact.{held-exact}
 use Rattle.job.proofs.OrderExact.{order-exact}
 use Rattle.job.proofs.Refuses.{withdrawn}
+use Rattle.job.proofs.SizingExact.{sizing-as-planning}
 use Rattle.job_bytes.proofs.OldFiles.{old-read, old-method}
 use Rattle.job_bytes.proofs.JobRoundTrip.{job-back, job-read}
 use Rattle.ordering.proofs.Complete.{order-complete}
@@ -14,6 +15,7 @@ use Rattle.planning.proofs.Rest.{rest-held, rest-planned}
 use Rattle.planning.proofs.Saved.{held-saves}
 use Rattle.stepping.proofs.Exact.{done-exact, carried-exact, not-next-exact, unchanged}
 use Rattle.stepping.proofs.Planned.{refused-as-planning, as-planned}
+use Rattle.sizing.proofs.EverySize.{sizes-exact}
 use Rattle.plan_bytes.proofs.PlanRoundTrip.{plan-back, plan-read}
 use Rattle.curveplan.specs.Library.{Library}
 use Rattle.curveplan.proofs.Answers.{call-tells, call-planned, call-none}
@@ -48,6 +50,8 @@ library =
       old-read = old-read;
       old-called = old-called;
       old-method = old-method;
+      every-size = sizes-exact;
+      sizes-refused = sizing-as-planning;
       job-back = job-back;
       job-read = job-read;
       plan-back = plan-back;

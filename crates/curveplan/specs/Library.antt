@@ -7,10 +7,11 @@ use Prim.Native.Nat.{ℕ, _+_, _*_, _/_, _%_, _^_, _≤_, _<_}
 use lib.ListN.{length, getD, take, drop, replicate}
 use Rattle.bitset.specs.Set.{size, below}
 use Rattle.job.specs.declared.Refusal.{Refusal}
-use Rattle.job.specs.Refusal.{done, refused, number}
+use Rattle.job.specs.Refusal.{done, refused, _>>_, number}
 use Rattle.job.specs.Words.{Job, jobOf, capacity, IsJob, IsHolding, IsMethod, IsOrder}
-use Rattle.job.specs.Handed.{numbersKnown, heldKnown, jobKnownBy}
+use Rattle.job.specs.Handed.{numbersKnown, wantsFit, heldKnown, jobKnownBy}
 use Rattle.job.specs.Order.{orderKnown}
+use Rattle.job.specs.Calls.{planningKnown, sizingKnown}
 use Rattle.job_bytes.specs.SetBytes.{Bytes}
 use Rattle.job_bytes.specs.JobBytes.{Request, jobIn, request, readBytes, writeJob}
 use Rattle.job_bytes.specs.OldFiles.{oldMethod, upgraded}
@@ -28,6 +29,8 @@ use Rattle.stepping.specs.declared.NextStep.{NextStep}
 use Rattle.stepping.specs.declared.NextStep.the-variants.{Done}
 use Rattle.stepping.specs.Stepping.{stepWants, look, commit, afterCommit, making}
 use Rattle.stepping.specs.InTurn.{shown, InTurn}
+use Rattle.sizing.specs.Sizing.{sizing}
+use Rattle.sizing.specs.EverySize.{inDrive, EverySize}
 use Rattle.plan_bytes.specs.PlanBytes.{Contents, testsOf, planIn, planSteps, writePlan}
 use Rattle.curveplan.specs.Call.{jobToPlan, numberOf}
 
@@ -116,6 +119,11 @@ pub record Library : Type 0 where
   pub old-called : (bs : List ℕ) (lent : ℕ) → jobToPlan bs lent ≡ jobToPlan (upgraded bs) lent
   -- .. and the method that is read of a method byte 2 is 1
   pub old-method : (bs : List ℕ) (q : Request) → Bytes bs → readBytes bs ≡ done q → oldMethod bs ≡ true → q .head .method ≡ 1
+  -- 02, wish 9: all that it says of the counts for 1 to 64 places, and of the fewest places for a wanted count, beside the answers of planning ..
+  pub every-size : (curves : ℕ) (wants order counts : List ℕ) → sizing curves wants order ≡ done counts → EverySize curves wants order counts
+  -- .. and "apart from 7, the walk refuses as planning does": for a drive with any number of places planning asks what the walk asks, and then 7
+  pub sizes-refused : (p curves : ℕ) (wants order : List ℕ) → 1 ≤ p → p ≤ 64
+      → planningKnown (inDrive p curves wants) 0 order ≡ _>>_ (sizingKnown curves wants order) (wantsFit p wants)
   -- writing and reading undo each other: a job, "written back with 1" where its method byte was 2, and to the byte as it was read elsewhere ..
   pub job-back : (method : ℕ) (j : Job) (lent : ℕ) (bytes : List ℕ) → writeJob method j lent ≡ done bytes → readBytes bytes ≡ done (request method j)
   pub job-read : (bs : List ℕ) (q : Request) → Bytes bs → readBytes bs ≡ done q → writeJob (q .head .method) (jobIn q) (length bs) ≡ done (upgraded bs)

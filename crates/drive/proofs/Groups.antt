@@ -2,10 +2,10 @@
 use mathlib.Core.Path.{_≡_, refl, sym, ap, _∙_}
 use mathlib.Core.List.{List, [], _∷_}
 use mathlib.Core.Logic.{_⊎_, inl, inr, ⊎-elim}
-use Prim.Native.Nat.{ℕ, zero, suc, _+_, _-_, _^_, _≤_, _<_}
+use Prim.Native.Nat.{ℕ, zero, suc, _+_, _-_, _^_, _≤_, _<_, min}
 use native.Mathlib.Omega.{arith}
 use native.Mathlib.Decide.{ℕ-discrete, decLe}
-use lib.ListN.{length, getD, set}
+use lib.ListN.{length, getD, drop, set}
 use lib.Seq.{getD-set-same, getD-set-other}
 use Rattle.bitset.specs.Set.{_∩_, _∪_, _∖_, size, bit}
 use Rattle.bitset.proofs.Bits.{bit-∩, bit-∪, bit-∖, bit-empty, bit-other, same-by-bits, size-empty, sizes-eq}
@@ -17,7 +17,9 @@ use Rattle.drive.specs.declared.choice.NextUse.the-variants.{At, Never}
 use Rattle.drive.specs.declared.choice.Candidate.{Candidate}
 use Rattle.drive.specs.Uses.{later, useBy, nextUse}
 use Rattle.drive.specs.Plan.{furthest, victims}
-use Rattle.drive.specs.Contracts.{together, Grouped, GoesBefore, UsedAt, GoesFirst}
+use Rattle.drive.specs.Steps.{together}
+use Rattle.drive.specs.Contracts.{Grouped, GoesBefore, UsedAt, GoesFirst}
+use Rattle.drive.proofs.Turns.{stepOf, use-wanted, use-later, use-never}
 use Rattle.drive.proofs.Staying.{First, same-before, further-before, never-before, sooner-stays, victims-first, none-first, more-first, less-first}
 
 -- ---- what the later steps want together
@@ -122,6 +124,51 @@ module _ {cs unused m : ℕ} {groups when ws : List ℕ} (g : Grouped cs unused 
         order : (i j : ℕ) → i < j → (j < m) ⊎ ((j ≡ m) × (0 < hit)) → getD (set when m k) i 0 < getD (set when m k) j 0
         order i j l (inl h) = rw (other when i m k (omega arith), other when j m k h) (g .rising i j l h)
         order i j l (inr h) = let b : i < m = omega (arith, h .0) in rw (other when i m k b, h .0, new-step) (soon i b)
+
+-- ---- what a step of the walk meets
+
+pub step-zero : (u : NextUse) → stepOf 0 u ≡ u
+unfolding stepOf
+step-zero Never = refl
+step-zero (At m) = ap At (omega arith)
+
+-- a candidate that is left is used in a later step, so there is one
+pub used-ends : (x used k : ℕ) (later : List ℕ) → used ≡ together later → bit x used ≡ 1 → nextUse x later ≡ stepOf k (nextUse x (drop k later)) → k < length later
+used-ends x used k later e i ahead = go (decLe (length later) k)
+  where
+    go : Dec (length later ≤ k) → k < length later
+    go (yes l) = absurd (together-used x later (omega (arith, ap (bit x) e)) (ahead ∙ use-never x k later l))
+    go (no l) = omega arith
+
+-- one step of the walk: what it wants of those left
+pub record Met (cs left hit k : ℕ) (later : List ℕ) : Type 0 where
+  pub split : size hit + size (left ∖ hit) ≡ size left
+  pub others : cs ∖ (left ∖ hit) ≡ cs ∖ left ∪ hit
+  pub found : (c : ℕ) → bit c hit ≡ 1 → nextUse c later ≡ At k
+  pub still : (c : ℕ) → bit c (left ∖ hit) ≡ 1 → nextUse c later ≡ stepOf (k + 1) (nextUse c (drop (k + 1) later))
+
+pub one-met : (cs used left hit k : ℕ) (later : List ℕ) → k < length later → left ≼ cs ∩ used
+    → ((c : ℕ) → bit c left ≡ 1 → nextUse c later ≡ stepOf k (nextUse c (drop k later)))
+    → hit ≡ left ∩ getD later k 0 → Met cs left hit k later
+one-met cs used left hit k later h part ahead e =
+    record {
+      split = omega (arith, sizes-eq (left ∷ []) (hit ∷ left ∖ hit ∷ []) (λ c. omega (arith, wanted c, bit-∖ c left hit)));
+      others = same-by-bits _ _ (λ c. omega (
+        arith,
+        wanted c,
+        part c,
+        bit-∩ c cs used,
+        bit-∖ c cs (left ∖ hit),
+        bit-∖ c left hit,
+        bit-∪ c (cs ∖ left) hit,
+        bit-∖ c cs left,
+      ));
+      found = λ c i. let b = wanted c in ahead c (omega arith) ∙ use-wanted c k later h (omega arith);
+      still = λ c i. let b = wanted c in let d = bit-∖ c left hit in ahead c (omega arith) ∙ use-later c k later h (omega arith);
+    }
+  where
+    wanted : (c : ℕ) → bit c hit ≡ min (bit c left) (bit c (getD later k 0))
+    wanted c = ap (bit c) e ∙ bit-∩ c left (getD later k 0)
 
 -- ---- groups of which some candidates are chosen: none is left of those from `count` on, and some of each other
 pub record Open (found count chosen : ℕ) (groups : List ℕ) : Type 0 where

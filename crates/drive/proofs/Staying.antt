@@ -52,7 +52,7 @@ pub first-of-same : (ws : List ℕ) (u : NextUse) (s v : ℕ) → bit v s ≡ 1 
 first-of-same ws u s v i high used = (i, (sym (used v i), λ d m. same-before v d ws u (used v i) (used d m) (high d m)))
 
 -- two curves that go before each other are one
-one-curve : (c d : ℕ) (ws : List ℕ) → GoesBefore ws c d → GoesBefore ws d c → c ≡ d
+pub one-curve : (c d : ℕ) (ws : List ℕ) → GoesBefore ws c d → GoesBefore ws d c → c ≡ d
 one-curve c d ws p q = go (decLe c d) (decLe d c)
   where
     go : Dec (c ≤ d) → Dec (d ≤ c) → c ≡ d

@@ -20,7 +20,7 @@ use Rattle.drive.specs.Steps.{moved, heldAfter, dropsOf, loadsOf, moves}
 use Rattle.drive.specs.Check.{orBreaks, keeps, checkFrom}
 use Rattle.drive.specs.Uses.{later, useBy, nextUse}
 use Rattle.drive.specs.Plan.{victims, dropsFor, next, planFrom}
-use Rattle.drive.specs.Contracts.{together}
+use Rattle.drive.specs.Steps.{together}
 
 -- ---- step i of our plan, with h held; the drops and loads of the steps before it are written
 module _ (pick : ℕ → List ℕ → Found ℕ) (capacity start : ℕ) (ws drops₀ loads₀ : List ℕ) where

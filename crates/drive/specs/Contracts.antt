@@ -1,19 +1,14 @@
 -- Words for the choice of the drops, which only contracts of private functions cite: the candidates in groups by their next use, and which of two goes first.
 use mathlib.Core.Path.{_≡_}
 use mathlib.Core.Bool.{true, false}
-use mathlib.Core.List.{List, [], _∷_}
+use mathlib.Core.List.{List}
 use Prim.Native.Nat.{ℕ, _≤_, _<_}
 use lib.ListN.{getD}
-use Rattle.bitset.specs.Set.{_∪_, bit}
+use Rattle.bitset.specs.Set.{bit}
 use Rattle.drive.specs.declared.choice.NextUse.{NextUse}
 use Rattle.drive.specs.declared.choice.NextUse.the-variants.{At, Never}
 use Rattle.drive.specs.declared.choice.Candidate.{Candidate}
 use Rattle.drive.specs.Uses.{nextUse, further}
-
--- what some steps want together
-unfoldable pub together : List ℕ → ℕ
-together [] = 0
-together (w ∷ ws) = w ∪ together ws
 
 -- "Every candidate curve goes with its next use, which is a later step or never": of the candidates cs, where the later steps want ws, those in `unused` are
 -- never used, and the others are in `count` groups, the soonest first: the next use of those in group j is step `when j`

@@ -41,6 +41,11 @@ unfoldable pub moves : List ℕ → List ℕ → List ℕ → List Move
 moves [] ds ls = []
 moves (w ∷ ws) ds ls = record { want = w; sets = record { drops = getD ds 0 0; loads = getD ls 0 0 } } ∷ moves ws (drop 1 ds) (drop 1 ls)
 
+-- what some steps want together, of their wants: 02, wish 9, "different curves"
+unfoldable pub together : List ℕ → ℕ
+together [] = 0
+together (w ∷ ws) = w ∪ together ws
+
 -- "the number of curves in all load sets together", or in all drop sets: in the sets of a list
 unfoldable pub curveCount : List ℕ → ℕ
 curveCount [] = 0

@@ -7,7 +7,8 @@ ghost use Rattle.bitset.specs.Set.{_∖_, size, bit};
 ghost use Rattle.lists.specs.Lent.{was, after};
 ghost use Rattle.drive.specs.Uses.{further};
 ghost use Rattle.drive.specs.Plan.{furthest, victims, dropsFor};
-ghost use Rattle.drive.specs.Contracts.{together, Grouped, UsedAt, GoesFirst};
+ghost use Rattle.drive.specs.Steps.{together};
+ghost use Rattle.drive.specs.Contracts.{Grouped, UsedAt, GoesFirst};
 
 // Document 01: "its next use, which is a later step or never". At(0) is the step after the present one.
 pub enum NextUse {

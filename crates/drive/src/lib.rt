@@ -7,7 +7,7 @@ ghost use Rattle.lists.specs.Lent.{was, after};
 ghost use Rattle.drive.specs.Steps.{moved, heldAfter, dropsOf, loadsOf, moves};
 ghost use Rattle.drive.specs.Check.{keeps, checkFrom};
 ghost use Rattle.drive.specs.Plan.{furthest, next, planFrom};
-ghost use Rattle.drive.specs.Contracts.{together};
+ghost use Rattle.drive.specs.Steps.{together};
 
 pub mod choice;
 
@@ -72,7 +72,7 @@ pub fn step(capacity: usize, held: u64, want: u64, later: &[u64]) -> Sets
 }
 
 // Writes for each step what the steps after it want together, as far as the list has entries.
-fn write_later(wants: &[u64], list: &mut [u64])
+pub fn write_later(wants: &[u64], list: &mut [u64])
     ensures { λ _. ⌜ ((i : ℕ) → i < length (was wants) → i < length (was list) → getD (after list) i 0 ≡ together (drop (i + 1) (was wants))) ⌝ }
     ensures { λ _. ⌜ ((i : ℕ) → length (was wants) ≤ i → getD (after list) i 0 ≡ getD (was list) i 0) ⌝ }
 {

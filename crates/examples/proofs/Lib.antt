@@ -6,6 +6,7 @@
 --     Halfway  examples of plans from what is held
 --     Looks    examples of looks and commits
 --     OldFiles examples of old job files, with method 2
+--     EverySize  examples of every drive size together
 pub mod Rules
 pub mod Starred
 pub mod Others
@@ -13,3 +14,4 @@ pub mod Booked
 pub mod Halfway
 pub mod Looks
 pub mod OldFiles
+pub mod EverySize

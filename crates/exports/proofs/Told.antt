@@ -4,21 +4,23 @@ use mathlib.Core.Path.{_≡_, refl, ap, _∙_, subst}
 use mathlib.Core.Logic.{_⊎_, inl, inr}
 use mathlib.Core.Bool.{not, _&&_}
 use mathlib.Core.List.{List, [], _∷_, _++_}
-use Prim.Native.Nat.{ℕ, _+_, _/_, _%_, _^_, _≤_, _<_, min}
+use Prim.Native.Nat.{ℕ, zero, suc, _+_, _/_, _%_, _^_, _≤_, _<_, min}
 use native.Mathlib.Omega.{arith}
 use borrow.Author.Tests.{ltb-true}
 use lib.Dec.{ltb}
 use lib.ListN.{length, length-append}
+use Rattle.lists.specs.Choice.{Found, nobody, found}
 use Rattle.job.specs.declared.Head.{Head}
 use Rattle.job.specs.Refusal.{Outcome, done, refused, _>>_, mapped, demand, room}
 use Rattle.job.specs.Words.{Job, capacity}
-use Rattle.job.specs.Handed.{listed, curvesKnown, testsKnown, heldKnown, wantsFit, jobKnownBy, countsKnown, allCurves}
+use Rattle.job.specs.Handed.{listed, curvesKnown, testsKnown, wantsKnown, heldKnown, wantsFit, jobKnownBy, countsKnown, allCurves}
 use Rattle.job.specs.Order.{orderFrom}
-use Rattle.job.specs.Calls.{orderingKnown, checkingKnown, planningKnown}
+use Rattle.job.specs.Calls.{orderingKnown, checkingKnown, planningKnown, sizingKnown}
 use Rattle.job.proofs.Laws.{both, demand-true, both-done, bind-done, mapped-done, done-same, done-both, done-room}
 use Rattle.job.proofs.JobExact.{job-by-exact}
 use Rattle.job.proofs.Refuses.{Refuses, refuses, refuses-more, refuses-demand, refuses-both, refuses-then, refuses-bind, refuses-mapped, refuses-each}
-use Rattle.job.proofs.Refuses.{HandedRefusal, job-by-refuses, HeldRefusal, held-refuses}
+use Rattle.job.proofs.Refuses.{HandedRefusal, job-by-refuses, HeldRefusal, held-refuses, OfWants, wants-refuse}
+use Rattle.job.proofs.Examination.{counts-bounds}
 use Rattle.job_bytes.specs.JobBytes.{Request, request, readBytes, readJob, readJobAnswer, jobBytes, writeJob, writeJobAnswer}
 use Rattle.job_bytes.proofs.JobBounds.{Bounded, read, read-bounded, figure-short, written-short}
 use Rattle.job_bytes.proofs.ReadRefuses.{ByReading, number-between, read-refuses}
@@ -44,12 +46,17 @@ use Rattle.plan_bytes.specs.PlanBytes.{Contents, planBytes, writePlan, writePla
 use Rattle.plan_bytes.proofs.PlanBounds.{plan-figure, plan-eleven}
 use Rattle.plan_bytes.proofs.PlanLength.{passed-length, written-length}
 use Rattle.plan_bytes.proofs.ReadPlan.{plan-count}
-use Rattle.plan_bytes.proofs.Steps.{counts-bounds}
+use Rattle.every_size.specs.Sizes.{fewestPlaces}
+use Rattle.sizing.specs.Sizing.{sizing, fewest}
+use Rattle.sizing.proofs.EverySize.{sizes-exact}
 use Rattle.report.specs.Report.{sheet, writeSheet, sheetAnswer}
 use Rattle.report.specs.Audit.{audit, auditText, writeAudit, auditAnswer}
+use Rattle.report.specs.SizeTable.{sizeTable, writeTable, tableAnswer}
 use Rattle.report.proofs.Longest.{sheet-longest}
 use Rattle.report.proofs.AuditLongest.{audit-longest}
-use Rattle.exports.specs.Numbers.{numbered, countOf}
+use Rattle.report.proofs.TableLines.{Word}
+use Rattle.report.proofs.TableLongest.{table-longest}
+use Rattle.exports.specs.Numbers.{numbered, countOf, placesNumber, asks}
 use Rattle.exports.specs.States.{stepOf}
 use Rattle.exports.proofs.Numbers.{numbered-tells}
 
@@ -302,6 +309,43 @@ commit-told s position l k i e =
     let x = not-next-exact s position k i .0 e in
     rw e (numbered-tells .1 k i (omega (arith, x .0)) (omega (arith, x .1)))
 
+-- ---- every drive size
+
+module _ (curves : ℕ) (wants order : List ℕ) where
+  sizing-refuses : Refuses Figures (sizing curves wants order)
+  unfolding sizing sizingKnown
+  sizing-refuses =
+      refuses-both Figures _ _
+      (refuses-then Figures _ _ (counts-told curves (length wants))
+      (λ e. let l = counts-bounds curves (length wants) e .1 in
+      refuses-both Figures _ _
+      (refuses-more OfWants Figures (wantsKnown curves wants) (λ k i n. (omega (arith, n .0), omega (arith, n .2))) (wants-refuse curves wants l))
+      (order-told (length wants) [] order l (omega arith)))) tt
+
+  pub all-sizes-told : Told (mapped (λ _. 0) (sizing curves wants order))
+  all-sizes-told =
+      told _ (λ n e. omega (arith, mapped-done (λ _. 0) (sizing curves wants order) n e .2)) (refuses-mapped Figures _ _ sizing-refuses)
+
+  module _ (loads : ℕ) where
+    -- the fewest places are 1 to 64: so 0 tells that there are none ..
+    pub places-told : (p : ℕ) → fewest curves wants order loads ≡ done (found p) → (1 ≤ p) × (p ≤ 64)
+    unfolding fewest
+    places-told p e =
+        let m = mapped-done (fewestPlaces loads) (sizing curves wants order) (found p) e in
+        let s = sizes-exact curves wants order (m .0) (m .1) .serving loads p (m .2) in
+        (s .0, s .1)
+
+    -- .. and the number tells them, or the refusal
+    pub fewest-places-told : Told (mapped placesNumber (fewest curves wants order loads))
+    unfolding placesNumber
+    fewest-places-told =
+        told _ (λ n e. let m = mapped-done placesNumber (fewest curves wants order loads) n e in few-places (m .0) (m .1) n (m .2))
+        (refuses-mapped Figures _ _ (unfold fewest in refuses-mapped Figures _ _ sizing-refuses))
+      where
+        few-places : (f : Found ℕ) → fewest curves wants order loads ≡ done f → (n : ℕ) → placesNumber f ≡ n → n < 2 ^ 48
+        few-places nobody e n g = omega arith
+        few-places (found p) e n g = omega (arith, places-told p e .1)
+
 -- ---- texts
 
 text-told : (text : List ℕ) (lent : ℕ) → length text < 2 ^ 48 → Told (mapped length (_>>_ (room lent (length text)) (done text)))
@@ -319,3 +363,12 @@ sheet-told job old all = text-told (sheet job) (length old) (omega (arith, sheet
 pub audit-told : (job plan old : List ℕ) → Bytes job → Told (auditAnswer job plan old)
 unfolding auditAnswer writeAudit
 audit-told job plan old all = text-told (auditText (audit job plan)) (length old) (omega (arith, audit-longest job plan all))
+
+pub table-told : (job old : List ℕ) (asked loads : ℕ) → Bytes job → loads < 2 ^ 64 → Told (tableAnswer job (asks asked loads) old)
+unfolding tableAnswer writeTable
+table-told job old asked loads all l =
+    text-told (sizeTable job (asks asked loads)) (length old) (omega (arith, table-longest job (asks asked loads) all (word asked)))
+  where
+    word : (asked : ℕ) → Word (asks asked loads)
+    word zero = unfold asks in tt
+    word (suc n) = unfold asks in l

@@ -1,7 +1,8 @@
 -- How the functions for C answer: outcomes as numbers.
 use mathlib.Core.List.{List}
-use Prim.Native.Nat.{ℕ, _+_, _*_, _%_, _^_, min}
+use Prim.Native.Nat.{ℕ, zero, suc, _+_, _*_, _%_, _^_, min}
 use lib.ListN.{drop}
+use Rattle.lists.specs.Choice.{Found, nobody, found}
 use Rattle.job.specs.declared.Head.{Head}
 use Rattle.job.specs.declared.Rig.{Rig}
 use Rattle.job.specs.Refusal.{Outcome, done, refused, mapped}
@@ -57,3 +58,18 @@ groupAt bs at group curves = mapped (λ g. g .value) (readGroup 1 2 3 (min curve
 unfoldable pub leavesOne : Outcome ℕ → ℕ → ℕ
 leavesOne (done new) old = new
 leavesOne (refused k i) old = old
+
+-- 02, wish 9: what the lent counts are when all sizes were asked for; they are as many as the sizes
+unfoldable pub leavesCounts : Outcome (List ℕ) → List ℕ → List ℕ
+leavesCounts (done new) old = new
+leavesCounts (refused k i) old = old
+
+-- the fewest places, "or none", for which 0 stands
+unfoldable pub placesNumber : Found ℕ → ℕ
+placesNumber nobody = 0
+placesNumber (found places) = places
+
+-- what is asked of a table of drive sizes: 0 for no wanted count
+unfoldable pub asks : ℕ → ℕ → Found ℕ
+asks zero loads = nobody
+asks (suc n) loads = found loads

@@ -8,6 +8,8 @@ use job::Rig;
 use job_bytes::set_bytes::GroupRead;
 use plan_bytes::StepPart;
 use planning::PlanCounted;
+use report::sizes::Wanted;
+use sizing::Places;
 use stepping::CommitAnswer;
 use stepping::NextStep;
 use stepping::State;
@@ -32,8 +34,10 @@ ghost use Rattle.planning.specs.Planning.{checking, planAnswer, planLists};
 ghost use Rattle.stepping.specs.Stepping.{stepWants, look, commit, afterCommit, making, testsMade, commitOutcome};
 ghost use Rattle.plan_bytes.specs.PlanBytes.{writePlanAnswer, writePlanBuffer, readPlanAnswer, readPlanOrder, readPlanLists, stepPart};
 ghost use Rattle.report.specs.Report.{sheetAnswer, sheetBuffer};
+ghost use Rattle.sizing.specs.Sizing.{sizing, fewest};
 ghost use Rattle.report.specs.Audit.{auditAnswer, auditBuffer};
-ghost use Rattle.exports.specs.Numbers.{rigOf, job, numbered, passing, countOf, endOf, headOf, groupAt, leavesOne};
+ghost use Rattle.report.specs.SizeTable.{wantedFound, tableAnswer, tableBuffer};
+ghost use Rattle.exports.specs.Numbers.{rigOf, job, numbered, passing, countOf, endOf, headOf, groupAt, leavesOne, leavesCounts, placesNumber, asks};
 ghost use Rattle.exports.specs.States.{stepOf, stateOf, numbersOf, leavesState};
 
 // ---- outcomes as numbers
@@ -309,6 +313,72 @@ pub extern "C" fn curveplan_audit(job: &[u8], plan: &[u8], out: &mut [u8]) -> u6
     ensures text { λ _. ⌜ after out ≡ auditBuffer (was job) (was plan) (was out) ⌝ }
 {
     counted(report::audit::write_audit(job, plan, out))
+}
+
+// ---- every drive size
+
+// The load counts for 1 to 64 places go to `counts`, that for p places to entry p - 1.
+#[no_mangle]
+pub extern "C" fn curveplan_all_sizes(
+    curves: usize,
+    wants: &[u64],
+    order: &[u16],
+    counts: &mut [u16; 64],
+) -> u64
+    ensures answer { λ r. ⌜ r ≡ passing (sizing curves (was wants) (was order)) ⌝ }
+    ensures counts { λ _. ⌜ after counts ≡ leavesCounts (sizing curves (was wants) (was order)) (was counts) ⌝ }
+{
+    let sizes = sizing::all_sizes(curves, wants, order);
+    let answer = sizes.answer;
+    let made = sizes.counts;
+    match answer {
+        Examined::Passed => {
+            *counts = made;
+            0
+        }
+        Examined::Refused(r) => refusal(r),
+    }
+}
+
+// The fewest places that need no more loads, 1 to 64, or 0 for none.
+#[no_mangle]
+pub extern "C" fn curveplan_fewest_places(
+    curves: usize,
+    wants: &[u64],
+    order: &[u16],
+    loads: usize,
+) -> u64
+    ensures { λ r. ⌜ r ≡ numbered (mapped placesNumber (fewest curves (was wants) (was order) loads)) ⌝ }
+{
+    match sizing::fewest_places(curves, wants, order, loads) {
+        Places::Fewest(p) => p as u64,
+        Places::NoSize => 0,
+        Places::Refused(r) => refusal(r),
+    }
+}
+
+// What is asked of a table: 0 for no wanted count.
+fn wanted(asked: usize, loads: usize) -> Wanted
+    ensures { λ r. ⌜ wantedFound r ≡ asks asked loads ⌝ }
+{
+    if asked == 0 {
+        Wanted::NotAsked
+    } else {
+        Wanted::Loads(loads)
+    }
+}
+
+#[no_mangle]
+pub extern "C" fn curveplan_size_table(
+    job: &[u8],
+    asked: usize,
+    loads: usize,
+    out: &mut [u8],
+) -> u64
+    ensures answer { λ r. ⌜ r ≡ numbered (tableAnswer (was job) (asks asked loads) (was out)) ⌝ }
+    ensures text { λ _. ⌜ after out ≡ tableBuffer (was job) (asks asked loads) (was out) ⌝ }
+{
+    counted(report::sizes::write_size_table(job, wanted(asked, loads), out))
 }
 
 // ---- look, then commit

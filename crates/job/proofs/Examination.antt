@@ -28,23 +28,6 @@ pub tests-few : (tests : ℕ) → testsKnown tests ≡ done tt → tests ≤ 256
 unfolding testsKnown
 tests-few tests e = leb-true tests 256 (demand-true _ 10 2 e)
 
-module _ (rig : Rig) (tests : ℕ) where
-  pub bad-places : between 1 64 (rig .places) ≡ false → numbersKnown rig tests ≡ refused 10 0
-  unfolding numbersKnown placesKnown demand _>>_
-  bad-places e = rw e refl
-
-  -- the rest is the examination of curves and tests
-  pub numbers-counts : between 1 64 (rig .places) ≡ true → numbersKnown rig tests ≡ countsKnown (rig .curves) tests
-  unfolding numbersKnown countsKnown placesKnown demand _>>_
-  numbers-counts p = rw p refl
-
-  pub known-bounds : numbersKnown rig tests ≡ done tt → (rig .curves ≤ 64) × (tests ≤ 256)
-  unfolding numbersKnown curvesKnown between
-  known-bounds e =
-      let a = both-done (placesKnown (rig .places)) _ tt e in
-      let b = both-done (curvesKnown (rig .curves)) _ tt (a .1) in
-      (leb-true _ 64 (both (leb 1 (rig .curves)) (leb (rig .curves) 64) (demand-true _ 10 1 (b .0)) .1), tests-few tests (b .1))
-
 module _ (curves tests : ℕ) where
   pub counts-curves : between 1 64 curves ≡ false → countsKnown curves tests ≡ refused 10 1
   unfolding countsKnown curvesKnown demand _>>_
@@ -57,6 +40,26 @@ module _ (curves tests : ℕ) where
   pub counts-known : between 1 64 curves ≡ true → tests ≤ 256 → countsKnown curves tests ≡ done tt
   unfolding countsKnown curvesKnown testsKnown demand _>>_
   counts-known q h = rw (q, le-leb tests 256 h) refl
+
+  pub counts-bounds : countsKnown curves tests ≡ done tt → (curves ≤ 64) × (tests ≤ 256)
+  unfolding countsKnown curvesKnown between
+  counts-bounds e =
+      let a = both-done (curvesKnown curves) _ tt e in
+      (leb-true curves 64 (both (leb 1 curves) (leb curves 64) (demand-true _ 10 1 (a .0)) .1), tests-few tests (a .1))
+
+module _ (rig : Rig) (tests : ℕ) where
+  pub bad-places : between 1 64 (rig .places) ≡ false → numbersKnown rig tests ≡ refused 10 0
+  unfolding numbersKnown placesKnown demand _>>_
+  bad-places e = rw e refl
+
+  -- the rest is the examination of curves and tests
+  pub numbers-counts : between 1 64 (rig .places) ≡ true → numbersKnown rig tests ≡ countsKnown (rig .curves) tests
+  unfolding numbersKnown countsKnown placesKnown demand _>>_
+  numbers-counts p = rw p refl
+
+  pub known-bounds : numbersKnown rig tests ≡ done tt → (rig .curves ≤ 64) × (tests ≤ 256)
+  unfolding numbersKnown countsKnown
+  known-bounds e = counts-bounds (rig .curves) tests (both-done (placesKnown (rig .places)) _ tt e .1)
 
 -- ---- the whole, by its parts
 module _ (method : ℕ) (job : Job) where

@@ -9,13 +9,12 @@ use native.Mathlib.Nat.{zero-add}
 use native.Mathlib.Decide.{decLe}
 use lib.Count.{trailingZeros}
 use lib.Dec.{eqb}
-use lib.Pow.{pow-lt, pow-mono, pow-pos}
 use lib.ListN.{length}
 use borrow.Author.Tests.{eqb-true, eqb-false}
 use Rattle.bitset.specs.Set.{_∖_, _∈_, bit, inside}
-use Rattle.bitset.proofs.Bits.{bit-∖, bit-single, bit-beyond}
+use Rattle.bitset.proofs.Bits.{bit-∖}
 use Rattle.bitset.proofs.Laws.{∖-lt}
-use Rattle.bitset.proofs.Parts.{in-range}
+use Rattle.bitset.proofs.Parts.{bit-below}
 use Rattle.bitset.proofs.Element.{∈-pos, lowest-in, lowest-least}
 use Rattle.job.specs.Refusal.{Outcome, done, refused, _>>_, demand}
 use Rattle.job.specs.Words.{Job, IsJob}
@@ -38,10 +37,10 @@ module _ (curves held : ℕ) where
   unknown = held ∖ allCurves curves
 
   own-bit : (k : ℕ) → k < curves → bit k (allCurves curves) ≡ 1
-  own-bit k h = omega (arith, in-range curves (2 ^ k) (pow-lt h) k, bit-single k)
+  own-bit k h = omega (arith, bit-below k curves)
 
   other-bit : (k : ℕ) → curves ≤ k → bit k (allCurves curves) ≡ 0
-  other-bit k h = bit-beyond k (allCurves curves) (omega (arith, pow-mono h, pow-pos curves))
+  other-bit k h = omega (arith, bit-below k curves)
 
   unknown-bit : (k : ℕ) → k ∈ unknown ↔ UnknownHeld curves held k
   unknown-bit k = go (decLe curves k)

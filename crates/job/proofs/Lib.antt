@@ -12,6 +12,7 @@
 --     OrderTurns    one turn of the examination of an order
 --     OrderExact    refusal 8 is not given exactly where an order names each test once
 --     OrderFault    refusal 8 names the first position with a fault
+--     SizingExact   02, wish 9: apart from 7, the walk for every drive size refuses as planning does
 pub mod Laws
 pub mod Examination
 pub mod Refuses
@@ -25,3 +26,4 @@ pub mod Marks
 pub mod OrderTurns
 pub mod OrderExact
 pub mod OrderFault
+pub mod SizingExact

@@ -5,7 +5,7 @@ use Prim.Native.Nat.{ℕ}
 use lib.ListN.{length}
 use Rattle.job.specs.Refusal.{Outcome, _>>_}
 use Rattle.job.specs.Words.{Job, capacity}
-use Rattle.job.specs.Handed.{testsKnown, heldKnown, wantsFit, jobKnownBy, jobKnown}
+use Rattle.job.specs.Handed.{testsKnown, wantsKnown, heldKnown, wantsFit, jobKnownBy, jobKnown, countsKnown}
 use Rattle.job.specs.Order.{orderKnown}
 
 -- "for ordering 7" behind 10, which the method belongs to, and 13
@@ -32,3 +32,11 @@ unfoldable pub orderAloneKnown : List ℕ → Outcome (Unit {0})
 orderAloneKnown order = do
   testsKnown (length order)
   orderKnown (length order) order
+
+-- 02, wish 9, all sizes and the fewest places: "apart from 7, the walk refuses as planning does". It is handed curves, wants and an order, and no places,
+-- booked places or holding: of 10 the curves, the number of tests and the wants, then 8
+unfoldable pub sizingKnown : ℕ → List ℕ → List ℕ → Outcome (Unit {0})
+sizingKnown curves wants order = do
+  countsKnown curves (length wants)
+  wantsKnown curves wants
+  orderKnown (length wants) order

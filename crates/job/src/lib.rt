@@ -7,7 +7,7 @@ ghost use Rattle.job.specs.Refusal.{number, figure, examinedOutcome};
 ghost use Rattle.job.specs.Words.{jobOf, capacity};
 ghost use Rattle.job.specs.Handed.{between, isMethod, numbersKnown, wantsKnown, wantsFit, bookedKnown, bookedBelow, heldKnown, jobKnownBy, countsKnown};
 ghost use Rattle.job.specs.Order.{orderKnown};
-ghost use Rattle.job.specs.Calls.{orderingKnown, checkingKnown, planningKnown, orderAloneKnown};
+ghost use Rattle.job.specs.Calls.{orderingKnown, checkingKnown, planningKnown, orderAloneKnown, sizingKnown};
 
 // "Places in the drive 1 to 64. Curves 1 to 64, numbered from 0. Tests 1 to 256, numbered from 0.", and since wish 3 of 02 a list may have no tests.
 pub const MOST_PLACES: usize = 64;
@@ -345,4 +345,17 @@ pub fn examine_order_alone(order: &[u16]) -> Examined
         return Examined::Refused(Refusal::BadArgument(2));
     }
     examine_order(order.len(), order)
+}
+
+// Of what the walk for every drive size is handed, 02, wish 9: 10, 8.
+pub fn examine_sizing(curves: usize, wants: &[u64], order: &[u16]) -> Examined
+    ensures { λ r. ⌜ examinedOutcome r ≡ sizingKnown curves (was wants) (was order) ⌝ }
+{
+    if let Examined::Refused(r) = examine_counts(curves, wants.len()) {
+        return Examined::Refused(r);
+    }
+    if let Examined::Refused(r) = examine_wants(curves, wants) {
+        return Examined::Refused(r);
+    }
+    examine_order(wants.len(), order)
 }

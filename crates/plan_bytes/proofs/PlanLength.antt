@@ -8,6 +8,7 @@ use Rattle.bitset.proofs.Bits.{bit-empty, same-by-bits}
 use Rattle.job.specs.Refusal.{done, _>>=_, room}
 use Rattle.job.proofs.Laws.{done-same, refused≢done, both-done, bind-done}
 use Rattle.job.proofs.Orders.{order-length}
+use Rattle.job.proofs.Examination.{counts-bounds}
 use Rattle.job_bytes.specs.SetBytes.{byteAt}
 use Rattle.job_bytes.proofs.SetRoundTrip.{Bytes}
 use Rattle.job.specs.Handed.{countsKnown}
@@ -20,7 +21,6 @@ use Rattle.planning.proofs.CheckExact.{Passes, passed}
 use Rattle.plan_bytes.specs.PlanBytes.{Contents, stepBytes, stepsBytes, endBytes, planBytes, testsOf, planIn, planSteps, writePlan}
 use Rattle.plan_bytes.specs.PlanBytes.{readStep, readSteps, readPlanBytes}
 use Rattle.plan_bytes.proofs.Writing.{one, field-le, field-none, step-length, step-le, end-le, no-end-bytes, listBytes}
-use Rattle.plan_bytes.proofs.Steps.{counts-bounds}
 use Rattle.plan_bytes.proofs.ReadPlan.{plan-count}
 use Rattle.plan_bytes.proofs.PlanRoundTrip.{plan-bytes-read}
 

@@ -4,14 +4,12 @@ use mathlib.Core.Path.{_≡_, refl, sym, _∙_, subst}
 use mathlib.Core.List.{List, [], _∷_, _++_, map, map-append, append-assoc}
 use Prim.Native.Nat.{ℕ, suc, _+_, _-_, _≤_, _<_}
 use native.Mathlib.Omega.{arith}
-use lib.Dec.{leb}
-use borrow.Author.Tests.{leb-true}
 use lib.ListN.{length, getD, drop, set, length-set, length-map, length-append}
 use lib.Seq.{drop-cons, set-at}
 use Rattle.job.specs.Refusal.{Outcome, done, refused, _>>=_, _>>_, mapped, leaves, overwritten}
 use Rattle.job_bytes.specs.SetBytes.{got}
-use Rattle.job.specs.Handed.{between, curvesKnown, testsKnown, countsKnown}
-use Rattle.job.proofs.Laws.{refused≢done, done-same, mapped-done, both, both-done, bind-done, done-both, demand-true}
+use Rattle.job.specs.Handed.{countsKnown}
+use Rattle.job.proofs.Laws.{refused≢done, done-same, mapped-done, bind-done, done-both}
 use Rattle.job.proofs.Examination.{refused-both}
 use Rattle.plan_bytes.specs.declared.StepRead.{StepRead}
 use Rattle.plan_bytes.specs.PlanBytes.{Placed, Contents, readStep, readSteps, readEnd, readPlanBytes, planSteps}
@@ -91,12 +89,6 @@ module _ (curves tests : ℕ) (bs : List ℕ) where
   pub counts-passed : countsKnown curves tests ≡ done tt → planSteps curves tests bs ≡ readPlanBytes curves tests bs
   unfolding planSteps
   counts-passed e = done-both _ _ e
-
-pub counts-bounds : (curves tests : ℕ) → countsKnown curves tests ≡ done tt → (curves ≤ 64) × (tests ≤ 256)
-unfolding countsKnown curvesKnown testsKnown between
-counts-bounds curves tests e =
-    let a = both-done (curvesKnown curves) _ tt e in
-    (leb-true curves 64 (both (leb 1 curves) (leb curves 64) (demand-true _ 10 1 (a .0)) .1), leb-true tests 256 (demand-true _ 10 2 (a .1)))
 
 -- ---- lists that are filled step by step
 

@@ -36,7 +36,7 @@ use Rattle.job_bytes.proofs.ReadRefuses.{ByReading, number-between, read-refuse
 use Rattle.report.specs.Report.{text, decimal, printed}
 use Rattle.report.specs.Audit.{Audit, auditSteps, auditPlan, audit, auditText, writeAudit}
 use Rattle.report.proofs.Digits.{decimal-length}
-use Rattle.report.proofs.Lines.{refusal-length}
+use Rattle.report.proofs.Lines.{refusal-short}
 use Rattle.report.proofs.Auditing.{counts-lines}
 use Rattle.report.proofs.Fewest.{passed-planned, audit-says, audit-fewer}
 
@@ -140,18 +140,6 @@ audit-plan-refuses job plan o all e =
     subst (Refuses OfPlan) (x .2) (audit-small (x .0) (read-exact job (x .0) all (x .1)) plan)
 
 -- ---- the text
-
-refusal-short : (k i : ℕ) → k < 100 → i < 10000 → length (printed (refused k i)) ≤ 20
-unfolding text
-refusal-short k i p q =
-    omega (
-      arith,
-      refusal-length k i,
-      length-append (decimal k) (text " at "),
-      length-append (decimal i) (text "\n"),
-      decimal-length 1 k (omega arith),
-      decimal-length 3 i (omega arith),
-    )
 
 job-short : (k i : ℕ) → OfJob k i → length (auditText (refused k i)) ≤ 128
 unfolding auditText

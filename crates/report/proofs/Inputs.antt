@@ -5,6 +5,7 @@ use Prim.Native.Nat.{ℕ, _≤_}
 use native.Mathlib.Omega.{arith}
 use lib.ListN.{length, take}
 use lib.Seq.{take-take}
+use Rattle.lists.specs.Choice.{Found}
 use Rattle.job.specs.Refusal.{Outcome, done, refused, mapped}
 use Rattle.job_bytes.specs.JobBytes.{Request, readBytes}
 use Rattle.job_bytes.proofs.JobBounds.{Bounded, read, read-bounded, prefix-reads}
@@ -12,6 +13,7 @@ use Rattle.plan_bytes.proofs.PlanBounds.{prefix-plan}
 use Rattle.planned.specs.Planned.{planJob}
 use Rattle.report.specs.Report.{sheet}
 use Rattle.report.specs.Audit.{auditPlan, audit}
+use Rattle.report.specs.SizeTable.{sizeJob, sizeTable}
 use Rattle.report.specs.Input.{Enough}
 
 -- a job that reads has at most 256 tests
@@ -24,10 +26,15 @@ few bs j e = of (subst (Bounded bs) e (read-bounded bs))
 job-prefix : (n : ℕ) (bs : List ℕ) → 2312 ≤ n → readBytes (take n bs) ≡ readBytes bs
 job-prefix n bs l = sym (prefix-reads (take n bs)) ∙ ap readBytes (take-take 2312 n bs l) ∙ prefix-reads bs
 
--- BYTES BEHIND THE JOB'S 2,312TH never change a sheet ..
+-- BYTES BEHIND THE JOB'S 2,312TH never change a sheet, ..
 pub sheet-prefix : (n : ℕ) (bs : List ℕ) → 2312 ≤ n → sheet (take n bs) ≡ sheet bs
 unfolding sheet planJob
 sheet-prefix n bs l = rw (job-prefix n bs l) refl
+
+-- .. a table of drive sizes, ..
+pub table-prefix : (n : ℕ) (bs : List ℕ) (wanted : Found ℕ) → 2312 ≤ n → sizeTable (take n bs) wanted ≡ sizeTable bs wanted
+unfolding sizeTable sizeJob
+table-prefix n bs wanted l = rw (job-prefix n bs l) refl
 
 -- .. nor an audit
 pub audit-job-prefix : (n : ℕ) (job plan : List ℕ) → 2312 ≤ n → audit (take n job) plan ≡ audit job plan

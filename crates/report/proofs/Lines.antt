@@ -162,6 +162,19 @@ end-short k n (suc s) h =
       set-length (suc s),
     )
 
+-- the line of a refusal
+pub refusal-short : (k i : ℕ) → k < 100 → i < 10000 → length (printed (refused k i)) ≤ 20
+unfolding text
+refusal-short k i p q =
+    omega (
+      arith,
+      refusal-length k i,
+      length-append (decimal k) (text " at "),
+      length-append (decimal i) (text "\n"),
+      decimal-length 1 k (omega arith),
+      decimal-length 3 i (omega arith),
+    )
+
 -- the whole: of at most 256 steps, all of whose numbers a word holds
 pub plan-word : (h : Head) (order drops loads : List ℕ) (end : ℕ) → h .tests < 2 ^ 64 → capacity (h .rig) < 2 ^ 64 → h .method < 2 ^ 64 → length order ≤ 256
     → ((j : ℕ) → j < length order → getD order j 0 < 2 ^ 64) → curveCount loads < 2 ^ 64

@@ -1,5 +1,5 @@
 -- The longest sheet: so the program's buffer takes every one.
-use mathlib.Core.Path.{_≡_, refl}
+use mathlib.Core.Path.{_≡_, refl, sym, _∙_}
 use mathlib.Core.List.{List, []}
 use Prim.Native.Nat.{ℕ, _≤_, _<_}
 use native.Mathlib.Omega.{arith}
@@ -11,7 +11,7 @@ use Rattle.job.specs.Refusal.{Outcome, done, refused, room}
 use Rattle.job.specs.Words.{capacity}
 use Rattle.job.specs.Handed.{wantsFit}
 use Rattle.job_bytes.specs.JobBytes.{Request, jobIn, readBytes}
-use Rattle.job.proofs.Laws.{done-both, done-room}
+use Rattle.job.proofs.Laws.{refused≢done, done-both, done-room}
 use Rattle.job.proofs.Refuses.{refuses, refuses-each}
 use Rattle.job.proofs.Orders.{order-length}
 use Rattle.job.proofs.OrderExact.{own-tests}
@@ -29,7 +29,7 @@ use Rattle.planned.proofs.Composed.{orderOf, setsOf, checked, job-planned, job-
 use Rattle.report.specs.Report.{text, decimal, headText, planText, sheet, writeSheet, printed}
 use Rattle.report.specs.Contracts.{shown}
 use Rattle.report.proofs.Digits.{decimal-length}
-use Rattle.report.proofs.Lines.{step-short, steps-short, end-short, head-length, loads-length, plan-length, refusal-length}
+use Rattle.report.proofs.Lines.{step-short, steps-short, end-short, head-length, loads-length, plan-length, refusal-short}
 
 -- the text shows no wants
 same-text : (p : Planned) → printed (done p) ≡ planText (shown (p .request .head) (p .order) (p .plan .drops) (p .plan .loads) (p .plan .end))
@@ -74,41 +74,50 @@ planned-bound q r f =
     (λ i l. omega (arith, own-tests (length (q .wants)) (orderOf q) whole i l))
     (omega (arith, check-few (jobIn q) 0 (orderOf q) (handed 0 (setsOf q)) _ (checked q r f)))
 
--- the line of a refusal
-refusal-bound : (k i : ℕ) → k < 100 → i < 10000 → length (printed (refused k i)) ≤ 105000
-unfolding text
-refusal-bound k i p q =
-    omega (
-      arith,
-      refusal-length k i,
-      length-append (decimal k) (text " at "),
-      length-append (decimal i) (text "\n"),
-      decimal-length 1 k (omega arith),
-      decimal-length 3 i (omega arith),
-    )
+-- a refused job has a number and a figure of few digits
+pub refused-few : (bs : List ℕ) → Bytes bs → (k i : ℕ) → planJob bs ≡ refused k i → (k < 100) × (i < 10000)
+unfolding wantsFit
+refused-few bs all k i e = go (readBytes bs) refl
+  where
+    fits : (q : Request) → readBytes bs ≡ done q → (o : Outcome (Unit {0})) → wantsFit (capacity (q .head .rig)) (q .wants) ≡ o → (k < 100) × (i < 10000)
+    fits q r (done tt) f = absurd (refused≢done (sym e ∙ job-planned bs q all r f))
+    fits q r (refused l j) f =
+        let is : ReadJob q = read-exact bs q all r in
+        let few = refuses (λ (k i : ℕ). (k ≡ 7) × (i < 256)) (wantsFit (capacity (q .head .rig)) (q .wants)) l j
+        (refuses-each (λ (k i : ℕ). (k ≡ 7) × (i < 256)) (λ w. leb (size w) (capacity (q .head .rig))) 7 0 (q .wants)
+        (λ t l. (refl, omega (arith, is .is-job .tests-bound)))) f in
+        let same = sym e ∙ job-too-large bs q all r l j f in
+        let number : k ≡ l = cc in
+        let figure : i ≡ j = cc in
+        (omega (arith, few .0), omega (arith, few .1))
+
+    go : (o : Outcome Request) → readBytes bs ≡ o → (k < 100) × (i < 10000)
+    go (done q) r = fits q r (wantsFit (capacity (q .head .rig)) (q .wants)) refl
+    go (refused l j) r =
+        let n = number-between l j (refuses ByReading (readBytes bs) l j (read-refuses bs) r) in
+        let same = sym e ∙ unread bs l j r in
+        let number : k ≡ l = cc in
+        let figure : i ≡ j = cc in
+        (omega (arith, n .1), omega (arith, figure-short bs l j r .0))
 
 -- NO SHEET is longer than 105,000 bytes
 pub sheet-longest : (bs : List ℕ) → Bytes bs → length (sheet bs) ≤ 105000
-unfolding sheet wantsFit
+unfolding sheet
 sheet-longest bs all = go (readBytes bs) refl
   where
+    refusal : (k i : ℕ) → planJob bs ≡ refused k i → length (printed (planJob bs)) ≤ 105000
+    refusal k i e = let f = refused-few bs all k i e in rw e (omega (arith, refusal-short k i (f .0) (f .1)))
+
     fits : (q : Request) → readBytes bs ≡ done q → (o : Outcome (Unit {0})) → wantsFit (capacity (q .head .rig)) (q .wants) ≡ o
         → length (printed (planJob bs)) ≤ 105000
     fits q r (done tt) f =
         rw (job-planned bs q all r f) (rw (same-text (record { request = q; order = orderOf q; plan = handed 0 (setsOf q) }))
         (planned-bound q (read-exact bs q all r) f))
-    fits q r (refused k i) f =
-        let is : ReadJob q = read-exact bs q all r in
-        let few = refuses (λ (k i : ℕ). (k ≡ 7) × (i < 256)) (wantsFit (capacity (q .head .rig)) (q .wants)) k i
-        (refuses-each (λ (k i : ℕ). (k ≡ 7) × (i < 256)) (λ w. leb (size w) (capacity (q .head .rig))) 7 0 (q .wants)
-        (λ t l. (refl, omega (arith, is .is-job .tests-bound)))) f in
-        rw (job-too-large bs q all r k i f) (refusal-bound k i (omega (arith, few .0)) (omega (arith, few .1)))
+    fits q r (refused k i) f = refusal k i (job-too-large bs q all r k i f)
 
     go : (o : Outcome Request) → readBytes bs ≡ o → length (printed (planJob bs)) ≤ 105000
     go (done q) r = fits q r (wantsFit (capacity (q .head .rig)) (q .wants)) refl
-    go (refused k i) r =
-        let n = number-between k i (refuses ByReading (readBytes bs) k i (read-refuses bs) r) in
-        rw (unread bs k i r) (refusal-bound k i (omega (arith, n .1)) (omega (arith, figure-short bs k i r .0)))
+    go (refused k i) r = refusal k i (unread bs k i r)
 
 -- so a buffer of as many bytes takes every sheet
 pub sheet-fits : (bs : List ℕ) (lent : ℕ) → Bytes bs → 105000 ≤ lent → writeSheet bs lent ≡ done (sheet bs)

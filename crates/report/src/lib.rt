@@ -18,6 +18,7 @@ ghost use Rattle.drive.specs.Steps.{curveCount};
 ghost use Rattle.planning.specs.Plan.{steps};
 
 pub mod audit; // audit.rt: a plan beside the fewest loads
+pub mod sizes; // sizes.rt: the loads of every drive size
 
 // A buffer that takes every sheet.
 pub const SHEET_BYTES: usize = 105_000;

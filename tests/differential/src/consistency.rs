@@ -9,6 +9,7 @@ use crate::generate::{JOB, PLAN_MADE, PLAN_READ};
 use crate::parts;
 use crate::random::Random;
 use crate::reference::*;
+use crate::sizes;
 use crate::states::Made;
 use crate::ties;
 use crate::tuned;
@@ -1020,6 +1021,23 @@ fn refused_without_tests(case: &Case) -> Option<Result<(), Refusal>> {
             assert!(package_order(*capacity, wants).is_empty());
             Ok(())
         }
+        Case::AllSizes {
+            curves,
+            wants,
+            order,
+        } => {
+            let answer = sizes::all_sizes(*curves, wants, order);
+            answer.map(|counts| assert_eq!(counts, [Some(0); 64]))
+        }
+        Case::FewestPlaces {
+            curves,
+            wants,
+            order,
+            loads,
+        } => {
+            let answer = sizes::fewest_places(*curves, wants, order, loads[0]);
+            answer.map(|places| assert_eq!(places, Some(1)))
+        }
         _ => return None,
     })
 }
@@ -1067,7 +1085,7 @@ fn the_first_fault_without_tests_decides() {
         }
     }
     // All that are handed numbers or lists and may refuse, the steps fetched, and the packages.
-    assert_eq!(functions.len(), 13, "{functions:?}");
+    assert_eq!(functions.len(), 15, "{functions:?}");
 }
 
 #[test]

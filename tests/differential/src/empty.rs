@@ -1,6 +1,7 @@
 //! Lists without tests (wish 3): cases of them for every function that has to do with a list of
 //! tests, and what is faulty in such a case.
 
+use crate::drives;
 use crate::generate::{
     self, any_booked, any_number, any_set, lent, with_booked, with_ending, Case, Ending, Job, Size,
     SomePlan, ENDINGS, FUNCTIONS, PLAN_ORDER, WILD, WILD_METHODS,
@@ -19,7 +20,8 @@ pub fn without_tests(case: &Case) -> Option<bool> {
         Case::ReadJob { job, .. }
         | Case::Call { job, .. }
         | Case::Sheet { job, .. }
-        | Case::Audit { job, .. } => Some(gives_no_tests(job)),
+        | Case::Audit { job, .. }
+        | Case::SizeTable { job, .. } => Some(gives_no_tests(job)),
         Case::WriteJob { wants, .. }
         | Case::OrderTests { wants, .. }
         | Case::PlanOrder { wants, .. }
@@ -29,7 +31,9 @@ pub fn without_tests(case: &Case) -> Option<bool> {
         | Case::ExamineBy { wants, .. }
         | Case::ExamineSizes { wants, .. }
         | Case::PackageOrder { wants, .. }
-        | Case::MakeState { wants, .. } => Some(wants.is_empty()),
+        | Case::MakeState { wants, .. }
+        | Case::AllSizes { wants, .. }
+        | Case::FewestPlaces { wants, .. } => Some(wants.is_empty()),
         Case::Walk { list, .. } => Some(list.wants.is_empty()),
         Case::Look { state } | Case::Commit { state, .. } => Some(Any::new(state).tests == 0),
         Case::ReadPlan { tests, .. }
@@ -424,6 +428,21 @@ pub fn case(function: usize, random: &mut Random) -> Option<Case> {
             order_len: any_length(random),
         },
         "make_state" => return case(PLAN_ORDER, random).map(walks::instead_of_planning),
+        "all_sizes" => Case::AllSizes {
+            curves: number(random, 1, 64, 64, &WILD),
+            wants: vec![],
+            order: order(random),
+        },
+        "fewest_places" => Case::FewestPlaces {
+            curves: number(random, 1, 64, 64, &WILD),
+            wants: vec![],
+            order: order(random),
+            loads: vec![0, any_number(random), usize::MAX],
+        },
+        "size_table" => {
+            let job = job_bytes(random);
+            drives::table_of(random, job)
+        }
         _ => return None,
     })
 }
@@ -474,7 +493,9 @@ pub fn faults(case: &Case) -> Vec<&'static str> {
         }
         Case::ReadPlan { curves, .. }
         | Case::StepBytes { curves, .. }
-        | Case::ExamineCounts { curves, .. } => note(outside(*curves), "10:1"),
+        | Case::ExamineCounts { curves, .. }
+        | Case::AllSizes { curves, .. }
+        | Case::FewestPlaces { curves, .. } => note(outside(*curves), "10:1"),
         _ => {}
     }
     match case {
@@ -525,6 +546,9 @@ pub fn faults(case: &Case) -> Vec<&'static str> {
             ..
         } => {
             note(!parts::inside(*held, parts::below(*curves)), "14");
+            note(!order.is_empty(), "8");
+        }
+        Case::AllSizes { order, .. } | Case::FewestPlaces { order, .. } => {
             note(!order.is_empty(), "8");
         }
         _ => {}

@@ -2,6 +2,7 @@
 
 use crate::booked;
 use crate::degrees;
+use crate::drives;
 use crate::empty;
 use crate::holding;
 use crate::parts;
@@ -179,6 +180,25 @@ pub enum Case {
         list: List,
         moves: Vec<Move>,
     },
+    /// Beside the single plans of all sizes. 64 counts are lent.
+    AllSizes {
+        curves: usize,
+        wants: Vec<u64>,
+        order: Vec<u16>,
+    },
+    /// For each of these wanted counts.
+    FewestPlaces {
+        curves: usize,
+        wants: Vec<u64>,
+        order: Vec<u16>,
+        loads: Vec<usize>,
+    },
+    SizeTable {
+        job: Vec<u8>,
+        asked: usize,
+        loads: usize,
+        out_len: usize,
+    },
 }
 
 #[derive(Clone, Copy, Debug, PartialEq, Eq)]
@@ -218,7 +238,7 @@ pub(crate) const PLAN_ORDER: usize = 3;
 /// host's own call, and `walk` is none: making a state, looks and commits, and planning beside them.
 /// What tells a refusal's number and figure has no cases of its own: every refusal is answered, or
 /// printed, through it, and each of them occurs.
-pub const FUNCTIONS: [&str; 36] = [
+pub const FUNCTIONS: [&str; 39] = [
     "read_job",
     "write_job",
     "order_tests",
@@ -255,16 +275,20 @@ pub const FUNCTIONS: [&str; 36] = [
     "look",
     "commit",
     "walk",
+    "all_sizes",
+    "fewest_places",
+    "size_table",
 ];
 
-/// How often each function gets a case, of 1,120.
-const SHARES: [usize; 36] = [
+/// How often each function gets a case, of 1,200.
+const SHARES: [usize; 39] = [
     106, 64, 96, 96, 88, 72, 86, 48, 96, 44, 50, // bytes, orders, plans and texts
     14, 14, 10, 14, // examinations
     20, 6, 6, 14, // sets in bytes
     2, 4, 10, // lists of tests
     4, 4, 4, 4, 4, 4, 4, 4, 4, 4, // sets
     36, 20, 24, 40, // states
+    32, 20, 28, // all drive sizes
 ];
 
 impl Case {
@@ -297,6 +321,9 @@ impl Case {
             Case::Look { .. } => 33,
             Case::Commit { .. } => 34,
             Case::Walk { .. } => 35,
+            Case::AllSizes { .. } => 36,
+            Case::FewestPlaces { .. } => 37,
+            Case::SizeTable { .. } => 38,
         }
     }
 
@@ -457,6 +484,19 @@ impl Case {
                 number("curves", *curves);
             }
             Case::GroupMap { .. } | Case::SetLen { .. } => {}
+            Case::AllSizes { curves, .. } | Case::FewestPlaces { curves, .. } => {
+                number("curves", *curves)
+            }
+            Case::SizeTable {
+                asked,
+                loads,
+                out_len,
+                ..
+            } => {
+                number("asked", *asked);
+                number("loads", *loads);
+                number("out_len", *out_len);
+            }
             Case::PutSet { out_len, .. } => number("out_len", *out_len),
             Case::Reverse { length } => number("length", *length),
             Case::ListedOrder { tests, order_len } => {
@@ -484,9 +524,10 @@ impl Case {
             let _ = writeln!(text, "  {name} ({}) = {}", entries.len(), entries.join(" "));
         };
         match self {
-            Case::ReadJob { job, .. } | Case::Call { job, .. } | Case::Sheet { job, .. } => {
-                list("job", hex_bytes(job))
-            }
+            Case::ReadJob { job, .. }
+            | Case::Call { job, .. }
+            | Case::Sheet { job, .. }
+            | Case::SizeTable { job, .. } => list("job", hex_bytes(job)),
             Case::Audit { job, plan, .. } => {
                 list("job", hex_bytes(job));
                 list("plan", hex_bytes(plan));
@@ -511,6 +552,10 @@ impl Case {
             } => {
                 list("wants", hex_sets(wants));
                 list("held", hex_sets(&[*held]));
+                list("order", hex_order(order));
+            }
+            Case::AllSizes { wants, order, .. } | Case::FewestPlaces { wants, order, .. } => {
+                list("wants", hex_sets(wants));
                 list("order", hex_order(order));
             }
             Case::Walk { list: made, moves } => {
@@ -558,6 +603,9 @@ impl Case {
                 "positions",
                 positions.iter().map(usize::to_string).collect(),
             );
+        }
+        if let Case::FewestPlaces { loads, .. } = self {
+            list("loads", loads.iter().map(usize::to_string).collect());
         }
         text
     }
@@ -2609,6 +2657,9 @@ pub fn case_of(function: usize, size: Size, random: &mut Random) -> Case {
         33 => walks::look_case(random),
         34 => walks::commit_case(random),
         35 => walks::walk_case(random, size),
+        36 => drives::sizes_case(random, size),
+        37 => drives::fewest_case(random, size),
+        38 => drives::table_case(random, size),
         _ => {
             let mut a = any_set(random);
             let mut b = beside(random, a);

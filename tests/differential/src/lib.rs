@@ -1,13 +1,15 @@
 //! An independent implementation of the curve planner's papers (`reference`), of lists that are carried
-//! out step by step (`states`) and of the small public functions below it (`parts`), where its tie rule
-//! matters (`ties`), two fast implementations for the benchmark (`tuned`, and in C `fast`), random inputs
-//! (`generate`), among them lists without tests (`empty`), lists with large degrees (`degrees`), drives
-//! with booked places (`booked`), drives that hold something at the start (`holding`), lists carried out
-//! (`walks`) and jobs with the withdrawn method (`withdrawn`), and the library under test (`product`, only
+//! out step by step (`states`), of the load counts of all drive sizes (`sizes`) and of the small public
+//! functions below it (`parts`), where its tie rule matters (`ties`), two fast implementations for the
+//! benchmark (`tuned`, and in C `fast`), random inputs (`generate`), among them lists without tests
+//! (`empty`), lists with large degrees (`degrees`), drives with booked places (`booked`), drives that hold
+//! something at the start (`holding`), lists carried out (`walks`), jobs with the withdrawn method
+//! (`withdrawn`) and lists for drives of all sizes (`drives`), and the library under test (`product`, only
 //! with the feature of that name).
 
 pub mod booked;
 pub mod degrees;
+pub mod drives;
 pub mod empty;
 pub mod fast;
 pub mod generate;
@@ -15,6 +17,7 @@ pub mod holding;
 pub mod parts;
 pub mod random;
 pub mod reference;
+pub mod sizes;
 pub mod states;
 pub mod ties;
 pub mod tuned;
@@ -26,6 +29,8 @@ pub mod product;
 
 #[cfg(test)]
 mod consistency;
+#[cfg(test)]
+mod every_size;
 #[cfg(test)]
 mod examples;
 #[cfg(test)]

@@ -15,11 +15,12 @@
 //! a place where a list is cut halfway, of states a kind of made ones, two faults, a kind of move, step
 //! or wrong position of a walk, or a kind of numbers that were not made, or of commits of these, or of the
 //! withdrawn method 2 a kind of job bytes or handed number, two faults, or a way in which another method
-//! gives another order; also if a kind of degrees, of looks and commits, or of the withdrawn method was
-//! reached too seldom.
+//! gives another order, of all drive sizes a kind of list, fault, wanted count or table; also if a kind of
+//! degrees, of looks and commits, of the withdrawn method, or of all drive sizes was reached too seldom.
 
 use differential::booked;
 use differential::degrees;
+use differential::drives;
 use differential::empty;
 use differential::generate::{
     self, Case, Ending, SetFunction, SomePlan, ENDINGS, FUNCTIONS, JOB, PLAN_MADE, PLAN_READ, SHEET,
@@ -28,6 +29,7 @@ use differential::holding;
 use differential::parts::{self, GroupRead};
 use differential::random::{mix, Random};
 use differential::reference::{self, PlannedJob, Refusal, Refused};
+use differential::sizes::{self, Table, MARK, SIZES};
 use differential::states::{self, Any, Made, Shown};
 use differential::ties;
 use differential::tuned;
@@ -96,6 +98,13 @@ trait Subject {
     /// The answer, drops and loads; of a commit too.
     fn look(&self, _state: &mut [u64]) -> Option<[u64; 3]> { None }
     fn commit(&self, _state: &mut [u64], _position: usize) -> Option<[u64; 3]> { None }
+    /// 64 counts are lent.
+    fn all_sizes(&self, _curves: usize, _wants: &[u64], _order: &[u16], _counts: &mut [u16])
+        -> Option<u64> { None }
+    fn fewest_places(&self, _curves: usize, _wants: &[u64], _order: &[u16], _loads: usize)
+        -> Option<u64> { None }
+    fn size_table(&self, _job: &[u8], _asked: usize, _loads: usize, _out: &mut [u8])
+        -> Option<u64> { None }
 }
 
 struct Tuned;
@@ -106,6 +115,18 @@ impl Subject for Tuned {
     }
     fn call(&self, job: &[u8], plan: &mut [u8]) -> Option<u64> {
         Some(tuned::call(job, plan))
+    }
+    /// It examines nothing.
+    fn all_sizes(
+        &self,
+        curves: usize,
+        wants: &[u64],
+        order: &[u16],
+        counts: &mut [u16],
+    ) -> Option<u64> {
+        sizes::examined(curves, wants, order).ok()?;
+        counts.copy_from_slice(&tuned::all_sizes(wants, order));
+        Some(0)
     }
 }
 
@@ -217,6 +238,18 @@ impl Subject for Product {
     fn commit(&self, state: &mut [u64], position: usize) -> Option<[u64; 3]> {
         let step = product::commit(product::State::of(state), position);
         Some([step.answer, step.drops, step.loads])
+    }
+    fn all_sizes(&self, curves: usize, wants: &[u64], order: &[u16], counts: &mut [u16])
+        -> Option<u64> {
+        let counts = counts.try_into().expect("64 counts are lent");
+        Some(product::all_sizes(curves, wants, order, counts))
+    }
+    fn fewest_places(&self, curves: usize, wants: &[u64], order: &[u16], loads: usize)
+        -> Option<u64> {
+        Some(product::fewest_places(curves, wants, order, loads))
+    }
+    fn size_table(&self, job: &[u8], asked: usize, loads: usize, out: &mut [u8]) -> Option<u64> {
+        Some(product::size_table(job, asked, loads, out))
     }
 }
 
@@ -1229,6 +1262,103 @@ fn run(case: &Case, random: &mut Random, subjects: &[Box<dyn Subject>]) -> Verdi
             }
             walks::end_of(&made).to_string()
         }
+        Case::AllSizes {
+            curves,
+            wants,
+            order,
+        } => {
+            let list = drives::list_of(case).expect("a list is handed over");
+            let answer = sizes::all_sizes(*curves, wants, order);
+            notes.extend(all(
+                SIZED_FAULTS,
+                drives::fault_kinds(&list, &SIZED_FAULT_NAMES),
+            ));
+            notes.extend(all(SIZED_ORDERS, drives::position_kind(&list, &answer)));
+            if let Ok(counts) = &answer {
+                notes.extend(all(SIZED_LISTS, drives::kinds(&list, counts)));
+                let marks = counts.iter().filter(|count| count.is_none()).count();
+                notes.push((SINGLE_PLANS, "counts", (SIZES - marks) as u64));
+                notes.push((SINGLE_PLANS, "refused:7", marks as u64));
+            } else {
+                notes.push((SINGLE_PLANS, "refused-alike", 1));
+            }
+            let number = number_of(&answer, |_| 0);
+            let counts = answer.as_ref().map(|counts| sizes::numbers(counts));
+            let result = counts.as_ref().map_or(&[][..], |counts| &counts[..]);
+            for subject in subjects {
+                let mut counts = Lent::new("counts", random, SIZES, result);
+                let found = subject.all_sizes(*curves, wants, order, counts.part());
+                let mut result = found.map(|found| compare(number, found, &[counts.difference()]));
+                if let Some(Ok(())) = result {
+                    let found = (number, &*counts.part());
+                    result = Some(single_plans(subject.as_ref(), &list, found));
+                }
+                results.push(result);
+            }
+            outcome(&answer)
+        }
+        Case::FewestPlaces {
+            curves,
+            wants,
+            order,
+            loads,
+        } => {
+            let list = drives::list_of(case).expect("a list is handed over");
+            let answer = sizes::all_sizes(*curves, wants, order);
+            notes.extend(all(
+                FEWEST_FAULTS,
+                drives::fault_kinds(&list, &SIZED_FAULT_NAMES),
+            ));
+            notes.extend(all(FEWEST_ORDERS, drives::position_kind(&list, &answer)));
+            for &loads in loads {
+                if let Ok(counts) = &answer {
+                    let kinds = drives::wanted_kinds(&list, counts, loads);
+                    notes.extend(all(FEWEST_WANTED, kinds));
+                }
+            }
+            for subject in subjects {
+                let mut result = None;
+                for &loads in loads {
+                    // 0 for none.
+                    let places = |counts: &sizes::Counts| sizes::fewest(counts, loads).unwrap_or(0);
+                    let number = number_of(&answer, |counts| places(counts) as u64);
+                    let found = subject.fewest_places(*curves, wants, order, loads);
+                    result = found.map(|found| {
+                        compare(number, found, &[])
+                            .map_err(|text| format!("for {loads} loads: {text}"))
+                    });
+                    if !matches!(result, Some(Ok(()))) {
+                        break;
+                    }
+                }
+                results.push(result);
+            }
+            outcome(&answer)
+        }
+        Case::SizeTable {
+            job,
+            asked,
+            loads,
+            out_len,
+        } => {
+            let table = Table::new(job);
+            let wanted = sizes::wanted(*asked, *loads);
+            let text = sizes::table_text(&table, wanted);
+            let answer = reference::written(&text, *out_len);
+            let number = number_of(&answer, |bytes| bytes.len() as u64);
+            let bytes = answer.unwrap_or_default();
+            for subject in subjects {
+                let mut out = Lent::new("out", random, *out_len, &bytes);
+                let found = subject.size_table(job, *asked, *loads, out.part());
+                results.push(found.map(|found| compare(number, found, &[out.difference()])));
+            }
+            let kinds = drives::table_kinds(job, &table, wanted, *asked, *out_len);
+            notes.extend(all(TABLES_WRITTEN, kinds));
+            let refused = table.as_ref().err();
+            let short = drives::short_kind(text.len(), refused, *out_len);
+            notes.extend(all(TABLES_SHORT, short));
+            text_outcome(&text, *out_len)
+        }
     };
     if empty::without_tests(case) == Some(true) {
         notes.extend(notes_without_tests(case, &outcome));
@@ -1321,6 +1451,43 @@ impl ReadAgain {
         let ordered = compare(number, found, &[order.difference()]);
         Some(ordered.map_err(|text| format!("{text}of ordering what was read\n")))
     }
+}
+
+/// The counts of all sizes, or the refusal, beside the single plans that the subject itself makes: the
+/// same count, 7 exactly for a mark, and the same refusal whatever the places.
+fn single_plans(
+    subject: &dyn Subject,
+    list: &drives::List,
+    (answer, counts): (u64, &[u16]),
+) -> Result<(), String> {
+    let (wants, order) = (&list.wants, &list.order);
+    let (mut drops, mut loads, mut end) = (vec![0; wants.len()], vec![0; wants.len()], 0);
+    for (places, &count) in (1..).zip(counts) {
+        let planned = subject.plan_order(
+            places,
+            0,
+            list.curves,
+            wants,
+            0,
+            order,
+            &mut drops,
+            &mut loads,
+            &mut end,
+        );
+        let Some(planned) = planned else {
+            break;
+        };
+        let wider = |want: &u64| parts::size(*want) > places as u64;
+        let expected = match wants.iter().position(wider) {
+            _ if answer != 0 => answer,
+            Some(test) if count == MARK => refused(7, test as u64),
+            _ => count as u64,
+        };
+        compare(expected, planned, &[]).map_err(|text| {
+            format!("of all sizes (first) and the plan for {places} places: {text}")
+        })?;
+    }
+    Ok(())
 }
 
 /// The outcome's name of a look or a commit.
@@ -1638,7 +1805,7 @@ static TOLD_TABLES: LazyLock<Vec<ToldTable>> = LazyLock::new(|| {
     let (two_plain, two_with_method) = (two_of(&PLAIN), two_of(&WITH_METHOD));
     let (two_with_buffer, two_with_order) = (two_of(&WITH_BUFFER), two_of(&WITH_ORDER));
     let (two_with_plan, two_with_both) = (two_of(&WITH_PLAN), two_of(&WITH_PLAN_AND_BUFFER));
-    let tables: [(&str, Told, &str, &[&'static str]); 31] = [
+    let tables: [(&str, Told, &str, &[&'static str]); 35] = [
         ("read_job", Told::Head, "jobs read, without tests", &HEADS),
         ("read_job", Told::Lent, "jobs read, without tests, list lent", &LENT),
         ("write_job", Told::Lent, "jobs written, without tests, buffer lent", &LENT),
@@ -1670,6 +1837,10 @@ static TOLD_TABLES: LazyLock<Vec<ToldTable>> = LazyLock::new(|| {
         ("listed_order", Told::Lent, "listed orders, without tests, list lent", &LENT),
         ("package_order", Told::Lent, "package orders, without tests, list lent", &LENT),
         ("make_state", Told::Twice, "states made, without tests, two faults", &two_with_order),
+        ("all_sizes", Told::Twice, "all sizes, without tests, two faults", &["10:1+8"]),
+        ("fewest_places", Told::Twice, "fewest places, without tests, two faults", &["10:1+8"]),
+        ("size_table", Told::Head, "tables, without tests", &HEADS),
+        ("size_table", Told::Lent, "tables, without tests, buffer lent", &LENT),
     ];
     tables.map(|(function, told, title, names)| (function, told, title, names.to_vec())).to_vec()
 });
@@ -1726,6 +1897,16 @@ fn lengths_lent(case: &Case) -> Option<(usize, Vec<usize>)> {
         } => (0, vec![*order_len, *drops_len, *loads_len]),
         Case::Call { plan_len, .. } => (0, vec![*plan_len]),
         Case::Sheet { job, out_len } => (reference::sheet(job).len(), vec![*out_len]),
+        Case::SizeTable {
+            job,
+            asked,
+            loads,
+            out_len,
+        } => {
+            let wanted = sizes::wanted(*asked, *loads);
+            let text = sizes::table_text(&Table::new(job), wanted);
+            (text.len(), vec![*out_len])
+        }
         Case::Audit {
             job, plan, out_len, ..
         } => {
@@ -1743,7 +1924,8 @@ fn told_without_tests(case: &Case, outcome: &str) -> Vec<(Told, String)> {
         Case::ReadJob { job, .. }
         | Case::Call { job, .. }
         | Case::Sheet { job, .. }
-        | Case::Audit { job, .. } => told.push((Told::Head, kind_of_head(job))),
+        | Case::Audit { job, .. }
+        | Case::SizeTable { job, .. } => told.push((Told::Head, kind_of_head(job))),
         Case::OrderTests { method, .. } if outcome == "ok" => {
             told.push((Told::Method, format!("method-{method}")));
         }
@@ -1804,7 +1986,7 @@ fn notes_without_tests(case: &Case, outcome: &str) -> Vec<Note> {
 // The run
 
 const SEED: u64 = 20_260_101;
-const CASES: u64 = 168_000;
+const CASES: u64 = 180_000;
 
 /// From this number of cases on, a run ends with 2 if something was never reached, or too seldom.
 const MANY: u64 = 100_000;
@@ -1908,8 +2090,20 @@ const WALKED_MOVES: &str = "walks, moves";
 const WALKED_STEPS: &str = "walks, steps committed";
 const WALKED_WRONG: &str = "walks, positions of wrong commits";
 const WALKED_DONE: &str = "walks, positions of commits when done";
+/// All drive sizes: faults in what is handed over, where 8 is, and kinds of lists.
+const SIZED_FAULTS: &str = "all sizes, faults";
+const SIZED_ORDERS: &str = "all sizes, refused 8 at";
+const SIZED_LISTS: &str = "all sizes";
+/// What the single plans of all sizes have to answer, if the subject makes any.
+const SINGLE_PLANS: &str = "all sizes, single plans";
+const FEWEST_FAULTS: &str = "fewest places, faults";
+const FEWEST_ORDERS: &str = "fewest places, refused 8 at";
+const FEWEST_WANTED: &str = "fewest places, wanted counts";
+const TABLES_WRITTEN: &str = "tables";
+const TABLES_SHORT: &str = "tables, buffer too short";
 
 static FAULT_NAMES: LazyLock<Vec<&'static str>> = LazyLock::new(walks::fault_names);
+static SIZED_FAULT_NAMES: LazyLock<Vec<&'static str>> = LazyLock::new(drives::fault_names);
 
 /// For each function that is handed booked places: its number, the titles of their values and of a fault
 /// of theirs beside another one, and what else it can refuse.
@@ -1964,7 +2158,7 @@ const HELD_TABLES: [(usize, &str, &str); 4] = [
 ];
 
 /// How often each name of these tables has to be met; of the others once is enough.
-const LEAST: [(&str, u64); 14] = [
+const LEAST: [(&str, u64); 20] = [
     (ORDERED_DEGREES, 5),
     (CALL_DEGREES, 5),
     (SHEET_DEGREES, 5),
@@ -1979,6 +2173,12 @@ const LEAST: [(&str, u64); 14] = [
     (WALKED_STEPS, 100),
     (WALKED_WRONG, 200),
     (WALKED_DONE, 100),
+    (SIZED_LISTS, 5),
+    (SINGLE_PLANS, 1_000),
+    (FEWEST_WANTED, 50),
+    (TABLES_WRITTEN, 2),
+    (TABLES_SHORT, 10),
+    (SIZED_ORDERS, 20),
 ];
 
 /// What is counted beside the outcomes: the function, the title and the names.
@@ -1993,7 +2193,7 @@ fn tables() -> Vec<(&'static str, &'static str, Vec<&'static str>)> {
     let jobs_old = [&withdrawn::JOBS[..], &[withdrawn::SHORT]].concat();
     let jobs_ordered = [&["done", "refused:7"][..], &withdrawn::ORDERS].concat();
     let orders_audited = [&withdrawn::ORDERS[..], &withdrawn::AUDITED].concat();
-    let tables: [(&str, &str, &[&str]); 70] = [
+    let tables: [(&str, &str, &[&str]); 79] = [
         ("read_job", READ_BOOKED, &jobs_read),
         ("read_job", READ_LENGTHS, &booked::LONGEST),
         ("read_job", READ_OLD, &jobs_old),
@@ -2064,6 +2264,15 @@ fn tables() -> Vec<(&'static str, &'static str, Vec<&'static str>)> {
         ("walk", WALKED_STEPS, &walks::STEPS),
         ("walk", WALKED_WRONG, &walks::WRONG),
         ("walk", WALKED_DONE, &walks::AFTER_DONE),
+        ("all_sizes", SIZED_FAULTS, &SIZED_FAULT_NAMES),
+        ("all_sizes", SIZED_ORDERS, &drives::POSITIONS),
+        ("all_sizes", SIZED_LISTS, &drives::LISTS),
+        ("all_sizes", SINGLE_PLANS, &["counts", "refused:7", "refused-alike"]),
+        ("fewest_places", FEWEST_FAULTS, &SIZED_FAULT_NAMES),
+        ("fewest_places", FEWEST_ORDERS, &drives::POSITIONS),
+        ("fewest_places", FEWEST_WANTED, &drives::WANTED),
+        ("size_table", TABLES_WRITTEN, &drives::TABLES),
+        ("size_table", TABLES_SHORT, &drives::SHORT),
     ];
     let told = TOLD_TABLES.iter().map(|(function, _, title, names)| (*function, *title, names.clone()));
     let tables = tables.map(|(function, title, names)| (function, title, names.to_vec()));
@@ -2128,6 +2337,9 @@ const OUTCOMES: [&[&str]; FUNCTIONS.len()] = [
     &["done", "step", "end"],
     &["step", "end", "15"],
     &walks::ENDS,
+    &["ok", "8", "10:1", "10:2", "10:4+"],
+    &["ok", "8", "10:1", "10:2", "10:4+"],
+    &["ok", "1", "2", "3", "4", "6", "7", "13", "9:ok", "9:job"],
 ];
 
 /// What each function can come out with where the list has no tests; nothing where a function has to
@@ -2170,6 +2382,9 @@ const OUTCOMES_WITHOUT_TESTS: [&[&str]; FUNCTIONS.len()] = [
     &["done", "end"],
     &["end", "15"],
     &["end-step-alone", "done-at-once"],
+    &["ok", "8", "10:1"],
+    &["ok", "8", "10:1"],
+    &["ok", "1", "2", "6", "13", "9:ok", "9:job"],
 ];
 
 const SETS: [&str; 3] = ["empty", "some", "full"];

@@ -4,9 +4,11 @@
 //! `number << 48 | figure`; an examination that passes and a group that is read answer 0.
 //! `curveplan_plan` is the exception: it is the C host's own call and answers
 //! `number * 65536 + figure`. A text tells of the refusals of job and plan itself, so
-//! `curveplan_sheet` and `curveplan_audit` refuse nothing but a buffer that is too short.
+//! `curveplan_sheet`, `curveplan_audit` and `curveplan_size_table` refuse nothing but a buffer that is
+//! too short. The counts of all drive sizes are 64 numbers, lent without their length.
 
 use crate::generate::SetFunction;
+use crate::sizes::SIZES;
 use crate::states::{ENTRIES, NUMBERS};
 use std::mem::{offset_of, size_of};
 
@@ -189,6 +191,30 @@ extern "C" {
         out: *mut u8,
         out_len: usize,
     ) -> u64;
+    fn curveplan_all_sizes(
+        curves: usize,
+        wants: *const u64,
+        wants_len: usize,
+        order: *const u16,
+        order_len: usize,
+        counts: *mut u16,
+    ) -> u64;
+    fn curveplan_fewest_places(
+        curves: usize,
+        wants: *const u64,
+        wants_len: usize,
+        order: *const u16,
+        order_len: usize,
+        loads: usize,
+    ) -> u64;
+    fn curveplan_size_table(
+        job: *const u8,
+        job_len: usize,
+        asked: usize,
+        loads: usize,
+        out: *mut u8,
+        out_len: usize,
+    ) -> u64;
     fn curveplan_examine(
         places: usize,
         booked: usize,
@@ -239,8 +265,8 @@ extern "C" {
 }
 
 // Safety of all calls below: every pointer comes from a live slice and goes with that slice's own
-// length, or is that of the one number lent for a group's or an end step's set, or of the numbers of
-// a state; what is lent for writing is borrowed alone.
+// length, or is that of the one number lent for a group's or an end step's set, of the numbers of a
+// state, or of the 64 counts of all drive sizes; what is lent for writing is borrowed alone.
 
 pub fn read_job(job: &[u8], wants: &mut [u64]) -> JobHead {
     unsafe { curveplan_read_job(job.as_ptr(), job.len(), wants.as_mut_ptr(), wants.len()) }
@@ -468,6 +494,45 @@ pub fn audit(job: &[u8], plan: &[u8], out: &mut [u8]) -> u64 {
             job.len(),
             plan.as_ptr(),
             plan.len(),
+            out.as_mut_ptr(),
+            out.len(),
+        )
+    }
+}
+
+pub fn all_sizes(curves: usize, wants: &[u64], order: &[u16], counts: &mut [u16; SIZES]) -> u64 {
+    unsafe {
+        curveplan_all_sizes(
+            curves,
+            wants.as_ptr(),
+            wants.len(),
+            order.as_ptr(),
+            order.len(),
+            counts.as_mut_ptr(),
+        )
+    }
+}
+
+pub fn fewest_places(curves: usize, wants: &[u64], order: &[u16], loads: usize) -> u64 {
+    unsafe {
+        curveplan_fewest_places(
+            curves,
+            wants.as_ptr(),
+            wants.len(),
+            order.as_ptr(),
+            order.len(),
+            loads,
+        )
+    }
+}
+
+pub fn size_table(job: &[u8], asked: usize, loads: usize, out: &mut [u8]) -> u64 {
+    unsafe {
+        curveplan_size_table(
+            job.as_ptr(),
+            job.len(),
+            asked,
+            loads,
             out.as_mut_ptr(),
             out.len(),
         )

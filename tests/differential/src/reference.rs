@@ -372,7 +372,7 @@ pub fn examine_sizes(capacity: usize, wants: &[u64]) -> Answer<()> {
 }
 
 /// Refusal 8.
-fn each_test_once(tests: usize, order: &[u16]) -> Answer<()> {
+pub(crate) fn each_test_once(tests: usize, order: &[u16]) -> Answer<()> {
     let mut faults = Vec::new();
     for (position, &test) in order.iter().enumerate() {
         if test as usize >= tests || order[..position].contains(&test) {
@@ -1094,7 +1094,7 @@ fn curve_list(bits: u64) -> String {
     }
 }
 
-fn refused_text(no: &Refusal) -> String {
+pub(crate) fn refused_text(no: &Refusal) -> String {
     format!("refused {} at {}\n", no.number, no.figure)
 }
 

@@ -1,8 +1,9 @@
-//! The stored cases of the sheet and audit programs, as the papers have them. None prints the number
+//! The stored cases of the sheet, audit and sizes programs, as the papers have them. None prints the number
 //! of the withdrawn refusal.
 
 use crate::generate::{JOB, PLAN_MADE, PLAN_READ, SHEET};
 use crate::reference::*;
+use crate::sizes::{printed, Table};
 use crate::ties::both_plans;
 use crate::withdrawn::{field_of_2, written_back};
 use std::collections::BTreeSet;
@@ -55,6 +56,45 @@ fn audits() {
         assert_eq!(audit_text(&answer), printed, "{name}");
         assert!(!printed.contains("refused 5 "), "{name}");
     }
+}
+
+/// The cases of the sizes program; some have an argument, which is one line.
+#[test]
+fn tables() {
+    let (mut names, mut arguments) = (BTreeSet::new(), BTreeSet::new());
+    let mut outputs = BTreeSet::new();
+    for file in fs::read_dir(folder("sizes")).unwrap() {
+        let file = file.unwrap().file_name().into_string().unwrap();
+        let (name, ending) = file.split_once('.').unwrap();
+        match ending {
+            "args" => arguments.insert(name.to_string()),
+            "job" => names.insert(name.to_string()),
+            _ => outputs.insert((name.to_string(), ending.to_string())),
+        };
+    }
+    assert!(arguments.is_subset(&names));
+    let output = |name: &String| (name.clone(), "out".to_string());
+    assert_eq!(outputs, names.iter().map(output).collect());
+    let mut told = BTreeSet::new();
+    for name in &names {
+        let job = stored("sizes", name, "job");
+        let argument = arguments.contains(name).then(|| {
+            let line = stored("sizes", name, "args");
+            line.strip_suffix(b"\n").expect("one line").to_vec()
+        });
+        let text = String::from_utf8(stored("sizes", name, "out")).unwrap();
+        assert_eq!(printed(argument.as_deref(), &job), text, "{name}");
+        assert!(!text.contains("refused 5 "), "{name}");
+        told.insert(match text.split(' ').next().unwrap() {
+            "sizes" => "usage".to_string(),
+            "refused" => text.split(" at ").next().unwrap().to_string(),
+            _ => format!("method {}", Table::new(&job).unwrap().method),
+        });
+    }
+    let refusals = [1, 2, 3, 4, 6, 7, 13].map(|number| format!("refused {number}"));
+    let mut expected: BTreeSet<String> = refusals.into_iter().collect();
+    expected.extend(["usage", "method 0", "method 1", "method 3"].map(str::to_string));
+    assert_eq!(told, expected);
 }
 
 /// The lists without tests: the shortest job, its sheet of two lines, and its plan without bytes.

@@ -10,7 +10,7 @@ use lib.Seq.{getD-set-other}
 use denote.Ref.{now}
 use Rattle.drive.specs.Steps.{loadsOf}
 use Rattle.drive.specs.Plan.{furthest, next, planFrom}
-use Rattle.drive.specs.Contracts.{together}
+use Rattle.drive.specs.Steps.{together}
 use Rattle.drive.proofs.Moves.{length-plan}
 use Rattle.drive.proofs.Turns.{Goes, goes-on, goes-end, sets-over}
 use Rattle.drive.proofs.plan_steps.Statement.{statement}

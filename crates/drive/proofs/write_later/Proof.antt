@@ -8,7 +8,7 @@ use borrow.Author.Needs.{needs}
 use denote.Ref.{now}
 use lib.ListN.{length, getD, drop, set, length-set}
 use lib.Seq.{getD-set-same, getD-set-other}
-use Rattle.drive.specs.Contracts.{together}
+use Rattle.drive.specs.Steps.{together}
 use Rattle.drive.proofs.Turns.{together-end, together-back}
 use Rattle.drive.proofs.write_later.Statement.{statement}
 use Rattle.drive.proofs.write_later.Tie as tie

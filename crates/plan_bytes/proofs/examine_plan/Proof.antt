@@ -2,9 +2,9 @@
 use mathlib.Core.Path.{refl, sym, ap, _∙_}
 use borrow.Author.Needs.{needs}
 use Rattle.job.specs.Refusal.{mapped}
-use Rattle.job.proofs.Examination.{examined-refused, examined-passed}
+use Rattle.job.proofs.Examination.{counts-bounds, examined-refused, examined-passed}
 use Rattle.plan_bytes.specs.Contracts.{endOutcome}
-use Rattle.plan_bytes.proofs.Steps.{counts-refused, counts-passed, counts-bounds}
+use Rattle.plan_bytes.proofs.Steps.{counts-refused, counts-passed}
 use Rattle.plan_bytes.proofs.examine_plan.Statement.{statement}
 use Rattle.plan_bytes.proofs.examine_plan.Tie as tie
 

@@ -6,10 +6,10 @@ use lib.ListN.{length}
 use denote.Ref.{now}
 use borrow.Author.Needs.{needs}
 use Rattle.job.specs.Refusal.{done, refused, mapped}
+use Rattle.job.proofs.Examination.{counts-bounds}
 use Rattle.planning.specs.Plan.{setLists, entries, planOutcome}
 use Rattle.plan_bytes.specs.PlanBytes.{planSteps}
 use Rattle.plan_bytes.proofs.Reading.{end-answered, end-refused}
-use Rattle.plan_bytes.proofs.Steps.{counts-bounds}
 use Rattle.plan_bytes.proofs.ReadPlan.{bytes-counts, bytes-passed, Contract, plan-refused, bad-bytes, too-short, plan-given}
 use Rattle.plan_bytes.proofs.read_plan.Statement.{statement}
 use Rattle.plan_bytes.proofs.read_plan.Tie as tie

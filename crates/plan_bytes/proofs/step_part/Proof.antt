@@ -2,8 +2,7 @@
 use mathlib.Core.Path.{_∙_}
 use native.Mathlib.Omega.{arith}
 use denote.Ref.{now}
-use Rattle.job.proofs.Examination.{examined-refused, examined-passed}
-use Rattle.plan_bytes.proofs.Steps.{counts-bounds}
+use Rattle.job.proofs.Examination.{counts-bounds, examined-refused, examined-passed}
 use Rattle.plan_bytes.proofs.Fetching.{part-uncounted, part-counted}
 use borrow.Author.Needs.{needs}
 use Rattle.plan_bytes.proofs.step_part.Statement.{statement}

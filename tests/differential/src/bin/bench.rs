@@ -9,9 +9,11 @@
 //! jobs, so that no list is learnt by heart by the processor.
 //!
 //! Two more tables have the stages of the call, each timed by itself, of the library and of the C
-//! program. The last one has lists carried out by looks and commits: the library's time for planning a
+//! program. Another one has lists carried out by looks and commits: the library's time for planning a
 //! list at once, and that for making a state and for a look and a commit of each step as ratios, to
-//! planning and to the same by the tuned implementation.
+//! planning and to the same by the tuned implementation. The last one has every drive size: the library's
+//! time for all load counts together, and its ratios to 64 single plans of the library and to the tuned
+//! implementation.
 
 use differential::fast;
 use differential::generate;
@@ -355,16 +357,22 @@ fn committed_tuned(places: usize, wants: &[u64], order: &[u16], sets: &mut Sets)
     }
 }
 
-/// Planning, and looks and commits of the library and of the tuned implementation: the mean time of a
-/// list, in nanoseconds.
+/// The lists of a kind, and their order.
 #[cfg(feature = "product")]
-fn measure_looks(kind: &Kind, tests: usize, rounds: usize, clock: u64) -> [f64; 3] {
+fn lists_of(kind: &Kind, tests: usize) -> (Vec<Vec<u64>>, Vec<u16>) {
     let jobs = kind.jobs(0, tests);
     let mut lists = vec![vec![0; tests]; jobs.len()];
     for (job, wants) in jobs.iter().zip(&mut lists) {
         assert_eq!(product::read_job(job, wants).tests, tests);
     }
-    let order: Vec<u16> = (0..tests as u16).collect();
+    (lists, (0..tests as u16).collect())
+}
+
+/// Planning, and looks and commits of the library and of the tuned implementation: the mean time of a
+/// list, in nanoseconds.
+#[cfg(feature = "product")]
+fn measure_looks(kind: &Kind, tests: usize, rounds: usize, clock: u64) -> [f64; 3] {
+    let (lists, order) = lists_of(kind, tests);
     let ways = [planned, committed, committed_tuned];
     for wants in &lists {
         let [first, second, third] = ways.map(|way| {
@@ -408,6 +416,103 @@ fn print_looks(rounds: usize, clock: u64) {
             cells[0].push(format!("{:.2}", plan / 1_000.0));
             cells[1].push(format!("{:.2}", library / plan));
             cells[2].push(format!("{:.2}", library / tuned));
+        }
+        println!(
+            "| {} | {} | {} |",
+            kind.places,
+            kind.wants(),
+            cells.concat().join(" | ")
+        );
+    }
+}
+
+/// The load counts of all drive sizes.
+#[cfg(feature = "product")]
+type Counts = [u16; 64];
+
+#[cfg(feature = "product")]
+fn sizes_together(wants: &[u64], order: &[u16], counts: &mut Counts) {
+    product::all_sizes(CURVES, wants, order, counts);
+}
+
+/// The same by single plans, those among them that are refused.
+#[cfg(feature = "product")]
+fn sizes_one_by_one(wants: &[u64], order: &[u16], counts: &mut Counts) {
+    let mut sets = Sets::EMPTY;
+    for (places, count) in (1..).zip(counts) {
+        let answer = product::plan_order(
+            places,
+            0,
+            CURVES,
+            wants,
+            0,
+            order,
+            &mut sets.drops,
+            &mut sets.loads,
+            &mut sets.end,
+        );
+        *count = match answer >> 48 {
+            0 => answer as u16,
+            _ => u16::MAX,
+        };
+    }
+    black_box(sets);
+}
+
+#[cfg(feature = "product")]
+fn sizes_tuned(wants: &[u64], order: &[u16], counts: &mut Counts) {
+    *counts = tuned::all_sizes(wants, order);
+}
+
+/// All sizes together, by single plans, and by the tuned implementation: the mean time of a list, in
+/// nanoseconds.
+#[cfg(feature = "product")]
+fn measure_sizes(kind: &Kind, tests: usize, rounds: usize, clock: u64) -> [f64; 3] {
+    let (lists, order) = lists_of(kind, tests);
+    let ways = [sizes_together, sizes_one_by_one, sizes_tuned];
+    let mut counts = [0; 64];
+    for wants in &lists {
+        let [first, second, third] = ways.map(|way| {
+            way(wants, &order, &mut counts);
+            counts
+        });
+        assert_eq!(second, first);
+        assert_eq!(third, first);
+    }
+    let mut least = vec![[u64::MAX; 3]; lists.len()];
+    for round in 0..rounds {
+        for (wants, least) in lists.iter().zip(&mut least) {
+            for turn in 0..ways.len() {
+                let w = (round + turn) % ways.len();
+                note(&mut least[w], clock, || {
+                    ways[w](black_box(wants), &order, &mut counts);
+                    black_box(counts)
+                });
+            }
+        }
+    }
+    [0, 1, 2].map(|w| least.iter().map(|times| times[w]).sum::<u64>() as f64 / lists.len() as f64)
+}
+
+/// The table of every drive size: a row for each kind of list.
+#[cfg(feature = "product")]
+fn print_sizes(rounds: usize, clock: u64) {
+    println!(
+        "\nEvery drive size\n\n| places | wants | all sizes, µs, {0} tests | {1} | {2} \
+         | all sizes / 64 single plans, {0} tests | {1} | {2} | all sizes / tuned, {0} tests | {1} \
+         | {2} |\n|---|---|{3}",
+        TESTS[0],
+        TESTS[1],
+        TESTS[2],
+        "---|".repeat(9)
+    );
+    for kind in kinds() {
+        let mut cells = vec![Vec::new(); 3];
+        for tests in TESTS {
+            let [together, one_by_one, tuned] = measure_sizes(&kind, tests, rounds, clock);
+            cells[0].push(format!("{:.2}", together / 1_000.0));
+            cells[1].push(format!("{:.2}", together / one_by_one));
+            cells[2].push(format!("{:.2}", together / tuned));
         }
         println!(
             "| {} | {} | {} |",
@@ -517,5 +622,6 @@ fn main() {
             print_stages(tests, rounds, clock);
         }
         print_looks(rounds, clock);
+        print_sizes(rounds, clock);
     }
 }

@@ -12,13 +12,14 @@ use Rattle.bitset.specs.Set.{_∩_, _∪_, _∖_, size, bit}
 use Rattle.bitset.proofs.Bits.{bit-∩, bit-∪, bit-∖, same-by-bits, sizes-eq}
 use Rattle.bitset.proofs.Parts.{_≼_}
 use Rattle.drive.specs.Uses.{nextUse}
-use Rattle.drive.specs.Contracts.{together, Grouped}
+use Rattle.drive.specs.Steps.{together}
+use Rattle.drive.specs.Contracts.{Grouped}
 use Rattle.bitset.proofs.Laws.{∩-lt, size-le, size-none}
 use Rattle.bitset.proofs.Element.{some}
 use Rattle.drive.specs.declared.choice.NextUse.{NextUse}
 use Rattle.drive.specs.declared.choice.NextUse.the-variants.{At, Never}
-use Rattle.drive.proofs.Groups.{without-none, together-used, grouped-start, grouped-next, soon-next}
-use Rattle.drive.proofs.Turns.{stepOf, use-wanted, use-later, use-never}
+use Rattle.drive.proofs.Groups.{without-none, grouped-start, grouped-next, soon-next, step-zero, used-ends, Met, one-met}
+use Rattle.drive.proofs.Turns.{stepOf}
 use Rattle.drive.proofs.choice.find_uses.Statement.{statement}
 use Rattle.drive.proofs.choice.find_uses.Tie as tie
 
@@ -37,19 +38,6 @@ Inv-loop candidates used later groups₀ when₀ left₀ count₀ k₀ groups wh
 abbrev μ-loop : tie.MeasureT-loop
 μ-loop candidates used later groups₀ when₀ left₀ count₀ k₀ groups when left count k = length later - k
 
-step-zero : (u : NextUse) → stepOf 0 u ≡ u
-unfolding stepOf
-step-zero Never = refl
-step-zero (At m) = ap At (omega arith)
-
--- a candidate that is left is used in a later step, so there is one
-ends : (x used k : ℕ) (later : List ℕ) → used ≡ together later → bit x used ≡ 1 → nextUse x later ≡ stepOf k (nextUse x (drop k later)) → k < length later
-ends x used k later e i ahead = go (decLe (length later) k)
-  where
-    go : Dec (length later ≤ k) → k < length later
-    go (yes l) = absurd (together-used x later (omega (arith, ap (bit x) e)) (ahead ∙ use-never x k later l))
-    go (no l) = omega arith
-
 some-size : (s : ℕ) → (s ≡ 0 → ⊥) → 0 < size s
 some-size s h = go (size s) refl
   where
@@ -66,41 +54,11 @@ within c =
     let q = c .before .loop in
     let b = c .before .before .before .before .before .before in
     let x = some (q .left) (omega (arith, c .loop-test .taken)) in
-    ends (x .0) (b .args .used) (q .k) _ (b .pre .0) (omega (arith, x .1, q .inv .part (x .0), bit-∩ (x .0) (b .args .candidates) (b .args .used)))
+    used-ends (x .0) (b .args .used) (q .k) _ (b .pre .0) (omega (arith, x .1, q .inv .part (x .0), bit-∩ (x .0) (b .args .candidates) (b .args .used)))
     (q .inv .ahead (x .0) (x .1))
 
 room : (c : tie.In-loop Inv-loop μ-loop) → c .before .loop .count < 64
 room c = omega (arith, c .before .loop .inv .room, some-size (c .before .loop .left) (c .loop-test .taken))
-
--- one step of the walk: what it wants of those left
-record Step (cs left hit k : ℕ) (later : List ℕ) : Type 0 where
-  split : size hit + size (left ∖ hit) ≡ size left
-  others : cs ∖ (left ∖ hit) ≡ cs ∖ left ∪ hit
-  found : (c : ℕ) → bit c hit ≡ 1 → nextUse c later ≡ At k
-  still : (c : ℕ) → bit c (left ∖ hit) ≡ 1 → nextUse c later ≡ stepOf (k + 1) (nextUse c (drop (k + 1) later))
-
-one-step : (cs used left hit k : ℕ) (later : List ℕ) → k < length later → left ≼ cs ∩ used
-    → ((c : ℕ) → bit c left ≡ 1 → nextUse c later ≡ stepOf k (nextUse c (drop k later)))
-    → hit ≡ left ∩ getD later k 0 → Step cs left hit k later
-one-step cs used left hit k later h part ahead e =
-    record {
-      split = omega (arith, sizes-eq (left ∷ []) (hit ∷ left ∖ hit ∷ []) (λ c. omega (arith, wanted c, bit-∖ c left hit)));
-      others = same-by-bits _ _ (λ c. omega (
-        arith,
-        wanted c,
-        part c,
-        bit-∩ c cs used,
-        bit-∖ c cs (left ∖ hit),
-        bit-∖ c left hit,
-        bit-∪ c (cs ∖ left) hit,
-        bit-∖ c cs left,
-      ));
-      found = λ c i. let b = wanted c in ahead c (omega arith) ∙ use-wanted c k later h (omega arith);
-      still = λ c i. let b = wanted c in let d = bit-∖ c left hit in ahead c (omega arith) ∙ use-later c k later h (omega arith);
-    }
-  where
-    wanted : (c : ℕ) → bit c hit ≡ min (bit c left) (bit c (getD later k 0))
-    wanted c = ap (bit c) e ∙ bit-∩ c left (getD later k 0)
 
 loop-holds : tie.Need-loop-holds Inv-loop μ-loop
 loop-holds c =
@@ -143,11 +101,11 @@ slice-write-when c =
 taken : (c : tie.After-common2 Inv-loop μ-loop)
     → let q = c .before .before .before .loop in
     let a = c .before .before .before .before .before .before .before .before .args in
-    Step (a .candidates) (q .left) (c .common2 .result) (q .k) (now (a .later))
+    Met (a .candidates) (q .left) (c .common2 .result) (q .k) (now (a .later))
 taken c =
     let l = c .before .before in
     let i = l .before .loop .inv in
-    one-step _ (l .before .before .before .before .before .before .args .used) _ _ _ _ (within l) (i .part) (i .ahead) (c .common2 .ensures)
+    one-met _ (l .before .before .before .before .before .before .args .used) _ _ _ _ (within l) (i .part) (i .ahead) (c .common2 .ensures)
 
 add-count : tie.Need-add-count Inv-loop μ-loop
 add-count c =

@@ -5,7 +5,7 @@ use native.Mathlib.Omega.{arith}
 use borrow.Author.Needs.{needs}
 use denote.Ref.{now}
 use lib.ListN.{length, drop}
-use Rattle.drive.specs.Contracts.{together}
+use Rattle.drive.specs.Steps.{together}
 use Rattle.drive.proofs.Turns.{together-end, together-back}
 use Rattle.drive.proofs.choice.together.Statement.{statement}
 use Rattle.drive.proofs.choice.together.Tie as tie
