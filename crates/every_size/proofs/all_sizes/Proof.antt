@@ -15,35 +15,16 @@ use Rattle.every_size.specs.Contracts.{sum}
 use Rattle.every_size.proofs.Sizes.{sizes-by, take-min}
 use Rattle.every_size.proofs.all_sizes.Statement.{statement}
 use Rattle.every_size.proofs.all_sizes.Tie as tie
-use Rattle.every_size.proofs.all_sizes.Reads as reads
-use Rattle.every_size.proofs.all_sizes.Lts as lts
-use Rattle.every_size.proofs.entries.Reads as entries-reads
-use Rattle.every_size.proofs.largest.Reads as largest-reads
-use Rattle.every_size.proofs.loads_by_slot.Reads as loads-by-slot-reads
 
 -- 256 steps, or as many as there are
 ends : (c : tie.After-steps) → c .before .if1 .end ≡ min 256 (length (now (c .before .before .before .args .wants)))
 ends c = ⊎-elim (λ w. omega (arith, w .0 .taken, w .1)) (λ w. omega (arith, w .0 .left, w .1)) (c .before .if1 .came)
 
--- src/sizes.rt:176:9
 slice-aggregate-steps : tie.Need-slice-aggregate-steps
 slice-aggregate-steps c = let w = now (c .before .before .before .args .wants) in omega (arith, ends c, length-take (c .before .if1 .end) w)
 
--- src/sizes.rt:177:17
 loads-by-slot-requires : tie.Need-loads-by-slot-requires
 loads-by-slot-requires c κs = let w = now (c .before .before .before .args .wants) in omega (arith, ends c, length-take (c .before .if1 .end) w)
-
--- src/sizes.rt:178:13
-largest-requires : tie.Need-largest-requires
-largest-requires c κs = search needs
-
--- src/sizes.rt:178:29
-slice-aggregate-entries : tie.Need-slice-aggregate-entries
-slice-aggregate-entries c = search needs
-
--- src/sizes.rt:178:5
-entries-requires : tie.Need-entries-requires
-entries-requires c κs = search needs
 
 counted : (ws loads counts : List ℕ) (most : ℕ) → most ≡ largest ws → length counts ≡ 64
     → ((p : ℕ) → 1 ≤ p → p ≤ 64 → sum (drop p loads) ≡ loadCount (planFrom (furthest 64) p 0 ws))
@@ -53,7 +34,6 @@ counted ws loads counts most e long sums made =
     sizes-by 64 ws counts long (λ p o m. made p o m ∙ ap (orMark (leb most p)) (sums p o m)
     ∙ ap (λ (n : ℕ). orMark (leb n p) (loadCount (planFrom (furthest 64) p 0 ws))) e)
 
--- src/sizes.rt:168:1
 returns : tie.Need-returns
 returns c =
     let s = c .before .before .before .before in
@@ -65,11 +45,4 @@ returns c =
 
 pub all-sizes-spec : {M : Type 1} → statement M
 all-sizes-spec =
-    tie.close
-    (tie.spec
-    slice-aggregate-steps
-    loads-by-slot-requires
-    largest-requires
-    slice-aggregate-entries
-    entries-requires
-    returns)
+    tie.close (tie.spec slice-aggregate-steps loads-by-slot-requires (λ c κs. search needs) (λ c. search needs) (λ c κs. search needs) returns)

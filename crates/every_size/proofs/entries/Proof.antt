@@ -12,8 +12,6 @@ use Rattle.every_size.proofs.Loads.{sum-from, sum-le}
 use Rattle.every_size.proofs.Sizes.{Entered, entered-start, entered-count, entered-mark}
 use Rattle.every_size.proofs.entries.Statement.{statement}
 use Rattle.every_size.proofs.entries.Tie as tie
-use Rattle.every_size.proofs.entries.Reads as reads
-use Rattle.every_size.proofs.entries.Lts as lts
 
 abbrev Inv-loop : tie.InvT-loop
 Inv-loop most loads counts₀ total₀ p₀ counts total p = record { few : p ≤ 64; entered : Entered most p total loads counts }
@@ -21,19 +19,12 @@ Inv-loop most loads counts₀ total₀ p₀ counts total p = record { few : p �
 abbrev μ-loop : tie.MeasureT-loop
 μ-loop most loads counts₀ total₀ p₀ counts total p = p
 
--- src/sizes.rt:156:5
 loop-holds : tie.Need-loop-holds Inv-loop μ-loop
 loop-holds c = record { few = omega arith; entered = entered-start _ _ (c .pre .0) }
 
--- src/sizes.rt:157:18
-mul-total : tie.Need-mul-total Inv-loop μ-loop
-mul-total c = search needs
-
--- src/sizes.rt:157:18
 shared-slice-read-total : tie.Need-shared-slice-read-total Inv-loop μ-loop
 shared-slice-read-total c = omega (arith, c .before .before .loop .inv .few, c .before .before .before .pre .0)
 
--- src/sizes.rt:157:9
 add-total : tie.Need-add-total Inv-loop μ-loop
 add-total c =
     let l = c .before .before in
@@ -46,27 +37,9 @@ add-total c =
       l .before .pre .1,
     )
 
--- src/sizes.rt:158:18
-sub-at : tie.Need-sub-at Inv-loop μ-loop
-sub-at c = search needs
-
--- src/sizes.rt:160:13
-mul-counts : tie.Need-mul-counts Inv-loop μ-loop
-mul-counts c = search needs
-
--- src/sizes.rt:160:13
 array-write-counts : tie.Need-array-write-counts Inv-loop μ-loop
 array-write-counts c = omega (arith, c .before .before .before .loop .inv .few, c .before .before .loop-test .taken)
 
--- src/sizes.rt:162:9
-sub-p : tie.Need-sub-p Inv-loop μ-loop
-sub-p c = search needs
-
--- src/sizes.rt:156:5
-loop-less : tie.Need-loop-less Inv-loop μ-loop
-loop-less c = search needs
-
--- src/sizes.rt:156:5
 loop-again : tie.Need-loop-again Inv-loop μ-loop
 loop-again c =
     let l = c .before .before .before in
@@ -84,24 +57,10 @@ loop-again c =
     })
     (c .if1 .came)
 
--- src/sizes.rt:149:1
 returns : tie.Need-returns Inv-loop μ-loop
 returns c = λ p o m. c .before .loop .inv .entered .made p (omega (arith, c .loop-test .left)) m
 
 pub entries-spec : {M : Type 1} → statement M
 entries-spec =
-    tie.close
-    (tie.spec
-    Inv-loop
-    μ-loop
-    loop-holds
-    mul-total
-    shared-slice-read-total
-    add-total
-    sub-at
-    mul-counts
-    array-write-counts
-    sub-p
-    loop-less
-    loop-again
-    returns)
+    tie.close (tie.spec Inv-loop μ-loop loop-holds (λ c. search needs) shared-slice-read-total add-total (λ c. search needs) (λ c. search needs)
+    array-write-counts (λ c. search needs) (λ c. search needs) loop-again returns)

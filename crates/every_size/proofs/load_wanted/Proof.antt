@@ -13,10 +13,6 @@ use Rattle.drive.proofs.Walk.{walk-size}
 use Rattle.every_size.proofs.Loads.{entry-le, Loaded, loaded-start, loaded-next, loaded-end}
 use Rattle.every_size.proofs.load_wanted.Statement.{statement}
 use Rattle.every_size.proofs.load_wanted.Tie as tie
-use Rattle.every_size.proofs.load_wanted.Reads as reads
-use Rattle.every_size.proofs.load_wanted.Lts as lts
-use Rattle.bitset.proofs.lowest.Reads as lowest-reads
-use Rattle.bitset.proofs.without_lowest.Reads as without-lowest-reads
 
 abbrev Inv-loop : tie.InvT-loop
 Inv-loop want slots₀ loads₀ left₀ slots loads left =
@@ -30,13 +26,8 @@ Inv-loop want slots₀ loads₀ left₀ slots loads left =
 abbrev μ-loop : tie.MeasureT-loop
 μ-loop want slots₀ loads₀ left₀ slots loads left = size left
 
--- src/sizes.rt:37:5
 loop-holds : tie.Need-loop-holds Inv-loop μ-loop
 loop-holds c = record { range = search needs; long = refl; long-loads = refl; loaded = loaded-start _ _ _ (c .before .before .pre .1 .0) (c .before .before .pre .1 .1) }
-
--- src/sizes.rt:38:13
-lowest-requires : tie.Need-lowest-requires Inv-loop μ-loop
-lowest-requires c κs = tt
 
 some-left : (c : tie.After-lowest Inv-loop μ-loop) → 0 < c .before .before .loop .left
 some-left c = omega (arith, c .before .loop-test .taken)
@@ -49,53 +40,39 @@ in-loads c =
     let l = c .before .before in
     omega (arith, l .loop .inv .loaded .bound (c .lowest .result), l .loop .inv .long-loads, l .before .before .before .pre .0 .1)
 
--- src/sizes.rt:39:17
 mul-s : tie.Need-mul-s Inv-loop μ-loop
 mul-s c = omega (arith, small c)
 
--- src/sizes.rt:39:17
 slice-read-s : tie.Need-slice-read-s Inv-loop μ-loop
 slice-read-s c = let l = c .before .before .before in omega (arith, small (c .before), l .loop .inv .long, l .before .before .before .pre .0 .0)
 
--- src/sizes.rt:40:9
 mul-loads : tie.Need-mul-loads Inv-loop μ-loop
 mul-loads c = omega (arith, c .before .before .before .loop .inv .loaded .bound (c .before .lowest .result))
 
--- src/sizes.rt:40:9
 slice-read-loads : tie.Need-slice-read-loads Inv-loop μ-loop
 slice-read-loads c = in-loads (c .before .before)
 
--- src/sizes.rt:40:9
 add-loads : tie.Need-add-loads Inv-loop μ-loop
 add-loads c =
     let q = c .before .before .before .before .loop in
     let s = getD (q .slots) (c .before .before .lowest .result) 0 in
     omega (arith, entry-le (q .loads) s, q .inv .loaded .few, walk-size (q .left) (some-left (c .before .before)) (q .inv .range))
 
--- src/sizes.rt:40:9
 slice-write-loads : tie.Need-slice-write-loads Inv-loop μ-loop
 slice-write-loads c = in-loads (c .before .before)
 
--- src/sizes.rt:41:9
 mul-slots : tie.Need-mul-slots Inv-loop μ-loop
 mul-slots c = omega (arith, small (c .before .before))
 
--- src/sizes.rt:41:9
 slice-write-slots : tie.Need-slice-write-slots Inv-loop μ-loop
 slice-write-slots c = let l = c .before .before .before .before in omega (arith, small (c .before .before), l .loop .inv .long, l .before .before .before .pre .0 .0)
 
--- src/sizes.rt:42:9
-without-lowest-requires : tie.Need-without-lowest-requires Inv-loop μ-loop
-without-lowest-requires c κs = tt
-
--- src/sizes.rt:37:5
 loop-less : tie.Need-loop-less Inv-loop μ-loop
 loop-less c =
     let w = c .before .before .before in
     let q = w .before .before .loop in
     rw (c .without-lowest .ensures) (omega (arith, walk-size (q .left) (some-left w) (q .inv .range)))
 
--- src/sizes.rt:37:5
 loop-again : tie.Need-loop-again Inv-loop μ-loop
 loop-again c =
     let w = c .before .before .before in
@@ -113,37 +90,16 @@ loop-again c =
           (omega (arith, i .long-loads, l .before .before .before .pre .0 .1)));
     }
 
--- src/sizes.rt:28:1
 same-length : tie.Need-same-length Inv-loop μ-loop
 same-length c = c .before .loop .inv .long
 
--- src/sizes.rt:28:1
 same-length-2 : tie.Need-same-length-2 Inv-loop μ-loop
 same-length-2 c = c .before .loop .inv .long-loads
 
--- src/sizes.rt:28:1
 returns : tie.Need-returns Inv-loop μ-loop
 returns c = let q = c .before .loop in loaded-end (rw (c .loop-test .left) at (q .inv .loaded))
 
 pub load-wanted-spec : {M : Type 1} → statement M
 load-wanted-spec =
-    tie.close
-    (tie.spec
-    Inv-loop
-    μ-loop
-    loop-holds
-    lowest-requires
-    mul-s
-    slice-read-s
-    mul-loads
-    slice-read-loads
-    add-loads
-    slice-write-loads
-    mul-slots
-    slice-write-slots
-    without-lowest-requires
-    loop-less
-    loop-again
-    same-length
-    same-length-2
-    returns)
+    tie.close (tie.spec Inv-loop μ-loop loop-holds (λ c κs. tt) mul-s slice-read-s mul-loads slice-read-loads add-loads slice-write-loads mul-slots
+    slice-write-slots (λ c κs. tt) loop-less loop-again same-length same-length-2 returns)

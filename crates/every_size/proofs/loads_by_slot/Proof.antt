@@ -15,11 +15,6 @@ use Rattle.drive.specs.Steps.{together}
 use Rattle.every_size.proofs.EverySize.{Walking, walking-start, slotted-here, walking-next, walking-end}
 use Rattle.every_size.proofs.loads_by_slot.Statement.{statement}
 use Rattle.every_size.proofs.loads_by_slot.Tie as tie
-use Rattle.every_size.proofs.loads_by_slot.Reads as reads
-use Rattle.every_size.proofs.loads_by_slot.Lts as lts
-use Rattle.bitset.proofs.union.Reads as union-reads
-use Rattle.drive.proofs.write_later.Reads as write-later-reads
-use Rattle.every_size.proofs.step.Reads as step-reads
 
 abbrev Inv-loop : tie.InvT-loop
 Inv-loop wants laters slots₀ loads₀ seen₀ i₀ slots loads seen i =
@@ -34,15 +29,6 @@ Inv-loop wants laters slots₀ loads₀ seen₀ i₀ slots loads seen i =
 abbrev μ-loop : tie.MeasureT-loop
 μ-loop wants laters slots₀ loads₀ seen₀ i₀ slots loads seen i = length wants - i
 
--- src/lib.rt:107:31
-slice-aggregate-write-later : tie.Need-slice-aggregate-write-later Inv-loop μ-loop
-slice-aggregate-write-later c = refl
-
--- src/lib.rt:107:5
-write-later-requires : tie.Need-write-later-requires Inv-loop μ-loop
-write-later-requires c κs = tt
-
--- src/lib.rt:112:5
 loop-holds : tie.Need-loop-holds Inv-loop μ-loop
 loop-holds c =
     let b = c .before .before .before .before in
@@ -54,51 +40,15 @@ loop-holds c =
       walking = walking-start _;
     }
 
--- src/lib.rt:113:20
-mul-want : tie.Need-mul-want Inv-loop μ-loop
-mul-want c = search needs
-
--- src/lib.rt:113:20
-shared-slice-read-want : tie.Need-shared-slice-read-want Inv-loop μ-loop
-shared-slice-read-want c = search needs
-
--- src/lib.rt:114:20
-add-next : tie.Need-add-next Inv-loop μ-loop
-add-next c = search needs
-
--- src/lib.rt:115:26
-mul-step : tie.Need-mul-step Inv-loop μ-loop
-mul-step c = search needs
-
--- src/lib.rt:115:26
 array-read-step : tie.Need-array-read-step Inv-loop μ-loop
 array-read-step c = omega (arith, c .before .loop-test .taken, c .before .before .before .before .before .before .before .pre)
 
--- src/lib.rt:115:37
-mul-step-2 : tie.Need-mul-step-2 Inv-loop μ-loop
-mul-step-2 c = search needs
-
--- src/lib.rt:115:37
-sub-step : tie.Need-sub-step Inv-loop μ-loop
-sub-step c = search needs
-
--- src/lib.rt:115:37
-part-step-start : tie.Need-part-step-start Inv-loop μ-loop
-part-step-start c = search needs
-
--- src/lib.rt:115:37
-part-step-end : tie.Need-part-step-end Inv-loop μ-loop
-part-step-end c = search needs
-
--- src/lib.rt:115:53
 slice-aggregate-step : tie.Need-slice-aggregate-step Inv-loop μ-loop
 slice-aggregate-step c = sym (c .before .before .before .before .loop .inv .long-slots)
 
--- src/lib.rt:115:65
 slice-aggregate-step-2 : tie.Need-slice-aggregate-step-2 Inv-loop μ-loop
 slice-aggregate-step-2 c = sym (c .before .before .before .before .before .loop .inv .long-loads)
 
--- src/lib.rt:115:9
 step-requires : tie.Need-step-requires Inv-loop μ-loop
 step-requires c κs =
     let l = c .before .before .before .before .before in
@@ -114,19 +64,6 @@ step-requires c κs =
       ),
     )
 
--- src/lib.rt:116:9
-union-requires : tie.Need-union-requires Inv-loop μ-loop
-union-requires c κs = tt
-
--- src/lib.rt:117:9
-add-i : tie.Need-add-i Inv-loop μ-loop
-add-i c = search needs
-
--- src/lib.rt:112:5
-loop-less : tie.Need-loop-less Inv-loop μ-loop
-loop-less c = search needs
-
--- src/lib.rt:112:5
 loop-again : tie.Need-loop-again Inv-loop μ-loop
 loop-again c =
     let st = c .before .before .before .step in
@@ -148,7 +85,6 @@ loop-again c =
           (st .ensures .1 .0 (i .walking .hold) s) (st .ensures .1 .1));
     }
 
--- src/lib.rt:101:1
 returns : tie.Need-returns Inv-loop μ-loop
 returns c =
     let q = c .before .loop in
@@ -157,27 +93,6 @@ returns c =
 
 pub loads-by-slot-spec : {M : Type 1} → statement M
 loads-by-slot-spec =
-    tie.close
-    (tie.spec
-    Inv-loop
-    μ-loop
-    slice-aggregate-write-later
-    write-later-requires
-    loop-holds
-    mul-want
-    shared-slice-read-want
-    add-next
-    mul-step
-    array-read-step
-    mul-step-2
-    sub-step
-    part-step-start
-    part-step-end
-    slice-aggregate-step
-    slice-aggregate-step-2
-    step-requires
-    union-requires
-    add-i
-    loop-less
-    loop-again
-    returns)
+    tie.close (tie.spec Inv-loop μ-loop (λ c. refl) (λ c κs. tt) loop-holds (λ c. search needs) (λ c. search needs) (λ c. search needs)
+    (λ c. search needs) array-read-step (λ c. search needs) (λ c. search needs) (λ c. search needs) (λ c. search needs) slice-aggregate-step
+    slice-aggregate-step-2 step-requires (λ c κs. tt) (λ c. search needs) (λ c. search needs) loop-again returns)

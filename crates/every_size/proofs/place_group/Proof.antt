@@ -14,13 +14,6 @@ use Rattle.drive.proofs.Walk.{Walked, walk-start, walk-on, walk-size}
 use Rattle.every_size.proofs.Places.{place-next}
 use Rattle.every_size.proofs.place_group.Statement.{statement}
 use Rattle.every_size.proofs.place_group.Tie as tie
-use Rattle.every_size.proofs.place_group.Reads as reads
-use Rattle.every_size.proofs.place_group.Lts as lts
-use Rattle.bitset.proofs.below.Reads as below-reads
-use Rattle.bitset.proofs.lowest.Reads as lowest-reads
-use Rattle.bitset.proofs.single.Reads as single-reads
-use Rattle.bitset.proofs.without.Reads as without-reads
-use Rattle.bitset.proofs.without_lowest.Reads as without-lowest-reads
 
 abbrev Inv-loop : tie.InvT-loop
 Inv-loop group free slots₀ left₀ vacant₀ slots left vacant =
@@ -43,7 +36,6 @@ none-passed placed group = same-by-bits _ _ (λ c. omega (arith, bit-∪ c place
 all-passed : (placed group : ℕ) → placed ∪ (group ∖ 0) ≡ placed ∪ group
 all-passed placed group = same-by-bits _ _ (λ c. omega (arith, bit-∪ c placed (group ∖ 0), bit-∪ c placed group, bit-∖ c group 0, bit-empty c))
 
--- src/sizes.rt:55:5
 loop-holds : tie.Need-loop-holds Inv-loop μ-loop
 loop-holds c =
     record {
@@ -54,64 +46,30 @@ loop-holds c =
       places = λ hold w seen others placed ws before wait next at. rw (none-passed placed _) at;
     }
 
--- src/sizes.rt:56:13
-lowest-requires : tie.Need-lowest-requires Inv-loop μ-loop
-lowest-requires c κs = tt
-
 some-left : (c : tie.After-lowest Inv-loop μ-loop) → 0 < c .before .before .loop .left
 some-left c = omega (arith, c .before .loop-test .taken)
 
 small : (c : tie.After-lowest Inv-loop μ-loop) → c .lowest .result < 64
 small c = let q = c .before .before .loop in rw (c .lowest .ensures) (lowest-lt 64 (q .left) (some-left c) (q .inv .range))
 
--- src/sizes.rt:57:70
 mul-below : tie.Need-mul-below Inv-loop μ-loop
 mul-below c = omega (arith, small c)
 
--- src/sizes.rt:57:70
 slice-read-below : tie.Need-slice-read-below Inv-loop μ-loop
 slice-read-below c = let l = c .before .before .before in omega (arith, small (c .before), l .loop .inv .long, l .before .before .pre)
 
--- src/sizes.rt:57:56
-below-requires : tie.Need-below-requires Inv-loop μ-loop
-below-requires c κs = tt
-
--- src/sizes.rt:57:32
-without-requires : tie.Need-without-requires Inv-loop μ-loop
-without-requires c κs = tt
-
--- src/sizes.rt:57:13
-lowest-requires-2 : tie.Need-lowest-requires-2 Inv-loop μ-loop
-lowest-requires-2 c κs = tt
-
--- src/sizes.rt:58:9
 mul-slots : tie.Need-mul-slots Inv-loop μ-loop
 mul-slots c = omega (arith, small (c .before .before .before .before))
 
--- src/sizes.rt:58:9
 slice-write-slots : tie.Need-slice-write-slots Inv-loop μ-loop
 slice-write-slots c = let l = c .before .before .before .before .before .before in omega (arith, small (c .before .before .before .before), l .loop .inv .long, l .before .before .pre)
 
--- src/sizes.rt:59:42
-single-requires : tie.Need-single-requires Inv-loop μ-loop
-single-requires c κs = tt
-
--- src/sizes.rt:59:9
-without-requires-2 : tie.Need-without-requires-2 Inv-loop μ-loop
-without-requires-2 c κs = tt
-
--- src/sizes.rt:60:9
-without-lowest-requires : tie.Need-without-lowest-requires Inv-loop μ-loop
-without-lowest-requires c κs = tt
-
--- src/sizes.rt:55:5
 loop-less : tie.Need-loop-less Inv-loop μ-loop
 loop-less c =
     let w = c .before .before .before .before .before .before .before in
     let q = w .before .before .loop in
     rw (c .without-lowest .ensures) (omega (arith, walk-size (q .left) (some-left w) (q .inv .range)))
 
--- src/sizes.rt:55:5
 loop-again : tie.Need-loop-again Inv-loop μ-loop
 loop-again c =
     let w = c .before .before .before .before .before .before .before in
@@ -137,11 +95,9 @@ loop-again c =
           (i .places hold w' seen others placed ws before wait next at));
     }
 
--- src/sizes.rt:47:1
 same-length : tie.Need-same-length Inv-loop μ-loop
 same-length c = c .before .loop .inv .long
 
--- src/sizes.rt:47:1
 returns : tie.Need-returns Inv-loop μ-loop
 returns c =
     let q = c .before .loop in
@@ -152,23 +108,5 @@ returns c =
 
 pub place-group-spec : {M : Type 1} → statement M
 place-group-spec =
-    tie.close
-    (tie.spec
-    Inv-loop
-    μ-loop
-    loop-holds
-    lowest-requires
-    mul-below
-    slice-read-below
-    below-requires
-    without-requires
-    lowest-requires-2
-    mul-slots
-    slice-write-slots
-    single-requires
-    without-requires-2
-    without-lowest-requires
-    loop-less
-    loop-again
-    same-length
-    returns)
+    tie.close (tie.spec Inv-loop μ-loop loop-holds (λ c κs. tt) mul-below slice-read-below (λ c κs. tt) (λ c κs. tt) (λ c κs. tt) mul-slots
+    slice-write-slots (λ c κs. tt) (λ c κs. tt) (λ c κs. tt) loop-less loop-again same-length returns)

@@ -15,12 +15,6 @@ use Rattle.every_size.specs.Contracts.{Waiting, Placing}
 use Rattle.every_size.proofs.Places.{Passed, none-passed, next-group, passed-next, placed-next, unwanted, none-placed}
 use Rattle.every_size.proofs.place_others.Statement.{statement}
 use Rattle.every_size.proofs.place_others.Tie as tie
-use Rattle.every_size.proofs.place_others.Reads as reads
-use Rattle.every_size.proofs.place_others.Lts as lts
-use Rattle.bitset.proofs.below.Reads as below-reads
-use Rattle.bitset.proofs.common.Reads as common-reads
-use Rattle.bitset.proofs.without.Reads as without-reads
-use Rattle.every_size.proofs.place_group.Reads as place-group-reads
 
 abbrev Inv-loop : tie.InvT-loop
 Inv-loop wanted others later slots₀ free₀ left₀ k₀ slots free left k =
@@ -33,18 +27,6 @@ Inv-loop wanted others later slots₀ free₀ left₀ k₀ slots free left k =
 
 abbrev μ-loop : tie.MeasureT-loop
 μ-loop wanted others later slots₀ free₀ left₀ k₀ slots free left k = length later - k
-
--- src/lib.rt:71:36
-below-requires : tie.Need-below-requires Inv-loop μ-loop
-below-requires c κs = tt
-
--- src/lib.rt:71:55
-below-requires-2 : tie.Need-below-requires-2 Inv-loop μ-loop
-below-requires-2 c κs = tt
-
--- src/lib.rt:71:9
-without-requires : tie.Need-without-requires Inv-loop μ-loop
-without-requires c κs = tt
 
 -- none is placed yet
 at-first : (hold : ℕ → ℕ) (w others wanted free : ℕ) (ws slots : List ℕ) → ((c : ℕ) → getD slots c 0 ≤ 64) → wanted ≡ size w → free ≡ unwanted wanted
@@ -60,7 +42,6 @@ within c =
     used-ends (x .0) (together (now (b .args .later))) (q .k) (now (b .args .later)) refl
     (omega (arith, x .1, q .inv .passed .part (x .0), b .pre .0 (x .0))) (q .inv .passed .ahead (x .0) (x .1))
 
--- src/lib.rt:74:5
 loop-holds : tie.Need-loop-holds Inv-loop μ-loop
 loop-holds c =
     let a = c .before .before .before .before .before .args in
@@ -73,35 +54,21 @@ loop-holds c =
           ∙ ap (λ (x : ℕ). below (min 64 64) ∖ x) (c .before .below2 .ensures));
     }
 
--- src/lib.rt:75:42
 mul-common : tie.Need-mul-common Inv-loop μ-loop
 mul-common c = let h = within c in search needs
 
--- src/lib.rt:75:42
 shared-slice-read-common : tie.Need-shared-slice-read-common Inv-loop μ-loop
 shared-slice-read-common c = within (c .before)
 
--- src/lib.rt:75:13
-common-requires : tie.Need-common-requires Inv-loop μ-loop
-common-requires c κs = tt
-
--- src/lib.rt:76:9
 place-group-requires : tie.Need-place-group-requires Inv-loop μ-loop
 place-group-requires c κs = let l = c .before .before .before .before in omega (arith, l .loop .inv .long, l .before .before .before .before .before .before .pre .1)
 
--- src/lib.rt:77:9
-without-requires-2 : tie.Need-without-requires-2 Inv-loop μ-loop
-without-requires-2 c κs = tt
-
--- src/lib.rt:78:9
 add-k : tie.Need-add-k Inv-loop μ-loop
 add-k c = let l = c .before .before .before .before .before .before .before in omega (arith, within l, l .before .before .before .before .before .before .before .good)
 
--- src/lib.rt:74:5
 loop-less : tie.Need-loop-less Inv-loop μ-loop
 loop-less c = omega (arith, within (c .before .before .before .before .before .before .before))
 
--- src/lib.rt:74:5
 loop-again : tie.Need-loop-again Inv-loop μ-loop
 loop-again c =
     let l = c .before .before .before .before .before .before .before in
@@ -120,11 +87,9 @@ loop-again c =
           (p .ensures hold w seen (b .args .others) (b .args .others ∖ q .left) (now (b .args .later)) _ wait none (q .inv .places hold w seen e wait));
     }
 
--- src/lib.rt:66:1
 same-length : tie.Need-same-length Inv-loop μ-loop
 same-length c = c .before .loop .inv .long
 
--- src/lib.rt:66:1
 returns : tie.Need-returns Inv-loop μ-loop
 returns c =
     let q = c .before .loop in
@@ -134,21 +99,5 @@ returns c =
 
 pub place-others-spec : {M : Type 1} → statement M
 place-others-spec =
-    tie.close
-    (tie.spec
-    Inv-loop
-    μ-loop
-    below-requires
-    below-requires-2
-    without-requires
-    loop-holds
-    mul-common
-    shared-slice-read-common
-    common-requires
-    place-group-requires
-    without-requires-2
-    add-k
-    loop-less
-    loop-again
-    same-length
-    returns)
+    tie.close (tie.spec Inv-loop μ-loop (λ c κs. tt) (λ c κs. tt) (λ c κs. tt) loop-holds mul-common shared-slice-read-common (λ c κs. tt)
+    place-group-requires (λ c κs. tt) add-k loop-less loop-again same-length returns)

@@ -7,8 +7,6 @@ use borrow.Author.Tests.{ne-eqb, eq-eqb}
 use Rattle.every_size.specs.Sizes.{mark, serves}
 use Rattle.every_size.proofs.serves.Statement.{statement}
 use Rattle.every_size.proofs.serves.Tie as tie
-use Rattle.every_size.proofs.serves.Reads as reads
-use Rattle.every_size.proofs.serves.Lts as lts
 
 marked : (loads entry : ℕ) → entry ≡ mark → false ≡ serves loads entry
 unfolding serves
@@ -18,11 +16,9 @@ unmarked : (loads entry : ℕ) → (entry ≡ mark → ⊥) → leb entry loads 
 unfolding serves
 unmarked loads entry e = rw (ne-eqb entry mark e) refl
 
--- src/sizes.rt:184:9
 returns : tie.Need-returns
 returns c = marked (c .before .args .loads) _ (c .if1 .taken)
 
--- src/sizes.rt:180:1
 returns-2 : tie.Need-returns-2
 returns-2 c = unmarked (c .before .args .loads) _ (c .if1 .left)
 

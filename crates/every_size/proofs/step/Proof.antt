@@ -12,31 +12,7 @@ use Rattle.every_size.specs.Contracts.{sum, Waiting, Placing}
 use Rattle.every_size.proofs.Places.{loads-agree, waiting-others, slotted-next}
 use Rattle.every_size.proofs.step.Statement.{statement}
 use Rattle.every_size.proofs.step.Tie as tie
-use Rattle.every_size.proofs.step.Reads as reads
-use Rattle.every_size.proofs.step.Lts as lts
-use Rattle.bitset.proofs.common.Reads as common-reads
-use Rattle.bitset.proofs.size.Reads as size-reads
-use Rattle.bitset.proofs.without.Reads as without-reads
-use Rattle.every_size.proofs.load_wanted.Reads as load-wanted-reads
-use Rattle.every_size.proofs.place_others.Reads as place-others-reads
 
--- src/lib.rt:93:5
-load-wanted-requires : tie.Need-load-wanted-requires
-load-wanted-requires c κs = search needs
-
--- src/lib.rt:94:33
-without-requires : tie.Need-without-requires
-without-requires c κs = search needs
-
--- src/lib.rt:94:9
-common-requires : tie.Need-common-requires
-common-requires c κs = search needs
-
--- src/lib.rt:95:18
-size-requires : tie.Need-size-requires
-size-requires c κs = search needs
-
--- src/lib.rt:95:5
 place-others-requires : tie.Need-place-others-requires
 place-others-requires c κs =
     let b = c .before .before .before .before .before .before .before .before .before .before .before .before .before .before in
@@ -45,15 +21,6 @@ place-others-requires c κs =
       omega (arith, b .pre .0 .0, c .before .before .before .before .before .before .before .before .load-wanted .kept .1 .0),
     )
 
--- src/lib.rt:84:1
-same-length : tie.Need-same-length
-same-length c = search needs
-
--- src/lib.rt:84:1
-same-length-2 : tie.Need-same-length-2
-same-length-2 c = search needs
-
--- src/lib.rt:84:1
 returns : tie.Need-returns
 returns c =
     let b = c .before .before .before .before .before .before .before .before .before .before .before .before .before .before .before .before .before in
@@ -74,13 +41,5 @@ returns c =
 
 pub step-spec : {M : Type 1} → statement M
 step-spec =
-    tie.close
-    (tie.spec
-    load-wanted-requires
-    without-requires
-    common-requires
-    size-requires
-    place-others-requires
-    same-length
-    same-length-2
-    returns)
+    tie.close (tie.spec (λ c κs. search needs) (λ c κs. search needs) (λ c κs. search needs) (λ c κs. search needs) place-others-requires
+    (λ c. search needs) (λ c. search needs) returns)
