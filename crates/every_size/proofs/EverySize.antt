@@ -30,8 +30,9 @@ sum-zeros zero (suc p) = refl
 sum-zeros (suc n) zero = omega (arith, sum-zeros n 0)
 sum-zeros (suc n) (suc p) = sum-zeros n p
 
-pub walking-start : (wants : List ℕ) → Walking wants 0 (replicate 64 64) (replicate 65 0) 0
-walking-start wants =
+-- no drive holds a curve at first: each slot is 64
+pub walking-start : (wants slots : List ℕ) → ((c : ℕ) → c < 64 → getD slots c 0 ≡ 64) → length slots ≡ 64 → Walking wants 0 slots (replicate 65 0) 0
+walking-start wants slots slot long =
     record {
       hold = λ p. 0;
       slotted = record {
@@ -44,11 +45,8 @@ walking-start wants =
       few = omega (arith, sum-zeros 65 0);
     }
   where
-    slot : (c : ℕ) → c < 64 → _≡_ {A = ℕ} (getD (replicate 64 64) c 0) 64
-    slot c l = getD-replicate {A = ℕ} 64 c 64 0 l
-
-    most : (c : ℕ) → Dec (64 ≤ c) → getD (replicate 64 64) c 0 ≤ 64
-    most c (yes l) = omega (arith, List·getD-eq-default {A = ℕ} (replicate 64 64) 0 l)
+    most : (c : ℕ) → Dec (64 ≤ c) → getD slots c 0 ≤ 64
+    most c (yes l) = let h : length slots ≤ c = omega arith in omega (arith, List·getD-eq-default {A = ℕ} slots 0 h)
     most c (no l) = omega (arith, slot c (omega arith))
 
 -- one step: of a test that wants w, before later ones that want ws

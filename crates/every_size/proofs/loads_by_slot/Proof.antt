@@ -6,7 +6,7 @@ use native.Mathlib.Omega.{arith}
 use native.Mathlib.Numerals.{add-one}
 use borrow.Author.Needs.{needs}
 use borrow.Rule.Slice.PartAt.{part-to-end}
-use lib.ListN.{length, getD, drop}
+use lib.ListN.{length, getD, drop, getD-replicate}
 use lib.Seq.{drop-cons}
 use denote.Ref.{now}
 use Rattle.bitset.specs.Set.{size}
@@ -37,7 +37,7 @@ loop-holds c =
       long-slots = refl;
       long-loads = refl;
       ahead = λ j h. c .before .write-later .ensures .0 j h (omega (arith, b .pre));
-      walking = walking-start _;
+      walking = walking-start _ _ (λ k l. getD-replicate {A = ℕ} 64 k 64 0 l) refl;
     }
 
 array-read-step : tie.Need-array-read-step Inv-loop μ-loop
