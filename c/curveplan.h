@@ -1,7 +1,7 @@
 /*
  * The rig's curve planner. The formats, the orders, the plan and the refusals are those of document 01, with the end step, the tie rule, the list without
- * tests, the booked places, the curves held at the start, looks and commits, every drive size together, and the warm-ups of document 02, and without method 2
- * (wishes 1 to 10; wish 4 changes no answer).
+ * tests, the booked places, the curves held at the start, looks and commits, and every drive size together of document 02, and without method 2 (wishes 1 to 9;
+ * wish 4 changes no answer).
  *
  * One call goes from a job's bytes to its plan's bytes: curveplan_plan, in the archive libcurveplan.a. The other functions take the steps between one by one,
  * and are in libexports.a; the smaller parts of these are declared in curveplan_parts.h.
@@ -15,10 +15,6 @@
  * - A plan starts from the curves that the drive holds then: `held`, 0 for an empty drive. Who plans the rest of a list hands over the tests that are left, as
  *   a list of their own, numbered from 0, and what the drive holds now. More may be held than there are places less booked: the first step drops the excess.
  *   The call from bytes to bytes, the sheet and the audit start from an empty drive.
- * - A test may have a warm-up: a lower-numbered test that must run before it. Warm-ups are a list of 16-bit numbers, one for each test, and
- *   CURVEPLAN_NO_WARM_UP where a test has none; behind the wants wherever these are handed over. Orders are made so that each test runs behind its warm-up, and
- *   an order that is handed over has to keep them too; a plan for an order does not depend on them. In the rest of a list a warm-up that has run already is left
- *   out: CURVEPLAN_NO_WARM_UP is handed over for it.
  * - A job has 0 to 256 tests. Without tests its order and its lists are empty, its load count is 0, its end set is what is held at the start, and its plan has
  *   no bytes but those of the end step.
  * - All lists and buffers belong to the caller. Nothing is kept of them after the call, and what is `const` is only read.
@@ -41,13 +37,11 @@ extern "C" {
 
 /* Lists and buffers of these sizes are never refused as too short. */
 #define CURVEPLAN_TESTS 256          /* entries of a list with one for each test */
-#define CURVEPLAN_JOB_BYTES 2598     /* a job: 7 bytes of the head, 9 for each of 256 tests, a map of 32, and the warm-ups of 255 */
+#define CURVEPLAN_JOB_BYTES 2311     /* a job: 7 bytes of the head, and 9 for each of 256 tests */
 #define CURVEPLAN_PLAN_BYTES 5130    /* a plan: 20 bytes for each of 256 steps, and 10 for the end step */
 #define CURVEPLAN_SHEET_BYTES 105000 /* a sheet */
 #define CURVEPLAN_AUDIT_BYTES 128    /* an audit */
 #define CURVEPLAN_TABLE_BYTES 2048   /* a table of drive sizes */
-
-#define CURVEPLAN_NO_WARM_UP 256 /* the number of a warm-up that a test does not have */
 
 #define CURVEPLAN_SIZES 64       /* drive sizes: 1 to 64 places */
 #define CURVEPLAN_TOO_FEW 65535u /* the load count of a drive that is too small for some test; no other count reaches it */
@@ -58,11 +52,10 @@ extern "C" {
  */
 enum curveplan_refusal {
     CURVEPLAN_TRUNCATED = 1,        /* the job ends where a byte is still owed; figure: its length (plan, read_job) */
-    CURVEPLAN_BAD_HEADER = 2,       /* bit 6 or 7 of the map stands, or a field is out of range or at its absent value; figure: its offset (plan, read_job) */
+    CURVEPLAN_BAD_HEADER = 2,       /* bit 5 to 7 of the map stands, or a field is out of range or at its absent value; figure: its offset (plan, read_job) */
     CURVEPLAN_EMPTY_GROUP = 3,      /* a group byte is zero; figure: its offset (plan, read_job) */
     CURVEPLAN_UNKNOWN_CURVE = 4,    /* a group byte names a curve that the job lacks; figure: its offset (plan, read_job) */
-    CURVEPLAN_TRAILING_BYTES = 6,   /* bytes behind the last record and the warm-ups, or behind the head without tests; figure: the offset of the first
-                                       (plan, read_job) */
+    CURVEPLAN_TRAILING_BYTES = 6,   /* bytes behind the last record, or behind the head without tests; figure: the offset of the first (plan, read_job) */
     CURVEPLAN_TEST_TOO_LARGE = 7,   /* a test wants more curves than there are places less booked; figure: the lowest such test (plan, order_tests,
                                        plan_order, make_state) */
     CURVEPLAN_BAD_ORDER = 8,        /* figure: the first position with a number out of range or seen before, or the first missing or surplus position, the
@@ -78,21 +71,14 @@ enum curveplan_refusal {
     CURVEPLAN_TOO_MANY_BOOKED = 13, /* the booked places are not below the places; figure: the offset of their byte (plan, read_job), or 0, behind 10
                                        (write_job, order_tests, plan_order, make_state, check_plan, write_plan) */
     CURVEPLAN_UNKNOWN_HELD = 14,    /* a curve is held that the job lacks; figure: the lowest such curve (plan_order, make_state, check_plan, write_plan) */
-    CURVEPLAN_NOT_NEXT = 15,        /* a commit of a step that is not the next one, or after done; figure: how many steps were committed (commit) */
-    CURVEPLAN_BAD_WARM_UP = 16,     /* in a job's bytes, behind the records: a faulty warm-up part; figure: the offset of its first faulty byte, that of the
-                                       map's start where no bit stands or there are no tests, or the job's length if a byte is owed (plan, read_job). In a list
-                                       of warm-ups; figure: the lowest test whose number is neither lower than the test nor CURVEPLAN_NO_WARM_UP, or the first
-                                       missing or surplus position, the smaller (write_job, order_tests, plan_order, make_state, check_plan, write_plan,
-                                       all_sizes, fewest_places) */
-    CURVEPLAN_BEFORE_WARM_UP = 17   /* a test runs before its warm-up; figure: the first position of such a test (plan_order, make_state, check_plan, write_plan,
-                                       all_sizes, fewest_places) */
+    CURVEPLAN_NOT_NEXT = 15         /* a commit of a step that is not the next one, or after done; figure: how many steps were committed (commit) */
 };
 
 /* ---- the one call: archive libcurveplan.a */
 
 /*
- * Reads a job, orders its tests by the job's method (method 2 of an old file reads as 1), so that each runs behind its warm-up, plans the drops and loads from an
- * empty drive, and writes the plan's bytes to `plan`, which has room for `plan_len` bytes.
+ * Reads a job, orders its tests by the job's method (method 2 of an old file reads as 1), plans the drops and loads from an empty drive, and writes the plan's
+ * bytes to `plan`, which has room for `plan_len` bytes.
  *
  * No plan from an empty drive for the same job and order of its tests that passes the check (curveplan_check_plan) has fewer loads. Of the curves that may go,
  * those whose next use is furthest are dropped, the highest among equals. The plan ends with an empty drive: where something is held behind the last test, an
@@ -132,54 +118,48 @@ struct curveplan_job {
 };
 
 /*
- * Reads a job's bytes. The wants of its tests go to `wants`, and their warm-ups to `warm_ups`. An old file with method 2 reads as method 1, here and wherever a
- * job's bytes are handed over; written back it has 1 there, and no other byte changes.
- * Refusals: in byte order of the head 1 and 2, and at its end 13; in byte order of the records 1, 3 and 4; 16; 6; 9 with the number of tests, for either list.
+ * Reads a job's bytes. The wants of its tests go to `wants`. An old file with method 2 reads as method 1, here and wherever a job's bytes are handed over;
+ * written back it has 1 there, and no other byte changes.
+ * Refusals: in byte order of the head 1 and 2, and at its end 13; in byte order of the records 1, 3 and 4; 6; 9 with the number of tests.
  */
-struct curveplan_job curveplan_read_job(const uint8_t *job, size_t job_len, uint64_t *wants, size_t wants_len, uint16_t *warm_ups, size_t warm_ups_len);
+struct curveplan_job curveplan_read_job(const uint8_t *job, size_t job_len, uint64_t *wants, size_t wants_len);
 
 /*
- * Writes a job's bytes to `out`, and answers their count. Where no test has a warm-up, they have no warm-up part.
- * Refusals: 10; 13; 16; 9 with the count of the bytes.
+ * Writes a job's bytes to `out`, and answers their count.
+ * Refusals: 10; 13; 9 with the count of the bytes.
  */
-uint64_t curveplan_write_job(size_t places, size_t booked, size_t curves, size_t method, const uint64_t *wants, size_t tests, const uint16_t *warm_ups,
-                             size_t warm_ups_len, uint8_t *out, size_t out_len);
+uint64_t curveplan_write_job(size_t places, size_t booked, size_t curves, size_t method, const uint64_t *wants, size_t tests, uint8_t *out, size_t out_len);
 
 /*
- * Orders the tests: method 0 as listed, 1 reverse Cuthill-McKee, 3 packages; 2 is none any more. The method's order is then drawn out: repeatedly its first test
- * is taken that is not taken yet and whose warm-up, if it has one, is. An order that keeps the warm-ups stays as it is. The tests' numbers go to `order`;
- * answers how many they are.
- * Refusals: 10; 13; 16; 7; 9 with the number of tests.
+ * Orders the tests: method 0 as listed, 1 reverse Cuthill-McKee, 3 packages; 2 is none any more. The tests' numbers go to `order`; answers how many they are.
+ * Refusals: 10; 13; 7; 9 with the number of tests.
  */
-uint64_t curveplan_order_tests(size_t places, size_t booked, size_t curves, size_t method, const uint64_t *wants, size_t tests, const uint16_t *warm_ups,
-                               size_t warm_ups_len, uint16_t *order, size_t order_len);
+uint64_t curveplan_order_tests(size_t places, size_t booked, size_t curves, size_t method, const uint64_t *wants, size_t tests, uint16_t *order,
+                               size_t order_len);
 
 /*
  * Plans an order of the tests, from the curves held. The drops and loads of each step go to `drops` and `loads`, and the end set to `*end`; answers the load
  * count. No plan from the same curves held, for this order, that passes the check (curveplan_check_plan) has fewer loads.
- * Refusals: 10; 13; 14; 16; 8; 17; 7; 9 with the number of tests.
+ * Refusals: 10; 13; 14; 8; 7; 9 with the number of tests.
  */
-uint64_t curveplan_plan_order(size_t places, size_t booked, size_t curves, const uint64_t *wants, size_t tests, const uint16_t *warm_ups, size_t warm_ups_len,
-                              uint64_t held, const uint16_t *order, size_t order_len, uint64_t *drops, size_t drops_len, uint64_t *loads, size_t loads_len,
-                              uint64_t *end);
+uint64_t curveplan_plan_order(size_t places, size_t booked, size_t curves, const uint64_t *wants, size_t tests, uint64_t held, const uint16_t *order,
+                              size_t order_len, uint64_t *drops, size_t drops_len, uint64_t *loads, size_t loads_len, uint64_t *end);
 
 /*
  * Every drive size together: the load counts of one order of the tests for drives with 1 to 64 places, none booked, from an empty drive, in one walk along the
  * list. The count for p places goes to `counts[p - 1]`, of which there are CURVEPLAN_SIZES; it is the one that curveplan_plan_order answers for so many places,
  * or CURVEPLAN_TOO_FEW where some test wants more curves than p. More places never mean more loads, and 64 places need one for each different curve that the
  * list wants. Answers 0, or a refusal.
- * Refusals: 10 (curves, tests, wants); 16; 8; 17: those of curveplan_plan_order for any number of places, but 7 and 9.
+ * Refusals: 10 (curves, tests, wants); 8: those of curveplan_plan_order for any number of places, but 7 and 9.
  */
-uint64_t curveplan_all_sizes(size_t curves, const uint64_t *wants, size_t tests, const uint16_t *warm_ups, size_t warm_ups_len, const uint16_t *order,
-                             size_t order_len, uint16_t *counts);
+uint64_t curveplan_all_sizes(size_t curves, const uint64_t *wants, size_t tests, const uint16_t *order, size_t order_len, uint16_t *counts);
 
 /*
  * The fewest places that need at most so many loads for an order of the tests, 1 to 64. A size that is too small for some test never serves, whatever the count.
  * Answers 0 for none, which is exactly where the list wants more different curves than `loads`.
  * Refusals: those of curveplan_all_sizes.
  */
-uint64_t curveplan_fewest_places(size_t curves, const uint64_t *wants, size_t tests, const uint16_t *warm_ups, size_t warm_ups_len, const uint16_t *order,
-                                 size_t order_len, size_t loads);
+uint64_t curveplan_fewest_places(size_t curves, const uint64_t *wants, size_t tests, const uint16_t *order, size_t order_len, size_t loads);
 
 /*
  * A list of tests that is carried out step by step: where it stands. The host shows the next step (curveplan_look) before the drive moves, and names its
@@ -211,10 +191,10 @@ struct curveplan_step {
 /*
  * Makes a state, of a list, an order of its tests and the curves held, in `*state`; answers the number of tests. No step is committed yet. Without tests and
  * with nothing held it is done at once.
- * Refusals: 10; 13; 14; 16; 8; 17; 7; those of curveplan_plan_order but 9.
+ * Refusals: 10; 13; 14; 8; 7; those of curveplan_plan_order but 9.
  */
-uint64_t curveplan_make_state(size_t places, size_t booked, size_t curves, const uint64_t *wants, size_t tests, const uint16_t *warm_ups, size_t warm_ups_len,
-                              uint64_t held, const uint16_t *order, size_t order_len, struct curveplan_state *state);
+uint64_t curveplan_make_state(size_t places, size_t booked, size_t curves, const uint64_t *wants, size_t tests, uint64_t held, const uint16_t *order,
+                              size_t order_len, struct curveplan_state *state);
 
 /*
  * Shows the next step, and changes nothing; it may be repeated. From a made state looks and commits in turn show and answer exactly the steps of the plan that
@@ -236,20 +216,19 @@ struct curveplan_step curveplan_commit(struct curveplan_state *state, size_t pos
  * Checks a plan from anywhere, with its end set, from the curves held, and answers its load count: at most places less booked are held while a test runs, among
  * them its wants, and the end set is what is held behind the last test. What is held at the start may be more. In a plan that passes, the curves held at the
  * start and the loads are together as many as the drops and the end set.
- * Refusals: 10; 13; 14; 16; 8; 17; 12.
+ * Refusals: 10; 13; 14; 8; 12.
  */
-uint64_t curveplan_check_plan(size_t places, size_t booked, size_t curves, const uint64_t *wants, size_t tests, const uint16_t *warm_ups, size_t warm_ups_len,
-                              uint64_t held, const uint16_t *order, size_t order_len, const uint64_t *drops, size_t drops_len, const uint64_t *loads,
-                              size_t loads_len, uint64_t end);
+uint64_t curveplan_check_plan(size_t places, size_t booked, size_t curves, const uint64_t *wants, size_t tests, uint64_t held, const uint16_t *order,
+                              size_t order_len, const uint64_t *drops, size_t drops_len, const uint64_t *loads, size_t loads_len, uint64_t end);
 
 /*
  * Writes a plan that passes the check from the curves held to `out` as plan bytes, and answers their count. An end set of 0 has no bytes; what is held at the
  * start is not written.
- * Refusals: 10; 13; 14; 16; 8; 17; 12; 9 with the count of the bytes.
+ * Refusals: 10; 13; 14; 8; 12; 9 with the count of the bytes.
  */
-uint64_t curveplan_write_plan(size_t places, size_t booked, size_t curves, const uint64_t *wants, size_t tests, const uint16_t *warm_ups, size_t warm_ups_len,
-                              uint64_t held, const uint16_t *order, size_t order_len, const uint64_t *drops, size_t drops_len, const uint64_t *loads,
-                              size_t loads_len, uint64_t end, uint8_t *out, size_t out_len);
+uint64_t curveplan_write_plan(size_t places, size_t booked, size_t curves, const uint64_t *wants, size_t tests, uint64_t held, const uint16_t *order,
+                              size_t order_len, const uint64_t *drops, size_t drops_len, const uint64_t *loads, size_t loads_len, uint64_t end, uint8_t *out,
+                              size_t out_len);
 
 /*
  * Reads the plan bytes of a job with so many curves and tests. Each step's test, drops and loads go to the three lists, and the end set to `*end`, 0 where
@@ -281,7 +260,7 @@ uint64_t curveplan_sheet(const uint8_t *job, size_t job_len, uint8_t *out, size_
 /*
  * Writes the audit of a plan from an empty drive for a job to `out`, and answers how many bytes it has: the plan's loads, the fewest of any such plan for the
  * same order of the tests that passes the check, and by how many the plan can be shortened. A job that is refused has the audit `refused N at F`, and a plan
- * that is refused has `plan refused N at F`, 17 where its order runs a test before the job's warm-up for it; neither is a refusal of this call.
+ * that is refused has `plan refused N at F`; neither is a refusal of this call.
  * Refusals: 9 with the count of the bytes.
  */
 uint64_t curveplan_audit(const uint8_t *job, size_t job_len, const uint8_t *plan, size_t plan_len, uint8_t *out, size_t out_len);

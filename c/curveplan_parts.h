@@ -25,9 +25,6 @@ uint64_t curveplan_examine_counts(size_t curves, size_t tests);
 /* 7: a test that wants more curves than the drive can hold, places less booked. */
 uint64_t curveplan_examine_sizes(size_t capacity, const uint64_t *wants, size_t tests);
 
-/* 16, of the warm-ups of so many tests. */
-uint64_t curveplan_examine_warm_ups(size_t tests, const uint16_t *warm_ups, size_t warm_ups_len);
-
 /* ---- a set in bytes: a group map, then a byte for each of its groups; bit j of the map stands for curves 8j to 8j + 7 */
 
 /* Why a group byte is not read. */

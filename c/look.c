@@ -22,7 +22,6 @@ struct list {
     size_t curves;
     size_t tests;
     uint64_t wants[TESTS];
-    uint16_t warm_ups[TESTS];
     uint64_t held;
     uint16_t order[TESTS];
 };
@@ -35,16 +34,15 @@ struct plan {
 
 static uint64_t order_list(struct list *l, size_t method)
 {
-    return curveplan_order_tests(l->places, l->booked, l->curves, method, l->wants, l->tests, l->warm_ups, l->tests, l->order, TESTS);
+    return curveplan_order_tests(l->places, l->booked, l->curves, method, l->wants, l->tests, l->order, TESTS);
 }
 
 /* Makes a state of a list, and a plan of the same numbers. */
 static void print_made(const char *what, const struct list *l, struct curveplan_state *state, struct plan *p)
 {
-    uint64_t answer = curveplan_make_state(l->places, l->booked, l->curves, l->wants, l->tests, l->warm_ups, l->tests, l->held, l->order, l->tests, state);
+    uint64_t answer = curveplan_make_state(l->places, l->booked, l->curves, l->wants, l->tests, l->held, l->order, l->tests, state);
     print_answer(what, answer, "tests");
-    answer = curveplan_plan_order(l->places, l->booked, l->curves, l->wants, l->tests, l->warm_ups, l->tests, l->held, l->order, l->tests, p->drops, TESTS,
-                                  p->loads, TESTS, &p->end);
+    answer = curveplan_plan_order(l->places, l->booked, l->curves, l->wants, l->tests, l->held, l->order, l->tests, p->drops, TESTS, p->loads, TESTS, &p->end);
     print_answer("planned", answer, "loads");
 }
 
@@ -138,12 +136,12 @@ int main(void)
 {
     struct list a = {.held = 0}; /* from an empty drive */
     struct list no_tests = {.places = 2, .curves = 4};
-    struct list no_wants = {.places = 3, .booked = 1, .curves = 4, .tests = 1, .wants = {0}, .warm_ups = {CURVEPLAN_NO_WARM_UP}, .order = {0}};
+    struct list no_wants = {.places = 3, .booked = 1, .curves = 4, .tests = 1, .wants = {0}, .order = {0}};
     struct curveplan_state state = {0}, other;
     struct plan plan = {0};
     uint8_t kept[sizeof state];
 
-    struct curveplan_job head = curveplan_read_job(job_a, sizeof job_a, a.wants, TESTS, a.warm_ups, TESTS);
+    struct curveplan_job head = curveplan_read_job(job_a, sizeof job_a, a.wants, TESTS);
     if (head.answer != TESTS) {
         return 1;
     }

@@ -1,4 +1,4 @@
-/* What steps.c, rest.c, look.c, sizes.c and warm_ups.c print with: sets, steps, warm-ups, answers and bytes, and what changed of a lent list. */
+/* What steps.c, rest.c, look.c and sizes.c print with: sets, steps, answers and bytes, and what changed of a lent list. */
 #ifndef PRINT_H
 #define PRINT_H
 
@@ -46,20 +46,6 @@ static inline void print_steps(size_t tests, const uint16_t *order, const uint64
     if (end != 0) {
         print_end_step(tests, end);
     }
-}
-
-/* The warm-ups of the tests, one for each. */
-static inline void print_warm_ups(const uint16_t *warm_ups, size_t tests)
-{
-    printf("warm-ups:");
-    for (size_t t = 0; t < tests; t++) {
-        if (warm_ups[t] == CURVEPLAN_NO_WARM_UP) {
-            printf(" none");
-        } else {
-            printf(" %u", warm_ups[t]);
-        }
-    }
-    printf("\n");
 }
 
 /* The answer: a count of something, or the refusal. */

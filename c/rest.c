@@ -1,7 +1,7 @@
 /*
- * A host that plans the rest of a list from halfway. It plans a job, whose test 3 must run behind test 1, and runs two of its steps. Then the engineers change
- * the tests that are left and book two of the four places: the new rest is planned from the curves that the drive holds, without unloading. Its warm-ups are
- * its own; the one that has run already is left out. A rest without tests is planned so too. Last come holdings and plans that are refused.
+ * A host that plans the rest of a list from halfway. It plans a job and runs two of its steps. Then the engineers change the tests that are left and book two
+ * of the four places: the new rest is planned from the curves that the drive holds, without unloading. So is a rest without tests. Last come holdings and
+ * plans that are refused.
  */
 #include <stdio.h>
 
@@ -13,10 +13,10 @@
 #define BOOKED 2      /* of the places, once the rest is changed */
 #define EMPTY_DRIVE 0 /* nothing is held */
 
-/* 4 places, 6 curves; the tests want 0 1 2, 1 2 3, 0 5 and 3 4, method 0; behind their records the warm-ups: of test 3 alone, which has test 1 */
-static const uint8_t job[] = {0x27, 0x04, 0x06, 0x04, 0x00, 0x01, 0x07, 0x01, 0x0e, 0x01, 0x21, 0x01, 0x18, 0x08, 0x01};
+/* 4 places, 6 curves; the tests want 0 1 2, 1 2 3, 0 5 and 3 4, method 0 */
+static const uint8_t job[] = {0x07, 0x04, 0x06, 0x04, 0x00, 0x01, 0x07, 0x01, 0x0e, 0x01, 0x21, 0x01, 0x18};
 
-/* A list of tests with their warm-ups, the drive that they are for, and the order in which they run. */
+/* A list of tests, the drive that they are for, and the order in which they run. */
 struct list {
     size_t places;
     size_t booked;
@@ -24,7 +24,6 @@ struct list {
     size_t method;
     size_t tests;
     uint64_t wants[TESTS];
-    uint16_t warm_ups[TESTS];
     uint16_t order[TESTS];
 };
 
@@ -37,28 +36,26 @@ struct plan {
 /* Orders a list by its method; what is held has no part in it. */
 static uint64_t order_list(struct list *l)
 {
-    return curveplan_order_tests(l->places, l->booked, l->curves, l->method, l->wants, l->tests, l->warm_ups, l->tests, l->order, l->tests);
+    return curveplan_order_tests(l->places, l->booked, l->curves, l->method, l->wants, l->tests, l->order, l->tests);
 }
 
 /* Plans a list in its order, from the curves held. */
 static uint64_t plan_from(uint64_t held, const struct list *l, struct plan *p)
 {
-    return curveplan_plan_order(l->places, l->booked, l->curves, l->wants, l->tests, l->warm_ups, l->tests, held, l->order, l->tests, p->drops, l->tests,
-                                p->loads, l->tests, &p->end);
+    return curveplan_plan_order(l->places, l->booked, l->curves, l->wants, l->tests, held, l->order, l->tests, p->drops, l->tests, p->loads, l->tests, &p->end);
 }
 
 /* Checks a plan, from the curves held. */
 static uint64_t check_from(uint64_t held, const struct list *l, const struct plan *p)
 {
-    return curveplan_check_plan(l->places, l->booked, l->curves, l->wants, l->tests, l->warm_ups, l->tests, held, l->order, l->tests, p->drops, l->tests,
-                                p->loads, l->tests, p->end);
+    return curveplan_check_plan(l->places, l->booked, l->curves, l->wants, l->tests, held, l->order, l->tests, p->drops, l->tests, p->loads, l->tests, p->end);
 }
 
 /* Writes a plan's bytes, which do not tell what is held. */
 static uint64_t write_from(uint64_t held, const struct list *l, const struct plan *p, uint8_t *out, size_t out_len)
 {
-    return curveplan_write_plan(l->places, l->booked, l->curves, l->wants, l->tests, l->warm_ups, l->tests, held, l->order, l->tests, p->drops, l->tests,
-                                p->loads, l->tests, p->end, out, out_len);
+    return curveplan_write_plan(l->places, l->booked, l->curves, l->wants, l->tests, held, l->order, l->tests, p->drops, l->tests, p->loads, l->tests, p->end,
+                                out, out_len);
 }
 
 /* Carries out the first steps of a plan: of each the drops leave, then the loads enter. Answers what is held behind them. */
@@ -77,13 +74,10 @@ static void print_held(const char *when, uint64_t held)
     printf("\n");
 }
 
-/* Orders a list, and prints how many tests it has, for which drive, and their warm-ups. */
+/* Orders a list, and prints how many tests it has, and for which drive. */
 static void print_list(const char *what, struct list *l)
 {
     printf("%s: %u tests, %u places, %u booked\n", what, (unsigned)l->tests, (unsigned)l->places, (unsigned)l->booked);
-    if (l->tests > 0) {
-        print_warm_ups(l->warm_ups, l->tests);
-    }
     print_answer("ordered", order_list(l), "tests");
 }
 
@@ -148,22 +142,6 @@ static int print_rest(const char *what, uint64_t held, struct list *rest, struct
     return 1;
 }
 
-/* Other orders of the rest. One that runs a test before its warm-up is refused, by 17, and nothing lent changes. */
-static void print_other_orders(uint64_t held, const struct list *rest)
-{
-    struct list other = *rest;
-    struct plan lent;
-    other.order[1] = 2, other.order[2] = 1;
-    print_answer("in the order 0 2 1", plan_from(held, &other, &lent), "loads");
-    mark(&lent, sizeof lent);
-    other.warm_ups[2] = 1; /* as in the job */
-    print_answer("so, with the former warm-up of test 2 left in, which means test 1 of the rest", plan_from(held, &other, &lent), "loads");
-    other = *rest;
-    other.order[0] = 1, other.order[1] = 0;
-    print_answer("in the order 1 0 2", plan_from(held, &other, &lent), "loads");
-    print_change(&lent, sizeof lent);
-}
-
 /* Holdings that are refused, by 14, which is asked behind 13 and before 8. Nothing lent changes. */
 static void print_refusals_of_holdings(uint64_t held, const struct list *rest, const struct plan *p)
 {
@@ -206,7 +184,7 @@ int main(void)
     struct list list = {0};
     struct plan plan, from_empty, none_left;
 
-    struct curveplan_job head = curveplan_read_job(job, sizeof job, list.wants, TESTS, list.warm_ups, TESTS);
+    struct curveplan_job head = curveplan_read_job(job, sizeof job, list.wants, TESTS);
     if (head.answer != TESTS) {
         return 1;
     }
@@ -222,17 +200,8 @@ int main(void)
     uint64_t held = run_steps(EMPTY_DRIVE, &plan, 2);
     print_held("behind step 1", held);
 
-    /*
-     * the new rest is a list of its own, numbered from 0: its tests want 3, 0 4 and 3 4. Its test 1 must now run behind its test 0. Its test 2 was test 3: its
-     * warm-up has run already, and is left out
-     */
-    struct list rest = {.places = list.places,
-                        .booked = BOOKED,
-                        .curves = list.curves,
-                        .method = list.method,
-                        .tests = 3,
-                        .wants = {0x08, 0x11, 0x18},
-                        .warm_ups = {CURVEPLAN_NO_WARM_UP, 0, CURVEPLAN_NO_WARM_UP}};
+    /* the new rest is a list of its own, numbered from 0: its tests want 3, 0 4 and 3 4 */
+    struct list rest = {.places = list.places, .booked = BOOKED, .curves = list.curves, .method = list.method, .tests = 3, .wants = {0x08, 0x11, 0x18}};
     if (!print_rest("rest", held, &rest, &plan)) {
         return 1;
     }
@@ -242,8 +211,6 @@ int main(void)
         return 1;
     }
     print_answer("this plan checked from what is held", check_from(held, &rest, &from_empty), "loads");
-
-    print_other_orders(held, &rest);
 
     /* the same drive at the same step, and the engineers leave no tests */
     struct list no_tests = {.places = list.places, .booked = BOOKED, .curves = list.curves, .method = list.method, .tests = 0};

@@ -1,7 +1,6 @@
 /*
- * Which drive to buy: the loads that a list of tests needs with 1 to 64 places, and the fewest places for a wanted count. First job A of document 01, in its
- * own order and in another, then a longer list, one that wants all curves at once, one without tests, and lists that are refused. At last the table of job A
- * as text.
+ * Which drive to buy: the loads that a list of tests needs with 1 to 64 places, and the fewest places for a wanted count. First job A of document 01, in its own
+ * order and in another, then a longer list, one that wants all curves at once, one without tests, and lists that are refused. At last the table of job A as text.
  */
 #include <stdio.h>
 
@@ -10,14 +9,11 @@
 #include "print.h"
 
 #define TESTS 8 /* of the longest list */
-#define NONE CURVEPLAN_NO_WARM_UP
-#define NO_WARM_UPS {NONE, NONE, NONE, NONE, NONE, NONE, NONE, NONE} /* no test here has a warm-up; those of warm_ups.c have */
 
 struct list {
     size_t curves;
     size_t tests;
     uint64_t wants[TESTS];
-    uint16_t warm_ups[TESTS];
     uint16_t order[TESTS];
 };
 
@@ -26,7 +22,7 @@ static void print_sizes(const struct list *l)
 {
     uint16_t counts[CURVEPLAN_SIZES];
     mark(counts, sizeof counts);
-    uint64_t answer = curveplan_all_sizes(l->curves, l->wants, l->tests, l->warm_ups, l->tests, l->order, l->tests, counts);
+    uint64_t answer = curveplan_all_sizes(l->curves, l->wants, l->tests, l->order, l->tests, counts);
     if (answer != 0) {
         print_answer("sizes", answer, "");
         print_change(counts, sizeof counts);
@@ -53,7 +49,7 @@ static void print_sizes(const struct list *l)
 
 static void print_fewest(const struct list *l, size_t loads)
 {
-    uint64_t answer = curveplan_fewest_places(l->curves, l->wants, l->tests, l->warm_ups, l->tests, l->order, l->tests, loads);
+    uint64_t answer = curveplan_fewest_places(l->curves, l->wants, l->tests, l->order, l->tests, loads);
     printf("at most %llu loads", (unsigned long long)loads);
     if (answer == 0) {
         printf(": none\n");
@@ -65,7 +61,7 @@ static void print_fewest(const struct list *l, size_t loads)
 int main(void)
 {
     /* {0,1} {1,2} {0,1} {3} */
-    struct list a = {4, 4, {0x3, 0x6, 0x3, 0x8}, NO_WARM_UPS, {0, 1, 2, 3}};
+    struct list a = {4, 4, {0x3, 0x6, 0x3, 0x8}, {0, 1, 2, 3}};
     printf("job A\n");
     print_sizes(&a);
     for (size_t loads = 3; loads <= 6; loads++) {
@@ -76,7 +72,7 @@ int main(void)
     print_sizes(&a);
 
     /* {0,1} {2,3} {0,4} {1,5} {2,3} {0,1} {4,5} {0,2} */
-    struct list longer = {6, 8, {0x03, 0x0c, 0x11, 0x22, 0x0c, 0x03, 0x30, 0x05}, NO_WARM_UPS, {0, 1, 2, 3, 4, 5, 6, 7}};
+    struct list longer = {6, 8, {0x03, 0x0c, 0x11, 0x22, 0x0c, 0x03, 0x30, 0x05}, {0, 1, 2, 3, 4, 5, 6, 7}};
     printf("eight tests\n");
     print_sizes(&longer);
     static const size_t wanted[] = {5, 6, 7, 8, 10, 13, 14, 65535, (size_t)-1};
@@ -84,13 +80,13 @@ int main(void)
         print_fewest(&longer, wanted[i]);
     }
 
-    struct list all = {64, 1, {~(uint64_t)0}, NO_WARM_UPS, {0}};
+    struct list all = {64, 1, {~(uint64_t)0}, {0}};
     printf("one test that wants all curves\n");
     print_fewest(&all, 63);
     print_fewest(&all, 64);
     print_fewest(&all, 65535);
 
-    struct list none = {1, 0, {0}, NO_WARM_UPS, {0}};
+    struct list none = {1, 0, {0}, {0}};
     printf("no tests\n");
     print_sizes(&none);
     print_fewest(&none, 0);

@@ -1,14 +1,12 @@
 /*
- * Compares the C program with the library's call on random, damaged, boundary and two-fault jobs, with booked places and without, with warm-ups and without,
- * on empty lists, on jobs with many curves of equal next use, and on jobs of method 1 with large degrees: the answer, and every byte of the plan's buffer.
- * Among each kind are old files, whose method byte is 2: with 1 in its place the library answers and writes the same. Fails on the first difference, on a
- * refusal that the call does not have, and if one of these never came up: some refusal, some method's success, an empty list planned without room or refused
- * for bytes behind it, a plan of a job with many equal next uses, a kind of degrees, an end with nothing held, with some places taken or with a full drive,
- * the longest job, the longest plan; with booked places some method's success, a plan of each method, an order and a refusal 7 that would be others if none
- * were booked, one place left, the places absent, as many booked as places, more, and 13 before or behind another fault; with warm-ups some method's success,
- * an order of methods 1 and 3 that drawing out changes, one that would be another by each wrong way of doing so, each fault of a warm-up part, and 16 on a
- * list that is read, or has a test too wide, without the part; an old file of each kind planned and one refused, with booked places and with warm-ups
- * too, and one whose order would be another by method 0, and by method 3. The same jobs in every run.
+ * Compares the C program with the library's call on random, damaged, boundary and two-fault jobs, with booked places and without, on empty lists, on jobs with
+ * many curves of equal next use, and on jobs of method 1 with large degrees: the answer, and every byte of the plan's buffer. Among each kind are old files,
+ * whose method byte is 2: with 1 in its place the library answers and writes the same. Fails on the first difference, on a refusal that the call does not have,
+ * and if one of these never came up: some refusal, some method's success, an empty list planned without room or refused for bytes behind it, a plan of a job
+ * with many equal next uses, a kind of degrees, an end with nothing held, with some places taken or with a full drive, the longest job, the longest plan; with
+ * booked places some method's success, a plan of each method, an order and a refusal 7 that would be others if none were booked, one place left, the places
+ * absent, as many booked as places, more, and 13 before or behind another fault; an old file of each kind planned and one refused, with booked places too, and
+ * one whose order would be another by method 0, and by method 3. The same jobs in every run.
  */
 #include <stdio.h>
 #include <string.h>
@@ -20,19 +18,16 @@
 #define LARGE_JOBS 3000
 #define TIED_JOBS 12000
 #define DENSE_JOBS 1500
-#define PARTS 8 /* lists of each size whose warm-up parts get each fault */
 #define JOB_ROOM (CURVEPLAN_JOB_BYTES + 64)
 #define PLAN_ROOM (CURVEPLAN_PLAN_BYTES + 64)
 #define LONGEST_PLAN 5121 /* of the call: 11 bytes for step 0, which has no drops, 20 for each other step, 10 for the end step */
 #define FILL 0xa5
 #define MOST_TESTS 256
 #define LARGEST_DEGREE (255 * 64)
-#define UNWARMED_JOB 2311 /* the longest without warm-ups: 7 bytes of the head, and 9 for each of 256 tests */
-#define FAULTY_PART 16    /* the refusal of a warm-up part */
 
 /* The call's refusals; 5 is withdrawn. */
-static const unsigned REFUSALS[] = {1, 2, 3, 4, 6, 7, 9, 13, FAULTY_PART};
-#define MOST_REFUSAL FAULTY_PART
+static const unsigned REFUSALS[] = {1, 2, 3, 4, 6, 7, 9, 13};
+#define MOST_REFUSAL 13
 
 /* The methods; a method byte of 2 is read as 1. */
 static const unsigned METHODS[] = {0, 1, 3};
@@ -109,9 +104,9 @@ struct drive {
     unsigned places, booked;
 };
 
-static void put_head(struct bytes *job, struct drive drive, unsigned curves, unsigned tests, unsigned method, unsigned warmed)
+static void put_head(struct bytes *job, struct drive drive, unsigned curves, unsigned tests, unsigned method)
 {
-    put(job, (drive.places != 8) | (curves != 64) << 1 | (tests != 0) << 2 | (method != 0) << 3 | (drive.booked != 0) << 4 | (warmed != 0) << 5);
+    put(job, (drive.places != 8) | (curves != 64) << 1 | (tests != 0) << 2 | (method != 0) << 3 | (drive.booked != 0) << 4);
     if (drive.places != 8) {
         put(job, drive.places);
     }
@@ -151,120 +146,6 @@ static struct drive some_drive(unsigned capacity)
     return (struct drive){capacity + booked, booked};
 }
 
-/* ---- warm-ups */
-
-#define NONE 256
-
-struct warm_ups {
-    unsigned number;         /* of those that are there */
-    unsigned of[MOST_TESTS]; /* the warm-up of each test, or NONE */
-};
-
-/* Few or many, chained, or all the same; the first test has none. */
-static void set_warm_ups(struct warm_ups *warm_ups, unsigned tests)
-{
-    unsigned kind = below(11), one = below(tests), strands = between(1, 5);
-    warm_ups->number = 0;
-    for (unsigned t = 0; t < tests; t++) {
-        unsigned of = NONE, any = below(t);
-        switch (t == 0 ? 11 : kind) {
-        case 0: /* few */
-            of = below(8) ? NONE : any;
-            break;
-        case 1:
-            of = below(3) ? NONE : any;
-            break;
-        case 2:
-            of = below(8) ? any : NONE;
-            break;
-        case 3: /* all */
-            of = any;
-            break;
-        case 4: /* one chain */
-            of = t - 1;
-            break;
-        case 5: /* some chains side by side */
-            of = t < strands ? NONE : t - strands;
-            break;
-        case 6: /* pieces of a chain */
-            of = below(3) ? t - 1 : NONE;
-            break;
-        case 7: /* chains that part */
-            of = t - 1 - below(t < strands ? t : strands);
-            break;
-        case 8: /* one test before all behind it */
-            of = t <= one ? NONE : one;
-            break;
-        case 9: /* one test has one */
-            of = t == one ? any : NONE;
-            break;
-        case 10: /* the first half before the other */
-            of = t < tests / 2 ? NONE : below(tests / 2);
-            break;
-        }
-        warm_ups->of[t] = of;
-        warm_ups->number += of != NONE;
-    }
-}
-
-/* None for about half of the lists, and for those that cannot have one. */
-static void some_warm_ups(struct warm_ups *warm_ups, unsigned tests)
-{
-    warm_ups->number = 0;
-    if (tests > 1 && below(2)) {
-        set_warm_ups(warm_ups, tests);
-    }
-}
-
-/* The warm-up part, nothing where there are none. */
-static void put_warm_ups(struct bytes *job, unsigned tests, const struct warm_ups *warm_ups)
-{
-    if (warm_ups->number == 0) {
-        return;
-    }
-    for (unsigned from = 0; from < tests; from += 8) {
-        unsigned map = 0;
-        for (unsigned t = from; t < tests && t < from + 8; t++) {
-            map |= (unsigned)(warm_ups->of[t] != NONE) << t % 8;
-        }
-        put(job, map);
-    }
-    for (unsigned t = 0; t < tests; t++) {
-        if (warm_ups->of[t] != NONE) {
-            put(job, warm_ups->of[t]);
-        }
-    }
-}
-
-/* A warm-up part that may have spare bits, test 0's bit or none at all, numbers that are too high, and some too few or too many. */
-static void put_any_warm_ups(struct bytes *job, unsigned tests)
-{
-    unsigned sparse = below(2), zero = below(10) == 0;
-    size_t start = job->length;
-    for (unsigned from = 0; from < tests; from += 8) {
-        unsigned map = zero ? 0 : below(256) & (sparse ? below(256) : 255);
-        if (tests - from < 8 && below(8)) {
-            map &= (1u << (tests - from)) - 1;
-        }
-        put(job, from == 0 && below(8) ? map & ~1u : map);
-    }
-    for (unsigned t = 0; t < tests; t++) {
-        if (start + t / 8 < JOB_ROOM && job->at[start + t / 8] >> t % 8 & 1) {
-            put(job, below(2 * tests + 8) ? below(t) : PICK(t, t + 1, 255));
-        }
-    }
-    switch (below(12)) {
-    case 0:
-        job->length -= job->length > start;
-        break;
-    case 1:
-        put(job, PICK(0, 1, 255));
-        break;
-    }
-}
-
-/* ---- jobs */
-
 /* A job as it should be, but for a test that may want too much, and booked places that may not be fewer than the places. */
 static void random_job(struct bytes *job, int large)
 {
@@ -281,10 +162,8 @@ static void random_job(struct bytes *job, int large)
     for (unsigned i = 0; i < 4; i++) {
         families[i] = some_curves(curves, most);
     }
-    struct warm_ups warm_ups;
-    some_warm_ups(&warm_ups, tests);
     job->length = 0;
-    put_head(job, drive, curves, tests, method, warm_ups.number);
+    put_head(job, drive, curves, tests, method);
     for (unsigned t = 0; t < tests; t++) {
         uint64_t set;
         switch (kind) {
@@ -317,7 +196,6 @@ static void random_job(struct bytes *job, int large)
         }
         put_record(job, set);
     }
-    put_warm_ups(job, tests, &warm_ups);
 }
 
 /*
@@ -337,16 +215,13 @@ static void tied_job(struct bytes *job)
         sizes[i]++;
         largest = sizes[i] > largest ? sizes[i] : largest;
     }
-    struct warm_ups warm_ups;
-    some_warm_ups(&warm_ups, tests);
     job->length = 0;
-    put_head(job, some_drive(largest < curves ? between(largest, curves - 1) : largest), curves, tests, method, warm_ups.number);
+    put_head(job, some_drive(largest < curves ? between(largest, curves - 1) : largest), curves, tests, method);
     for (unsigned t = 0; t < tests; t++) {
         uint64_t set = parts[in_turn ? t % number : below(number)];
         /* seldom less than the whole part */
         put_record(job, below(16) ? set : set & word());
     }
-    put_warm_ups(job, tests, &warm_ups);
 }
 
 /* A list whose tests have many curves in common. */
@@ -395,20 +270,17 @@ static void dense_job(struct bytes *job, const uint64_t *wants, unsigned tests)
         }
         widest = size > widest ? size : widest;
     }
-    struct warm_ups warm_ups;
-    some_warm_ups(&warm_ups, tests);
     job->length = 0;
-    put_head(job, some_drive(between(widest, 64)), 64, tests, PICK(1, 1, 2), warm_ups.number);
+    put_head(job, some_drive(between(widest, 64)), 64, tests, PICK(1, 1, 2));
     for (unsigned t = 0; t < tests; t++) {
         put_record(job, wants[t]);
     }
-    put_warm_ups(job, tests, &warm_ups);
 }
 
-/* Any map and fields on and around their bounds, a few records, and a warm-up part. */
+/* Any map and fields on and around their bounds, and a few records. */
 static void crafted_job(struct bytes *job)
 {
-    unsigned map = below(64) | (below(8) ? 4 : 0) | (below(12) ? 0 : 64u << below(2)), places = 8, tests = 0;
+    unsigned map = below(32) | (below(8) ? 4 : 0) | (below(12) ? 0 : 32u << below(3)), places = 8, tests = 0;
     job->length = 0;
     put(job, map);
     if (map & 1) {
@@ -419,7 +291,7 @@ static void crafted_job(struct bytes *job)
         put(job, PICK(1, 2, 8, 9, 20, 62, 63, 0, 64, 65, 255));
     }
     if (map & 4) {
-        tests = PICK(1, 1, 2, 2, 3, 3, 4, 5, 7, 8, 9, 0, 255, 256, 257, 512, 65535);
+        tests = PICK(1, 1, 2, 2, 3, 3, 4, 5, 0, 256, 257, 512, 65535);
         put(job, tests & 255);
         put(job, tests >> 8);
     }
@@ -436,16 +308,12 @@ static void crafted_job(struct bytes *job)
             put(job, below(10) ? PICK(1, 1, 1, 2, 3) : below(256));
         }
     }
-    if (map & 32) {
-        put_any_warm_ups(job, tests < MOST_TESTS ? tests : MOST_TESTS);
-    }
 }
 
-/* One fault, or by luck none: anywhere, or among the first or the last bytes. */
+/* One fault, or by luck none. */
 static void damage(struct bytes *job)
 {
-    unsigned length = (unsigned)job->length, near = length < 8 ? length : 8, where = below(4);
-    size_t at = length == 0 ? 0 : where == 0 ? below(near) : where == 1 ? length - 1 - below(near) : below(length);
+    size_t at = job->length == 0 ? 0 : below((unsigned)(below(3) || job->length < 8 ? job->length : 8));
     unsigned byte = PICK(0, 0, 1, 2, 3, 7, 8, 9, 15, 16, 63, 64, 65, 128, 255);
     switch (job->length == 0 ? 5 : below(7)) {
     case 0:
@@ -555,7 +423,7 @@ static uint64_t answer_unbooked(const struct bytes *job, const struct head *head
     other.length = job->length - 1;
     memcpy(other.at, job->at, at);
     memcpy(other.at + at, job->at + at + 1, other.length - at);
-    other.at[0] ^= 16;
+    other.at[0] &= 15;
     return fast_plan(other.at, other.length, plan, room);
 }
 
@@ -565,7 +433,7 @@ static unsigned long booked[4], planned_by_places[4], ordered_by_places, one_lef
 static unsigned long too_wide_if_booked;
 /* Refused with 13: as many are booked as there are places, or more; by the answer if none were booked, 0 for a plan. */
 static unsigned long all_booked, more_booked, behind_13[MOST_REFUSAL + 1];
-static const unsigned BEHIND_13[] = {1, 3, 4, 6, 7, 9, FAULTY_PART};
+static const unsigned BEHIND_13[] = {1, 3, 4, 6, 7, 9};
 /* Refused with 2, while the booked places are not below the places. */
 static unsigned long before_13;
 
@@ -617,9 +485,8 @@ static const char *const KIND_NAMES[KINDS] = {
 
 static enum kind made_as;
 
-/* Planned and refused, of each kind, with booked places, and with warm-ups; planned, with another order if the method were 0 or 3. */
-static unsigned long old_planned[KINDS], old_refused[KINDS], old_booked_planned, old_booked_refused, old_warmed_planned, old_warmed_refused;
-static unsigned long listed_otherwise, packed_otherwise;
+/* Planned and refused, of each kind, and with booked places; planned, with another order if the method were 0 or 3. */
+static unsigned long old_planned[KINDS], old_refused[KINDS], old_booked_planned, old_booked_refused, listed_otherwise, packed_otherwise;
 
 /* Where the method byte is, if it is there and is 2; else 0. */
 static size_t old_method_at(const struct bytes *job)
@@ -642,186 +509,18 @@ static int orders_otherwise(const struct fast_job *read, unsigned method)
 
 static void count_old(const struct bytes *job, uint64_t answer)
 {
-    unsigned with_booked = job->at[0] >> 4 & 1, with_warm_ups = job->at[0] >> 5 & 1;
+    unsigned with_booked = job->at[0] >> 4 & 1;
     if (curveplan_refused_16(answer)) {
         old_refused[made_as]++;
         old_booked_refused += with_booked;
-        old_warmed_refused += with_warm_ups;
         return;
     }
     struct fast_job read;
     fast_read(job->at, job->length, &read);
     old_planned[made_as]++;
     old_booked_planned += with_booked;
-    old_warmed_planned += with_warm_ups;
     listed_otherwise += orders_otherwise(&read, 0);
     packed_otherwise += orders_otherwise(&read, 3);
-}
-
-/* ---- drawing out, and faulty warm-up parts */
-
-/* Planned with warm-ups, by method and by kind; of these by method, drawn out to another order; with booked places. */
-static unsigned long warmed[4], warmed_planned[KINDS], drawn_out[4], warmed_booked;
-
-/* Wrong ways to draw an order out. */
-enum wrong { GOING_ON, FETCHING, DEPTH_FIRST, WRONGS };
-
-static const char *const WRONG_NAMES[WRONGS] = {"going on behind each test taken", "fetching warm-ups", "taking all behind a test at once"};
-
-/* Planned, with another order by a wrong way. */
-static unsigned long drawn_otherwise[WRONGS];
-
-/* What a warm-up part is refused for. */
-enum part_fault { NO_MAP, MAP_CUT, SPARE_BIT, ALL_ZERO, NUMBER_CUT, OF_TEST_0, NOT_BELOW, PART_FAULTS };
-
-static const char *const PART_FAULT_NAMES[PART_FAULTS] = {
-    "no tests", "a cut map", "a spare bit", "a map of zeros", "a missing number", "the number of test 0", "a number not below its test",
-};
-
-/* Refused with 16: by fault and by kind; and without the part read, or refused with 7. */
-static unsigned long part_faults[PART_FAULTS], warmed_refused[KINDS], read_without, too_wide_without;
-
-/* The tests of a plan's steps. */
-static void order_of(const uint8_t *plan, size_t length, uint8_t *order)
-{
-    for (size_t at = 0, end = end_step(plan, length); at < end; at++) {
-        unsigned map = plan[at++];
-        if (map & 1) {
-            at = behind_set(plan, at);
-        }
-        if (map & 2) {
-            at = behind_set(plan, at);
-        }
-        *order++ = plan[at];
-    }
-}
-
-/* An order that is being drawn out: its tests, their warm-ups, and those taken. */
-struct drawing {
-    unsigned tests, drawn;
-    const uint8_t *from;
-    const uint16_t *warm_ups;
-    uint8_t taken[MOST_TESTS + 1], order[MOST_TESTS];
-};
-
-static void take(struct drawing *drawing, unsigned test)
-{
-    drawing->taken[test] = 1;
-    drawing->order[drawing->drawn++] = (uint8_t)test;
-}
-
-static int is_ready(const struct drawing *drawing, unsigned test)
-{
-    return !drawing->taken[test] && drawing->taken[drawing->warm_ups[test]];
-}
-
-/* A test behind its warm-ups. */
-static void fetch(struct drawing *drawing, unsigned test)
-{
-    if (!drawing->taken[test]) {
-        fetch(drawing, drawing->warm_ups[test]);
-        take(drawing, test);
-    }
-}
-
-/* A test, and those before position p that wait for it, each with its own. */
-static void take_all(struct drawing *drawing, unsigned test, unsigned p)
-{
-    take(drawing, test);
-    for (unsigned q = 0; q < p; q++) {
-        if (drawing->warm_ups[drawing->from[q]] == test && is_ready(drawing, drawing->from[q])) {
-            take_all(drawing, drawing->from[q], p);
-        }
-    }
-}
-
-/* Whether a wrong way gives another order. */
-static int draws_otherwise(enum wrong way, const struct fast_job *read, const uint8_t *from, const uint8_t *order)
-{
-    struct drawing drawing = {.tests = read->tests, .from = from, .warm_ups = read->warm_ups, .taken = {[NONE] = 1}};
-    while (drawing.drawn < drawing.tests) {
-        for (unsigned p = 0; p < drawing.tests; p++) {
-            if (way == FETCHING) {
-                fetch(&drawing, from[p]);
-            } else if (is_ready(&drawing, from[p])) {
-                if (way == DEPTH_FIRST) {
-                    take_all(&drawing, from[p], p);
-                } else {
-                    take(&drawing, from[p]);
-                }
-            }
-        }
-    }
-    return memcmp(order, drawing.order, drawing.tests) != 0;
-}
-
-/* Counts a job with warm-ups that is planned. Its order is made without them too. */
-static void count_warmed(const struct bytes *job, const uint8_t *plan, size_t length)
-{
-    struct fast_job read;
-    uint8_t from[FAST_TESTS], order[FAST_TESTS];
-    fast_read(job->at, job->length, &read);
-    warmed[read.method]++;
-    warmed_planned[made_as]++;
-    warmed_booked += job->at[0] >> 4 & 1;
-    read.warmed = 0;
-    fast_order(&read, from);
-    order_of(plan, length, order);
-    if (memcmp(from, order, read.tests) != 0) {
-        drawn_out[read.method]++;
-        for (enum wrong way = 0; way < WRONGS; way++) {
-            drawn_otherwise[way] += draws_otherwise(way, &read, from, order);
-        }
-    }
-}
-
-/* Where the warm-up part begins of a job whose records are read, and the number of tests. */
-static size_t part_at(const struct bytes *job, unsigned *tests)
-{
-    unsigned map = job->at[0];
-    size_t tests_at = 1 + (map & 1) + (map >> 1 & 1), at = head_of(job).booked_at + (map >> 4 & 1);
-    *tests = map & 4 ? job->at[tests_at] | (unsigned)job->at[tests_at + 1] << 8 : 0;
-    for (unsigned t = 0; t < *tests; t++) {
-        at = behind_set(job->at, at);
-    }
-    return at;
-}
-
-static enum part_fault part_fault(const struct bytes *job, size_t start, unsigned tests, size_t figure)
-{
-    size_t numbers = start + (tests + 7) / 8;
-    if (tests == 0) {
-        return NO_MAP;
-    }
-    if (job->length < numbers) {
-        return MAP_CUT;
-    }
-    if (tests % 8 != 0 && job->at[numbers - 1] >> tests % 8 != 0) {
-        return SPARE_BIT;
-    }
-    if (figure == start) {
-        return ALL_ZERO;
-    }
-    if (figure == job->length) {
-        return NUMBER_CUT;
-    }
-    return figure == numbers && (job->at[start] & 1) != 0 ? OF_TEST_0 : NOT_BELOW;
-}
-
-/* Counts a job that is refused with 16. It is read without the part and its bit too. */
-static void count_faulty_part(const struct bytes *job, uint64_t answer)
-{
-    static struct bytes other;
-    struct fast_job read;
-    unsigned tests;
-    size_t start = part_at(job, &tests);
-    part_faults[part_fault(job, start, tests, curveplan_figure_16(answer))]++;
-    warmed_refused[made_as]++;
-    memcpy(other.at, job->at, start);
-    other.at[0] ^= 32;
-    uint64_t without = fast_read(other.at, start, &read);
-    read_without += without == 0;
-    too_wide_without += curveplan_number_16(without) == CURVEPLAN_TEST_TOO_LARGE;
 }
 
 /* ---- comparing */
@@ -868,9 +567,6 @@ static void count_planned(const struct bytes *job, const uint8_t *plan, size_t l
     longest_job = job->length > longest_job ? job->length : longest_job;
     if (head.drive.booked != 0) {
         count_booked(job, &head, plan, length);
-    }
-    if (job->at[0] & 32) {
-        count_warmed(job, plan, length);
     }
 }
 
@@ -934,9 +630,6 @@ static int differs(const struct bytes *job, size_t room)
             refused[curveplan_number_16(fast)]++;
             if (job->length != 0 && job->at[0] & 16) {
                 count_booked_refused(job, fast, room);
-            }
-            if (curveplan_number_16(fast) == FAULTY_PART) {
-                count_faulty_part(job, fast);
             }
         }
         size_t method_at = old_method_at(job);
@@ -1019,14 +712,13 @@ static const struct known KNOWN[] = {
     {{64, 32}, 256, 1, LOWER, ~LOWER, LONGEST_PLAN},
 };
 
-static void known_job(struct bytes *job, const struct known *known, unsigned method, const struct warm_ups *warm_ups)
+static void known_job(struct bytes *job, const struct known *known, unsigned method)
 {
     job->length = 0;
-    put_head(job, known->drive, 64, known->tests, method, warm_ups->number);
+    put_head(job, known->drive, 64, known->tests, method);
     for (unsigned t = 0; t < known->tests; t++) {
         put_record(job, t % 2 == 0 ? known->even : known->odd);
     }
-    put_warm_ups(job, known->tests, warm_ups);
 }
 
 /* The job with no room, room for the steps without the end step, one byte too few, just enough, one more, and the most. */
@@ -1042,41 +734,31 @@ static int every_room_differs(const struct bytes *job, size_t length)
            differs(job, CURVEPLAN_PLAN_BYTES);
 }
 
-/* Each without warm-ups, and with some, which change no length: as listed they change no order, and with the other methods all tests want the same. */
 static int some_known_differs(struct bytes *job)
 {
-    struct warm_ups warm_ups;
     for (size_t i = 0; i < sizeof KNOWN / sizeof *KNOWN; i++) {
         for (unsigned method = 0; method < KNOWN[i].methods; method++) {
-            for (unsigned turn = 0; turn < (KNOWN[i].tests > 1 ? 4 : 1); turn++) {
-                warm_ups.number = 0;
-                if (turn > 0) {
-                    set_warm_ups(&warm_ups, KNOWN[i].tests);
-                }
-                known_job(job, &KNOWN[i], method, &warm_ups);
-                if (every_room_differs(job, KNOWN[i].length)) {
-                    return 1;
-                }
+            known_job(job, &KNOWN[i], method);
+            if (every_room_differs(job, KNOWN[i].length)) {
+                return 1;
             }
         }
     }
     return 0;
 }
 
-/* ---- the longest job, and jobs with booked places or warm-ups whose answers are known */
+/* ---- the longest job, and jobs with booked places whose answers are known */
 
 static uint64_t refusal(unsigned number, size_t figure)
 {
     return (uint64_t)number * 65536 + figure;
 }
 
-#define PLANNED UINT64_MAX /* an answer of any count of bytes */
-
 static int answers_otherwise(const struct bytes *job, uint64_t answer)
 {
     uint8_t plan[CURVEPLAN_PLAN_BYTES];
     uint64_t fast = fast_plan(job->at, job->length, plan, sizeof plan);
-    if (answer == PLANNED ? curveplan_refused_16(fast) : fast != answer) {
+    if (fast != answer) {
         printf("a job of %zu bytes, the first %02x: the C program answers %llu, not %llu\n", job->length, job->at[0], (unsigned long long)fast,
                (unsigned long long)answer);
         return 1;
@@ -1086,34 +768,26 @@ static int answers_otherwise(const struct bytes *job, uint64_t answer)
 
 /*
  * All fields, and eight groups in each record: half of the curves, and the others, in turn. Each method but 0 puts the tests that want the same behind each
- * other, so that two steps have loads, and one of them drops; in a drive with all 64 places none would. With warm-ups every test but the first has one, the
- * last before it that wants the same; test 1 has test 0. Drawn out, those that want the same are still behind each other.
+ * other, so that two steps have loads, and one of them drops; in a drive with all 64 places none would.
  */
 static int longest_differs(struct bytes *job)
 {
-    struct warm_ups all = {.number = MOST_TESTS - 1, .of = {NONE, 0}}, none = {.number = 0};
-    for (unsigned t = 2; t < MOST_TESTS; t++) {
-        all.of[t] = t - 2;
-    }
-    for (unsigned i = 0; i < 6; i++) {
-        const struct warm_ups *warm_ups = i % 2 == 0 ? &none : &all;
-        size_t length = i % 2 == 0 ? UNWARMED_JOB : CURVEPLAN_JOB_BYTES;
+    for (unsigned method = 1; method < 4; method++) {
         job->length = 0;
-        put_head(job, (struct drive){64, 32}, 63, MOST_TESTS, 1 + i / 2, warm_ups->number);
+        put_head(job, (struct drive){64, 32}, 63, MOST_TESTS, method);
         size_t booked_at = job->length - 1;
         for (unsigned t = 0; t < MOST_TESTS; t++) {
             put_record(job, t % 2 == 0 ? LOWER : ~LOWER & ~LAST);
         }
-        put_warm_ups(job, MOST_TESTS, warm_ups);
         if (every_room_differs(job, 11 + 127 * 2 + 20 + 127 * 2 + 10)) {
             return 1;
         }
         put(job, 0);
-        if (answers_otherwise(job, refusal(6, length))) {
+        if (answers_otherwise(job, refusal(6, CURVEPLAN_JOB_BYTES))) {
             return 1;
         }
         job->length -= 2;
-        if (answers_otherwise(job, refusal(i % 2 == 0 ? 1 : FAULTY_PART, length - 1))) {
+        if (answers_otherwise(job, refusal(1, CURVEPLAN_JOB_BYTES - 1))) {
             return 1;
         }
         /* one place too few for test 0 */
@@ -1129,7 +803,7 @@ static int longest_differs(struct bytes *job)
 /* A job, and its answer by the papers. */
 struct settled {
     size_t length;
-    uint8_t at[16];
+    uint8_t at[10];
     unsigned number, figure; /* of the refusal; 0 and the count of plan bytes where there is none */
 };
 
@@ -1156,6 +830,7 @@ static const struct settled SETTLED[] = {
     {JOB(0x11, 0x3f, 0x3f), 13, 2},
     {JOB(0x11, 0x40, 0x3f), 0, 0},
     /* A fault of the map or of another field, and 13. */
+    {JOB(0x30, 0x08), 2, 0},
     {JOB(0x50, 0x08), 2, 0},
     {JOB(0x90, 0x08), 2, 0},
     {JOB(0x11, 0x00, 0x01), 2, 1},
@@ -1203,70 +878,6 @@ static const struct settled SETTLED[] = {
     {JOB(0x08, 0x02, 0x00), 6, 2},
     {JOB(0x0d, 0x02, 0x01, 0x00, 0x02, 0x01, 0x07), 7, 0},
     {JOB(0x0d, 0x03, 0x01, 0x00, 0x02, 0x01, 0x07), 0, 4 + 3},
-    /* Warm-ups without tests: there is no map. A fault of the head comes first. */
-    {JOB(0x20), 16, 1},
-    {JOB(0x20, 0x00), 16, 1},
-    {JOB(0x20, 0x01, 0x00), 16, 1},
-    {JOB(0x21, 0x02), 16, 2},
-    {JOB(0x28, 0x02), 16, 2},
-    {JOB(0x30, 0x07), 16, 2},
-    {JOB(0x30, 0x07, 0xff), 16, 2},
-    {JOB(0x30, 0x08), 13, 1},
-    {JOB(0x30, 0x40), 2, 1},
-    {JOB(0x30), 1, 1},
-    {JOB(0x60), 2, 0},
-    {JOB(0xa0), 2, 0},
-    {JOB(0xe0), 2, 0},
-    /* One test, which has no lower one: no map, zeros, spare bits with its own bit and without, its own bit without a number and with one. */
-    {JOB(0x24, 0x01, 0x00), 1, 3},
-    {JOB(0x24, 0x01, 0x00, 0x00), 16, 4},
-    {JOB(0x24, 0x01, 0x00, 0x00, 0x00), 16, 4},
-    {JOB(0x24, 0x01, 0x00, 0x00, 0x00, 0x00), 16, 4},
-    {JOB(0x24, 0x01, 0x00, 0x00, 0x02), 16, 4},
-    {JOB(0x24, 0x01, 0x00, 0x00, 0x80), 16, 4},
-    {JOB(0x24, 0x01, 0x00, 0x00, 0x03, 0x00), 16, 4},
-    {JOB(0x24, 0x01, 0x00, 0x00, 0x01), 16, 5},
-    {JOB(0x24, 0x01, 0x00, 0x00, 0x01, 0x00), 16, 5},
-    {JOB(0x24, 0x01, 0x00, 0x00, 0x01, 0xff, 0x00), 16, 5},
-    /* Two tests: the second has the first, itself, a higher one, none; the first has one too, or alone. */
-    {JOB(0x24, 0x02, 0x00, 0x00, 0x00, 0x02, 0x00), 0, 4},
-    {JOB(0x24, 0x02, 0x00, 0x00, 0x00, 0x02, 0x01), 16, 6},
-    {JOB(0x24, 0x02, 0x00, 0x00, 0x00, 0x02, 0x02), 16, 6},
-    {JOB(0x24, 0x02, 0x00, 0x00, 0x00, 0x02, 0xff), 16, 6},
-    {JOB(0x24, 0x02, 0x00, 0x00, 0x00, 0x02), 16, 6},
-    {JOB(0x24, 0x02, 0x00, 0x00, 0x00, 0x03, 0x00, 0x00), 16, 6},
-    {JOB(0x24, 0x02, 0x00, 0x00, 0x00, 0x03), 16, 6},
-    {JOB(0x24, 0x02, 0x00, 0x00, 0x00, 0x01, 0x00), 16, 6},
-    {JOB(0x24, 0x02, 0x00, 0x00, 0x00, 0x06, 0x00), 16, 5},
-    {JOB(0x24, 0x02, 0x00, 0x00, 0x00, 0x06), 16, 5},
-    {JOB(0x24, 0x02, 0x00, 0x00, 0x00, 0x00), 16, 5},
-    {JOB(0x24, 0x02, 0x00, 0x00, 0x00), 16, 5},
-    /* The number missing of the last of three, behind a right and behind a wrong one. */
-    {JOB(0x24, 0x03, 0x00, 0x00, 0x00, 0x00, 0x06, 0x00), 16, 8},
-    {JOB(0x24, 0x03, 0x00, 0x00, 0x00, 0x00, 0x06, 0x01), 16, 7},
-    /* Bytes behind the part, a right one and a wrong one; the part without its bit. */
-    {JOB(0x24, 0x02, 0x00, 0x00, 0x00, 0x02, 0x00, 0x00), 6, 7},
-    {JOB(0x24, 0x02, 0x00, 0x00, 0x00, 0x02, 0x01, 0x00), 16, 6},
-    {JOB(0x04, 0x02, 0x00, 0x00, 0x00, 0x02, 0x00), 6, 5},
-    /* A fault of the records, and one of the part. */
-    {JOB(0x24, 0x02, 0x00, 0x00), 1, 4},
-    {JOB(0x24, 0x02, 0x00, 0x01, 0x00, 0x00, 0x02, 0x01), 3, 4},
-    {JOB(0x26, 0x04, 0x02, 0x00, 0x00, 0x01, 0x10, 0x02, 0x01), 4, 6},
-    /* Three curves and two places: too wide with a right part, not yet asked with a wrong one, or with one byte too many. */
-    {JOB(0x25, 0x02, 0x02, 0x00, 0x00, 0x01, 0x07, 0x02, 0x00), 7, 1},
-    {JOB(0x25, 0x02, 0x02, 0x00, 0x00, 0x01, 0x07, 0x02, 0x01), 16, 8},
-    {JOB(0x25, 0x02, 0x02, 0x00, 0x00, 0x01, 0x07, 0x02, 0x00, 0x00), 6, 9},
-    /* Behind a method byte of 2. */
-    {JOB(0x2c, 0x02, 0x00, 0x02, 0x00, 0x00, 0x02, 0x00), 0, 4},
-    {JOB(0x2c, 0x02, 0x00, 0x02, 0x00, 0x00, 0x02, 0x01), 16, 7},
-    {JOB(0x2c, 0x02, 0x00, 0x02, 0x00, 0x00, 0x02), 16, 7},
-    {JOB(0x2c, 0x02, 0x00, 0x02, 0x00, 0x00, 0x00), 16, 6},
-    {JOB(0x2c, 0x02, 0x00, 0x02, 0x00, 0x00, 0x02, 0x00, 0x00), 6, 8},
-    /* Job A with each method, test 2 behind test 1: by all of them the order as listed. */
-    {JOB(0x27, 0x02, 0x04, 0x04, 0x00, 0x01, 0x03, 0x01, 0x06, 0x01, 0x03, 0x01, 0x08, 0x04, 0x01), 0, 25},
-    {JOB(0x2f, 0x02, 0x04, 0x04, 0x00, 0x01, 0x01, 0x03, 0x01, 0x06, 0x01, 0x03, 0x01, 0x08, 0x04, 0x01), 0, 25},
-    {JOB(0x2f, 0x02, 0x04, 0x04, 0x00, 0x02, 0x01, 0x03, 0x01, 0x06, 0x01, 0x03, 0x01, 0x08, 0x04, 0x01), 0, 25},
-    {JOB(0x2f, 0x02, 0x04, 0x04, 0x00, 0x03, 0x01, 0x03, 0x01, 0x06, 0x01, 0x03, 0x01, 0x08, 0x04, 0x01), 0, 25},
 };
 
 static int some_settled_differs(struct bytes *job)
@@ -1283,136 +894,15 @@ static int some_settled_differs(struct bytes *job)
     return 0;
 }
 
-/* ---- warm-up parts whose answers are known */
-
-/* A copy of a job, of so many bytes, with one byte changed. */
-static struct bytes *altered(const struct bytes *job, size_t length, size_t at, unsigned byte)
-{
-    static struct bytes other;
-    other.length = length;
-    memcpy(other.at, job->at, job->length);
-    other.at[at] = (uint8_t)byte;
-    return &other;
-}
-
-/* The part cut at each of its bytes; bytes behind it; its bit gone, and a wrong one beside it. */
-static int cuts_differ(const struct bytes *job, size_t start)
-{
-    unsigned map = job->at[0];
-    for (size_t length = start; length < job->length; length++) {
-        if (answers_otherwise(altered(job, length, 0, map), refusal(FAULTY_PART, length))) {
-            return 1;
-        }
-    }
-    struct bytes *longer = altered(job, job->length, 0, map);
-    for (unsigned bytes = PICK(1, 1, 2, 9, 40); bytes > 0; bytes--) {
-        put(longer, PICK(0, 1, 255, below(256)));
-    }
-    return answers_otherwise(longer, refusal(6, job->length)) || answers_otherwise(altered(job, job->length, 0, map ^ 32), refusal(6, start)) ||
-           answers_otherwise(altered(job, job->length, 0, map | 64), refusal(2, 0)) ||
-           answers_otherwise(altered(job, job->length, 0, map | 128), refusal(2, 0));
-}
-
-/* The map: each spare bit, beside the others and alone, with numbers and without; zeros, with numbers behind them and without; the bit of test 0. */
-static int maps_differ(const struct bytes *job, size_t start, unsigned tests)
-{
-    size_t numbers = start + (tests + 7) / 8, last = numbers - 1;
-    struct bytes *other;
-    for (unsigned bit = tests % 8; bit % 8 != 0; bit++) {
-        for (unsigned turn = 0; turn < 4; turn++) {
-            other = altered(job, turn & 1 ? numbers : job->length, last, job->at[last] | 1u << bit);
-            if (turn & 2) {
-                memset(other->at + start, 0, last - start);
-                other->at[last] = (uint8_t)(1u << bit);
-            }
-            if (answers_otherwise(other, refusal(FAULTY_PART, last))) {
-                return 1;
-            }
-        }
-    }
-    for (unsigned turn = 0; turn < 2; turn++) {
-        other = altered(job, turn & 1 ? numbers : job->length, last, 0);
-        memset(other->at + start, 0, last - start);
-        if (answers_otherwise(other, refusal(FAULTY_PART, start))) {
-            return 1;
-        }
-    }
-    return answers_otherwise(altered(job, job->length, start, job->at[start] | 1), refusal(FAULTY_PART, numbers)) ||
-           answers_otherwise(altered(job, numbers, start, job->at[start] | 1), refusal(FAULTY_PART, numbers));
-}
-
-/*
- * Each number as high as its test, one higher, and the highest; by itself, with nothing behind it, with a byte behind the part, with another wrong one. Some
- * numbers one below their test.
- */
-static int numbers_differ(const struct bytes *job, size_t start, unsigned tests, const struct warm_ups *warm_ups)
-{
-    size_t at = start + (tests + 7) / 8;
-    for (unsigned t = 1; t < tests; t++) {
-        if (warm_ups->of[t] == NONE) {
-            continue;
-        }
-        const unsigned wrong[] = {t, t < 255 ? t + 1 : t, 255};
-        for (unsigned i = 0; i < 3; i++) {
-            if (answers_otherwise(altered(job, job->length, at, wrong[i]), refusal(FAULTY_PART, at))) {
-                return 1;
-            }
-        }
-        struct bytes *other = altered(job, job->length, at, wrong[below(3)]);
-        switch (below(3)) {
-        case 0:
-            other->length = at + 1;
-            break;
-        case 1:
-            put(other, below(256));
-            break;
-        default: /* the last is of a test that is at most 255 */
-            other->at[job->length - 1] = 255;
-        }
-        if (answers_otherwise(other, refusal(FAULTY_PART, at)) || (below(tests) < 2 && answers_otherwise(altered(job, job->length, at, t - 1), PLANNED))) {
-            return 1;
-        }
-        at++;
-    }
-    return 0;
-}
-
-/* Lists of so many tests with every method byte, and their faults. */
-static int some_part_differs(struct bytes *job)
-{
-    static const unsigned SIZES[] = {2, 3, 7, 8, 9, 15, 16, 17, 63, 64, 65, 255, 256};
-    struct warm_ups warm_ups;
-    for (unsigned i = 0; i < sizeof SIZES / sizeof *SIZES * PARTS; i++) {
-        unsigned tests = SIZES[i / PARTS];
-        set_warm_ups(&warm_ups, tests);
-        if (warm_ups.number == 0) {
-            continue;
-        }
-        job->length = 0;
-        put_head(job, some_drive(between(3, 8)), 64, tests, i % 4, 1);
-        for (unsigned t = 0; t < tests; t++) {
-            put_record(job, some_curves(64, between(0, 3)));
-        }
-        size_t start = job->length;
-        put_warm_ups(job, tests, &warm_ups);
-        if (any_differs(job) || answers_otherwise(job, PLANNED) || cuts_differ(job, start) || maps_differ(job, start, tests) ||
-            numbers_differ(job, start, tests, &warm_ups)) {
-            return 1;
-        }
-    }
-    return 0;
-}
-
 /* ---- empty lists */
 
-/* A head without a tests field, by itself and with bytes behind it; with warm-ups it lacks their map. */
-static int empty_differs(struct bytes *job, struct drive drive, unsigned curves, unsigned method, unsigned with_warm_ups)
+/* A head without a tests field, by itself and with bytes behind it. */
+static int empty_differs(struct bytes *job, struct drive drive, unsigned curves, unsigned method)
 {
     job->length = 0;
-    put_head(job, drive, curves, 0, method, with_warm_ups);
+    put_head(job, drive, curves, 0, method);
     int too_many = drive.booked >= drive.places;
-    uint64_t by_itself = too_many ? refusal(13, job->length - 1) : with_warm_ups ? refusal(FAULTY_PART, job->length) : 0;
-    uint64_t with_surplus = by_itself == 0 ? refusal(6, job->length) : by_itself;
+    uint64_t by_itself = too_many ? refusal(13, job->length - 1) : 0, with_surplus = too_many ? by_itself : refusal(6, job->length);
     if (answers_otherwise(job, by_itself)) {
         return 1;
     }
@@ -1426,15 +916,13 @@ static int empty_differs(struct bytes *job, struct drive drive, unsigned curves,
 static int some_empty_differs(struct bytes *job)
 {
     for (unsigned i = 0; i < 64 * 64 * 4; i++) {
-        struct drive drive = {1 + i % 64, 0};
-        if (empty_differs(job, drive, 1 + i / 64 % 64, i / (64 * 64), 0) || empty_differs(job, drive, 1 + i / 64 % 64, i / (64 * 64), 1)) {
+        if (empty_differs(job, (struct drive){1 + i % 64, 0}, 1 + i / 64 % 64, i / (64 * 64))) {
             return 1;
         }
     }
     for (unsigned i = 0; i < 64 * 63; i++) {
-        struct drive drive = {1 + i % 64, 1 + i / 64};
         unsigned curves = between(1, 64), method = below(4);
-        if (empty_differs(job, drive, curves, method, 0) || empty_differs(job, drive, curves, method, 1)) {
+        if (empty_differs(job, (struct drive){1 + i % 64, 1 + i / 64}, curves, method)) {
             return 1;
         }
     }
@@ -1571,37 +1059,6 @@ static int print_booked(void)
     return missing || before_13 == 0;
 }
 
-/* What is counted of warm-ups; whether something of it never came up. */
-static int print_warmed(void)
-{
-    int missing = 0;
-    printf("; with warm-ups planned by method");
-    for (size_t i = 0; i < sizeof METHODS / sizeof *METHODS; i++) {
-        printf(" %u: %lu", METHODS[i], warmed[METHODS[i]]);
-        missing |= warmed[METHODS[i]] == 0;
-    }
-    printf(", of these drawn out to another order by method 1: %lu, 3: %lu, and to another one by", drawn_out[1], drawn_out[3]);
-    missing |= drawn_out[0] != 0 || drawn_out[1] == 0 || drawn_out[3] == 0;
-    for (enum wrong way = 0; way < WRONGS; way++) {
-        printf(" %s: %lu,", WRONG_NAMES[way], drawn_otherwise[way]);
-        missing |= drawn_otherwise[way] == 0;
-    }
-    printf(" with booked places: %lu; planned and refused 16", warmed_booked);
-    missing |= warmed_booked == 0;
-    for (unsigned i = 0; i < KINDS; i++) {
-        printf(" %s: %lu and %lu,", KIND_NAMES[i], warmed_planned[i], warmed_refused[i]);
-        missing |= warmed_planned[i] == 0 && i != EMPTY_LIST;
-        missing |= warmed_refused[i] == 0 && i != UNDAMAGED && i != TIED && i != DENSE;
-    }
-    printf(" refused for");
-    for (unsigned i = 0; i < PART_FAULTS; i++) {
-        printf(" %s: %lu,", PART_FAULT_NAMES[i], part_faults[i]);
-        missing |= part_faults[i] == 0;
-    }
-    printf(" and without the part read: %lu, refused 7: %lu", read_without, too_wide_without);
-    return missing || read_without == 0 || too_wide_without == 0;
-}
-
 /* What is counted of old files; whether something of it never came up. */
 static int print_old(void)
 {
@@ -1618,8 +1075,6 @@ static int print_old(void)
     }
     printf(" with booked places: %lu and %lu", old_booked_planned, old_booked_refused);
     missing |= old_booked_planned == 0 || old_booked_refused == 0;
-    printf(", with warm-ups: %lu and %lu", old_warmed_planned, old_warmed_refused);
-    missing |= old_warmed_planned == 0 || old_warmed_refused == 0;
     printf("; planned with another order by method 0: %lu, by method 3: %lu", listed_otherwise, packed_otherwise);
     return missing || listed_otherwise == 0 || packed_otherwise == 0;
 }
@@ -1628,7 +1083,7 @@ int main(void)
 {
     static struct bytes job;
     made_as = WITH_ANSWER;
-    if (some_known_differs(&job) || longest_differs(&job) || some_settled_differs(&job) || some_part_differs(&job)) {
+    if (some_known_differs(&job) || longest_differs(&job) || some_settled_differs(&job)) {
         return 1;
     }
     made_as = EMPTY_LIST;
@@ -1696,7 +1151,6 @@ int main(void)
     printf("; longest job %zu, longest plan %zu", longest_job, longest);
     missing |= longest_job != CURVEPLAN_JOB_BYTES || longest != LONGEST_PLAN;
     missing |= print_booked();
-    missing |= print_warmed();
     missing |= print_old();
     printf("\n");
     if (missing) {

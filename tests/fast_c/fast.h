@@ -17,16 +17,14 @@ struct fast_job {
     unsigned capacity; /* the places less those booked */
     unsigned tests;    /* 0 to FAST_TESTS */
     unsigned method;
-    unsigned warmed;               /* 1 if the job has warm-ups, else 0 */
-    uint64_t wants[FAST_TESTS];    /* zero behind the last test, up to a multiple of 64 */
-    uint8_t sizes[FAST_TESTS];     /* how many curves each test wants */
-    uint16_t warm_ups[FAST_TESTS]; /* 256 for none; only of a job that has some */
+    uint64_t wants[FAST_TESTS]; /* zero behind the last test, up to a multiple of 64 */
+    uint8_t sizes[FAST_TESTS];  /* how many curves each test wants */
 };
 
 /* Reads a job and sees that each test fits: 0, or the refusal. */
 uint64_t fast_read(const uint8_t *bytes, size_t length, struct fast_job *job);
 
-/* The order of the tests by the job's method, drawn out by its warm-ups; nothing is written for an empty list. */
+/* The order of the tests by the job's method; nothing is written for an empty list. */
 void fast_order(const struct fast_job *job, uint8_t *order);
 
 /* Plans the steps and the end step and writes them to `out`, which takes FAST_BYTES; answers the count of bytes, 0 for an empty list. */

@@ -7,8 +7,8 @@ ghost use Rattle.report.specs.Input.{Enough};
 
 use libc::STDOUT_FILENO;
 
-// How many bytes of a job and of a plan can matter: one that reads has at most 2,598 and 5,130, and the next byte tells that there are more.
-const JOB_INPUT: usize = 2_599;
+// How many bytes of a job and of a plan can matter: one that reads has at most 2,311 and 5,130, and the next byte tells that there are more.
+const JOB_INPUT: usize = 2_312;
 
 const PLAN_INPUT: usize = 5_131;
 

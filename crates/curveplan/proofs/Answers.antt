@@ -12,15 +12,14 @@ use Rattle.job.specs.declared.Refusal.{Refusal}
 use Rattle.job.specs.declared.Counted.{Counted}
 use Rattle.job.specs.Refusal.{Outcome, done, refused, number, figure, count_outcome, ◌>>=◌, ◌>>◌, mapped, room}
 use Rattle.job.specs.Handed.{each, wants_fit}
-use Rattle.job.specs.Words.{capacity, WarmUps}
+use Rattle.job.specs.Words.{capacity}
 use Rattle.job_bytes.specs.JobBytes.{Request, job_in, read_bytes}
 use Rattle.job.proofs.Laws.{refused≢done, done_same, both_done, done_both, done_room, mapped_done, mapped_refused, count_done, count_refused}
 use Rattle.job.proofs.Refuses.{Refuses, refuses, refuses_demand, refuses_both}
 use Rattle.job.proofs.Faults.{Examines, faultless, faulty, Fails, each_examines, none_too_large}
-use Rattle.set_bytes.proofs.SetRoundTrip.{Bytes}
+use Rattle.job_bytes.proofs.SetRoundTrip.{Bytes}
 use Rattle.job_bytes.proofs.ReadExact.{ReadJob, read_exact}
 use Rattle.job_bytes.proofs.JobBounds.{figure_short}
-use Rattle.ordering.proofs.Drawn.{job_order_lem}
 use Rattle.drive.specs.Steps.{held_after, load_count}
 use Rattle.planning.specs.Plan.{handed, steps}
 use Rattle.planning.specs.Planning.{checking}
@@ -44,14 +43,13 @@ sizes capacity wants = go (each_examines (λ w. leb (size w) capacity) 7 0 wants
     go (faultless e none) = inl e
     go (faulty t e first) = inr (t, first.0.0, e ∙ ap (refused 7) (zero-add t))
 
--- 5, 8, 10, 11, 12, 14, 15 and 17 never come out ..
+-- 5, 8, 10, 11 and 12 never come out ..
 abbrev pub CallNumber : ℕ → Type 0
-CallNumber k = ((1 ≤ k) × (k ≤ 7) × (k ≡ 5 → ⊥)) ⊎ (k ≡ 9) ⊎ (k ≡ 13) ⊎ (k ≡ 16)
+CallNumber k = ((1 ≤ k) × (k ≤ 7) × (k ≡ 5 → ⊥)) ⊎ (k ≡ 9) ⊎ (k ≡ 13)
 
 of_reading : (k i : ℕ) → ByReading k i → CallNumber k
 of_reading k i (inl n) = inl (n.0, omega (arith, n.1), n.2)
-of_reading k i (inr (inl n)) = inr (inr (inl n))
-of_reading k i (inr (inr n)) = inr (inr (inr n))
+of_reading k i (inr n) = inr (inr n)
 
 -- .. and a figure takes no more than 16 bits
 abbrev pub CallRefusal : ℕ → ℕ → Type 0
@@ -106,8 +104,7 @@ module _ (bs : List ℕ) (all : Bytes bs) (lent : ℕ) where
       told : (k i : ℕ) → CallNumber k → i ≤ 5121 → (65536 ≤ k * 65536 + i) × ((k * 65536 + i) / 65536 ≡ k) × ((k * 65536 + i) % 65536 ≡ i)
       told k i (inl b) l = (omega (arith, b.0), omega arith, omega arith)
       told k i (inr (inl b)) l = (omega (arith, b), omega arith, omega arith)
-      told k i (inr (inr (inl b))) l = (omega (arith, b), omega arith, omega arith)
-      told k i (inr (inr (inr b))) l = (omega (arith, b), omega arith, omega arith)
+      told k i (inr (inr b)) l = (omega (arith, b), omega arith, omega arith)
 
   -- THE BYTES WRITTEN read back to a plan that passes the check, for the method's order, and no plan for that order that passes has fewer loads
   pub call_planned : (plan : List ℕ) → job_to_plan bs lent ≡ done plan → WrittenPlan bs plan
@@ -126,7 +123,6 @@ module _ (bs : List ℕ) (all : Bytes bs) (lent : ℕ) where
             contents = b.0;
             reads_back = b.1;
             in_order_lem = b.2;
-            keeps = rw b.2 (job_order_lem q.head.method (job_in q) (read_exact bs q all e).warm).1;
             count = load_count (sets_of q);
             passes = rw b.3 c;
             least = our_least (job_in q) 0 (order_of q);
@@ -149,12 +145,11 @@ call_none bs all lent = (
   λ e.
       let w = call_planned bs all lent [] e in
       (w.request, w.read, drop_of_length-le w.request.wants {i = 0} (omega (arith, no_bytes _ _ w.contents w.reads_back))),
-  λ x. call_written bs x.0 all x.1 (none_too_large (capacity x.0.head.rig) x.0.wants x.2) lent
-      ∙ written x.0 x.2 (read_exact bs x.0 all x.1).warm,
+  λ x. call_written bs x.0 all x.1 (none_too_large (capacity x.0.head.rig) x.0.wants x.2) lent ∙ written x.0 x.2,
 )
   where
-    written : (q : Request) → q.wants ≡ [] → WarmUps (length q.wants) q.warm_ups → ◌>>◌ (room lent (length (bytes_of q))) (done (bytes_of q)) ≡ done []
-    written q e w = rw (plan_empty q e w, order_empty q e w) (done_both _ _ (done_room lent 0 (omega arith)))
+    written : (q : Request) → q.wants ≡ [] → ◌>>◌ (room lent (length (bytes_of q))) (done (bytes_of q)) ≡ done []
+    written q e = rw (plan_empty q e, order_empty q e) (done_both _ _ (done_room lent 0 (omega arith)))
 
 -- ---- the answer as one number, of what was counted
 
@@ -171,12 +166,11 @@ module _ (bs old : List ℕ) (x : Counted) (given : count_outcome x ≡ mapped l
   answers_refusal r e = rw (refusal r e) refl
 
   -- it fits in 64 bits
-  pub refusal_bounds : Bytes bs → (r : Refusal) → x ≡ Counted.Refused r → (number r ≤ 16) × (figure r ≤ 5121)
+  pub refusal_bounds : Bytes bs → (r : Refusal) → x ≡ Counted.Refused r → (number r ≤ 13) × (figure r ≤ 5121)
   refusal_bounds all r e = let b =
       refuses CallRefusal (job_to_plan bs (length old)) (number r) (figure r) (call_refuses bs all (length old)) (refusal r e) in (below b.0, b.1)
     where
-      below : {k : ℕ} → CallNumber k → k ≤ 16
+      below : {k : ℕ} → CallNumber k → k ≤ 13
       below (inl b) = omega (arith, b.1)
       below (inr (inl b)) = omega (arith, b)
-      below (inr (inr (inl b))) = omega (arith, b)
-      below (inr (inr (inr b))) = omega (arith, b)
+      below (inr (inr b)) = omega (arith, b)

@@ -6,9 +6,9 @@ use native.Mathlib.Omega.{arith}
 use lib.ListN.{length}
 use Rattle.job.specs.Words.{Job, capacity}
 use Rattle.job.specs.Handed.{numbers_known, job_known_by}
-use Rattle.job.specs.Calls.{writing_known, ordering_known, checking_known, planning_known}
+use Rattle.job.specs.Calls.{ordering_known, checking_known, planning_known}
 use Rattle.job.proofs.JobExact.{places_done, booked_done}
-use Rattle.ordering.specs.Ordering.{job_order, ordering}
+use Rattle.ordering.specs.Ordering.{ordering}
 use Rattle.planning.specs.Plan.{Plan}
 use Rattle.planning.specs.Planning.{our_plan, planning, end_known, checking}
 use Rattle.curveplan.specs.Library.{unbooked}
@@ -33,7 +33,7 @@ module _ (j : Job) (below : j.rig.booked < j.rig.places) (few : j.rig.places ≤
   same = omega arith
 
   pub booked_ordered : (method lent : ℕ) → ordering method j lent ≡ ordering method (unbooked j) lent
-  unfolding ordering ordering_known writing_known job_order
+  unfolding ordering ordering_known
   booked_ordered method lent = rw (known method, same) refl
 
   pub booked_planned : (held : ℕ) (order : List ℕ) (lent : ℕ) → planning j held order lent ≡ planning (unbooked j) held order lent

@@ -9,7 +9,7 @@ use Rattle.job.specs.Handed.{wants_fit}
 use Rattle.job_bytes.specs.JobBytes.{Request, job_in, read_bytes}
 use Rattle.job_bytes.specs.OldFiles.{upgraded}
 use Rattle.job.proofs.Laws.{refused≢done, done_same, made_refused}
-use Rattle.set_bytes.proofs.SetRoundTrip.{Bytes}
+use Rattle.job_bytes.proofs.SetRoundTrip.{Bytes}
 use Rattle.job_bytes.proofs.ReadExact.{read_exact}
 use Rattle.drive.specs.Steps.{load_count}
 use Rattle.planning.specs.Plan.{Plan, handed}

@@ -1,20 +1,16 @@
 -- WHAT THE LIBRARY PROMISES, proved: each promise by the theorem that shows it.
-use mathlib.Core.Path.{refl, subst}
 use Rattle.job.proofs.JobExact.{job_by_exact}
 use Rattle.job.proofs.MethodExact.{method_exact}
 use Rattle.job.proofs.HeldExact.{held_exact}
 use Rattle.job.proofs.OrderExact.{order_exact}
-use Rattle.job.proofs.WarmFault.{warm_ups_exact, kept_exact}
-use Rattle.job.proofs.WarmExact.{checking_exact}
 use Rattle.job.proofs.Refuses.{withdrawn}
 use Rattle.job.proofs.SizingExact.{sizing_as_planning}
 use Rattle.job_bytes.proofs.OldFiles.{old_read, old_method_lem}
 use Rattle.job_bytes.proofs.JobRoundTrip.{job_back, job_read}
-use Rattle.ordering.proofs.Complete.{Fresh, order_complete}
-use Rattle.ordering.proofs.Drawn.{free_test, job_order_lem, drawn_same, job_order_none}
+use Rattle.ordering.proofs.Complete.{order_complete}
 use Rattle.ordering.proofs.Degrees.{degree_most, degree_reached}
 use Rattle.drive.proofs.Best.{either_tie}
-use Rattle.planning.proofs.Demand3.{demand3, warm_ups_unplanned}
+use Rattle.planning.proofs.Demand3.{demand3}
 use Rattle.planning.proofs.Rest.{rest_held, rest_planned}
 use Rattle.planning.proofs.Saved.{held_saves}
 use Rattle.stepping.proofs.Exact.{done_exact, carried_exact, not_next_exact, unchanged}
@@ -32,16 +28,8 @@ library =
       jobs = λ method j. job_by_exact j method;
       holdings = λ j. held_exact j.rig.curves;
       orders = order_exact;
-      warm_ups_lem = warm_ups_exact;
-      kept = kept_exact;
-      handed_over = checking_exact;
       complete = order_complete;
-      free_test = λ n w order known is taken e. subst (Fresh n taken) e (free_test w n known order is taken);
-      drawn_out = job_order_lem;
-      drawn_same = λ n w. drawn_same w n;
-      without_warm_ups = λ method rig wants. job_order_none method _ refl;
       demand_3 = demand3;
-      warm_ups_unplanned = warm_ups_unplanned;
       ties = either_tie;
       withdrawn = withdrawn;
       degree_most = degree_most;

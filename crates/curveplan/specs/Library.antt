@@ -3,21 +3,16 @@ use Rattle.std.specs.Prelude.{◌≡◌, ◌↔◌, ◌⊎◌, true, List, [], �
 use Rattle.bitset.specs.Set.{size, below}
 use Rattle.job.specs.declared.Refusal.{Refusal}
 use Rattle.job.specs.Refusal.{done, refused, ◌>>◌, number}
-use Rattle.job.specs.declared.Rig.{Rig}
-use Rattle.job.specs.Words.{Job, job_of, capacity, IsJob, IsHolding, IsMethod, IsOrder, WarmUps, Keeps}
-use Rattle.job.specs.Handed.{listed, numbers_known, wants_fit, held_known, job_known_by}
+use Rattle.job.specs.Words.{Job, job_of, capacity, IsJob, IsHolding, IsMethod, IsOrder}
+use Rattle.job.specs.Handed.{numbers_known, wants_fit, held_known, job_known_by}
 use Rattle.job.specs.Order.{order_known}
-use Rattle.job.specs.WarmUps.{warm_ups_known, warm_ups_kept}
-use Rattle.job.specs.Calls.{checking_known, planning_known, sizing_known}
-use Rattle.lists.specs.Choice.{nobody}
-use Rattle.set_bytes.specs.SetBytes.{Bytes}
-use Rattle.warm_bytes.specs.WarmBytes.{no_warm_ups}
+use Rattle.job.specs.Calls.{planning_known, sizing_known}
+use Rattle.job_bytes.specs.SetBytes.{Bytes}
 use Rattle.job_bytes.specs.JobBytes.{Request, job_in, request, read_bytes, write_job}
 use Rattle.job_bytes.specs.OldFiles.{old_method, upgraded}
 use Rattle.packages.specs.Tests.{wants_of}
 use Rattle.ordering.specs.Methods.{degree, order_by}
-use Rattle.ordering.specs.Drawn.{first_free, drawn}
-use Rattle.ordering.specs.Ordering.{job_order, ordering}
+use Rattle.ordering.specs.Ordering.{ordering}
 use Rattle.drive.specs.declared.Sets.{Sets}
 use Rattle.drive.specs.Steps.{held_after, curve_count, load_count}
 use Rattle.drive.specs.Plan.{furthest, furthest_lowest, plan_from}
@@ -41,18 +36,16 @@ pub record WrittenPlan (bs plan : List ℕ) : Type 0 where
   pub read : read_bytes bs ≡ done request
   pub contents : Contents
   pub reads_back : plan_steps request.head.rig.curves (length request.wants) plan ≡ done contents
-  pub in_order_lem : tests_of contents ≡ job_order request.head.method (job_in request)
-  -- 02, wish 10: it runs each test behind its warm-up
-  pub keeps : Keeps request.warm_ups (tests_of contents)
+  pub in_order_lem : tests_of contents ≡ order_by request.head.method (capacity request.head.rig) request.wants
   pub count : ℕ
-  pub passes : checking (job_in request) 0 (job_order request.head.method (job_in request)) (plan_in contents) ≡ done count
+  pub passes : checking (job_in request) 0 (order_by request.head.method (capacity request.head.rig) request.wants) (plan_in contents) ≡ done count
   pub least : (other : Plan) (m : ℕ)
-      → checking (job_in request) 0 (job_order request.head.method (job_in request)) other ≡ done m
+      → checking (job_in request) 0 (order_by request.head.method (capacity request.head.rig) request.wants) other ≡ done m
       → count ≤ curve_count other.loads
 
 -- the same list for a drive that has only the places that are not booked
 abbrev pub unbooked : Job → Job
-unbooked j = job_of (record { places = capacity j.rig; booked = 0; curves = j.rig.curves }) j.wants j.warm_ups
+unbooked j = job_of (record { places = capacity j.rig; booked = 0; curves = j.rig.curves }) j.wants
 
 -- what the library promises
 pub record Library : Type 0 where
@@ -61,32 +54,10 @@ pub record Library : Type 0 where
   pub jobs : (method : ℕ) (j : Job) → job_known_by method j ≡ done tt ↔ (IsJob j × IsMethod method)
   pub holdings : (j : Job) (held : ℕ) → held_known j.rig.curves held ≡ done tt ↔ IsHolding j held
   pub orders : (n : ℕ) (order : List ℕ) → order_known n order ≡ done tt ↔ IsOrder n order
-  -- 02, wish 10: 16 is not given exactly for warm_ups_lem of the tests, one number for each, 256 or a lower-numbered test, and 17 exactly where each test's warm-up
-  -- stands before it
-  pub warm_ups_lem : (n : ℕ) (warm_ups : List ℕ) → warm_ups_known n warm_ups ≡ done tt ↔ WarmUps n warm_ups
-  pub kept : (warm_ups order : List ℕ) → warm_ups_kept warm_ups order ≡ done tt ↔ Keeps warm_ups order
-  -- nothing that planning is handed is refused, but by 7 and 9, exactly for a job, a holding, warm_ups_lem of its tests and an order that keeps them
-  pub handed_over : (j : Job) (held : ℕ) (order : List ℕ) → checking_known j held order ≡ done tt
-      ↔ (IsJob j × IsHolding j held × WarmUps (length j.wants) j.warm_ups × IsOrder (length j.wants) order × Keeps j.warm_ups order)
   -- each method's order names each test exactly once
   pub complete : (method capacity : ℕ) (wants : List ℕ) → IsOrder (length wants) (order_by method capacity wants)
-  -- 02, wish 10: "Every method's order is then drawn out: repeatedly take its first untaken test whose warm-up is taken. Such a test always exists": none is
-  -- found only where all are taken ..
-  pub free_test : (n : ℕ) (warm_ups order : List ℕ) → WarmUps n warm_ups → IsOrder n order
-      → (taken : List ℕ) → first_free warm_ups taken order ≡ nobody → (t : ℕ) → t < n → listed taken t ≡ true
-  -- .. so that what is given names each test exactly once, and it keeps the warm_ups_lem ..
-  pub drawn_out : (method : ℕ) (j : Job) → WarmUps (length j.wants) j.warm_ups
-      → IsOrder (length j.wants) (job_order method j) × Keeps j.warm_ups (job_order method j)
-  -- .. and an order that keeps them stays as it is, as each does without warm_ups_lem
-  pub drawn_same : (n : ℕ) (warm_ups order : List ℕ) → IsOrder n order → Keeps warm_ups order → drawn warm_ups order ≡ order
-  pub without_warm_ups : (method : ℕ) (rig : Rig) (wants : List ℕ)
-      → job_order method (job_of rig wants (no_warm_ups (length wants))) ≡ order_by method (capacity rig) wants
-  -- DEMAND 3, of what planning answers and leaves in the lists lent to it: for every job, whatever is held, all warm_ups_lem, every order and
-  -- all lists
+  -- DEMAND 3, of what planning answers and leaves in the lists lent to it: for every job, whatever is held, every order and all lists
   pub demand_3 : (j : Job) (held : ℕ) (order : List ℕ) (lent : SetLists) → Demand3 j held order (plan_answer j held order lent) (plan_lists j held order lent)
-  -- the plan itself knows nothing of warm-ups: for an order that is planned with these and with those, it is the same
-  pub warm_ups_unplanned : (rig : Rig) (wants these those : List ℕ) (held : ℕ) (order : List ℕ) (lent : ℕ) (plan again : List Sets)
-      → planning (job_of rig wants these) held order lent ≡ done plan → planning (job_of rig wants those) held order lent ≡ done again → again ≡ plan
   -- 02, wish 2: "Load counts are proved the same under either tie rule": with ties to the lowest curve, as in 01, our plan would have as many loads, for every
   -- list of sets of n curves, whatever of them is held at first, and every capacity
   pub ties : (n capacity held : ℕ) (ws : List ℕ) → held < 2 ^ n → ((i : ℕ) → i < length ws → get_or ws i 0 < 2 ^ n)
@@ -144,12 +115,11 @@ pub record Library : Type 0 where
   -- .. and the method that is read of a method byte 2 is 1
   pub old_method_lem : (bs : List ℕ) (q : Request) → Bytes bs → read_bytes bs ≡ done q → old_method bs ≡ true → q.head.method ≡ 1
   -- 02, wish 9: all that it says of the counts for 1 to 64 places, and of the fewest places for a wanted count, beside the answers of planning ..
-  pub every_size : (curves : ℕ) (wants warm_ups order counts : List ℕ) → sizing curves wants warm_ups order ≡ done counts
-      → EverySize curves wants warm_ups order counts
+  pub every_size : (curves : ℕ) (wants order counts : List ℕ) → sizing curves wants order ≡ done counts → EverySize curves wants order counts
   -- .. and "apart from 7, the walk refuses as planning does": for a drive with any number of places planning asks what the walk asks, and then 7
-  pub sizes_refused : (p curves : ℕ) (wants warm_ups order : List ℕ) → 1 ≤ p → p ≤ 64
-      → planning_known (in_drive p curves wants warm_ups) 0 order ≡ ◌>>◌ (sizing_known curves wants warm_ups order) (wants_fit p wants)
-  -- writing and reading undo each other, also of warm-ups: a job, "written back with 1" where its method byte was 2, and to the byte as it was read elsewhere ..
+  pub sizes_refused : (p curves : ℕ) (wants order : List ℕ) → 1 ≤ p → p ≤ 64
+      → planning_known (in_drive p curves wants) 0 order ≡ ◌>>◌ (sizing_known curves wants order) (wants_fit p wants)
+  -- writing and reading undo each other: a job, "written back with 1" where its method byte was 2, and to the byte as it was read elsewhere ..
   pub job_back : (method : ℕ) (j : Job) (lent : ℕ) (bytes : List ℕ) → write_job method j lent ≡ done bytes → read_bytes bytes ≡ done (request method j)
   pub job_read : (bs : List ℕ) (q : Request) → Bytes bs → read_bytes bs ≡ done q → write_job q.head.method (job_in q) (length bs) ≡ done (upgraded bs)
   -- .. and a plan, with its end set

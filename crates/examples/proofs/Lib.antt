@@ -7,7 +7,6 @@
 --     Looks    examples of looks and commits
 --     OldFiles examples of old job files, with method 2
 --     EverySize  examples of every drive size together
---     WarmUps  examples of warm_ups_lem
 pub mod Rules
 pub mod Starred
 pub mod Others
@@ -16,4 +15,3 @@ pub mod Halfway
 pub mod Looks
 pub mod OldFiles
 pub mod EverySize
-pub mod WarmUps

@@ -7,21 +7,17 @@ use Rattle.lists.specs.Choice.{keep, choose, best_of}
 use Rattle.job.specs.Handed.{between, listed, each, places_known, curves_known, tests_known, method_known, wants_known, wants_fit, numbers_known}
 use Rattle.job.specs.Handed.{is_method, booked_below, booked_known, held_known, job_known_by, counts_known}
 use Rattle.job.specs.Order.{order_from}
-use Rattle.job.specs.WarmUps.{warm_ups_from, ready, keeps_from}
-use Rattle.job.specs.Calls.{writing_known, ordering_known, warm_order_known, checking_known, planning_known, sizing_known}
-use Rattle.set_bytes.specs.SetBytes.{group_of, stands, group_bytes, group_map, set_bytes, byte_at, at_end, read_group, read_groups}
-use Rattle.job_bytes.specs.JobBytes.{fields, read_field, read_fields, method_read, head_fields, read_head, read_record, read_records, read_bytes}
-use Rattle.job_bytes.specs.JobBytes.{read_job, read_job_answer, read_job_wants, head_bytes, record_bytes, job_bytes, write_job, write_job_answer}
-use Rattle.set_bytes.specs.Numbers.{read_number, number_bytes}
-use Rattle.warm_bytes.specs.WarmBytes.{map_bytes, read_warm_up, read_warm_numbers, read_warm_ups, read_part, warm_map, warm_numbers, warm_up_bytes, part_if}
-use Rattle.job_bytes.specs.JobBytes.{read_job_warm_ups, write_job_buffer}
+use Rattle.job.specs.Calls.{ordering_known, checking_known, planning_known, sizing_known}
+use Rattle.job_bytes.specs.SetBytes.{group_of, stands, group_bytes, group_map, set_bytes, byte_at, read_group, read_groups}
+use Rattle.job_bytes.specs.JobBytes.{fields, read_number, read_field, read_fields, method_read, head_fields, read_head, read_record, read_records, at_end, read_bytes}
+use Rattle.job_bytes.specs.JobBytes.{read_job, read_job_answer, read_job_wants, number_bytes, head_bytes, record_bytes, job_bytes, write_job, write_job_answer}
+use Rattle.job_bytes.specs.JobBytes.{write_job_buffer}
 use Rattle.job_bytes.specs.OldFiles.{method_at, old_method, upgraded}
 use Rattle.packages.specs.Tests.{up_to}
 use Rattle.packages.specs.Packages.{flat, best_pair, without, joined, on_pair, curves_of, join_all, try, pick_try, ◌or_more◌, longer, run_from, flipped, packages}
 use Rattle.ordering.specs.Methods.{weight, weights, degree, appended, grown, best_unlisted, or_else, neighbour, next_of, cuthill_mckee, reverse_cuthill_mckee}
 use Rattle.ordering.specs.Methods.{order_by}
-use Rattle.ordering.specs.Drawn.{free, first_free, drawn}
-use Rattle.ordering.specs.Ordering.{job_order, ordering, order_answer, order_list}
+use Rattle.ordering.specs.Ordering.{ordering, order_answer, order_list}
 use Rattle.drive.specs.Steps.{held_after, moves, curve_count}
 use Rattle.drive.specs.Check.{or_breaks, keeps, check_from}
 use Rattle.drive.specs.Uses.{later, use_by, next_use, further}
@@ -57,6 +53,5 @@ unfolding ones count_trailing_zeros under read_outcome count_outcome ◌>>=◌ �
     part_at fetched or_empty step_part text high_digits decimal curve_text curves_text set_text step_text steps_text end_text head_text plan_text printed sheet
     write_sheet sheet_answer sheet_buffer order_request plan_in_order order_and_plan plan_job written job_to_plan number_of call_answer call_plan
     sizing_known together largest or_mark count_for counts_from all_sizes serves fewest_from sizing fewest size_request size_job entry_text size_text unless_last sizes_text
-    warm_ups_from ready keeps_from writing_known warm_order_known map_bytes read_warm_up read_warm_numbers read_warm_ups read_part warm_map warm_numbers warm_up_bytes part_if
-    read_job_warm_ups free first_free drawn job_order places_text wanted_text table_text sized_text size_table is_digit digit_by number_in count_in
+    places_text wanted_text table_text sized_text size_table is_digit digit_by number_in count_in
 rules = tt

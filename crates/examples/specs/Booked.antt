@@ -1,8 +1,7 @@
 -- Examples of 02, wish 5, booked places, by computation on the written rules.
-use Rattle.std.specs.Prelude.{◌≡◌, List, [], ◌∷◌, ◌++◌, ℕ, length}
+use Rattle.std.specs.Prelude.{◌≡◌, List, [], ◌∷◌, ◌++◌, ℕ}
 use Rattle.job.specs.Refusal.{done, refused}
 use Rattle.job.specs.Words.{Job, job_of}
-use Rattle.warm_bytes.specs.WarmBytes.{no_warm_ups}
 use Rattle.job_bytes.specs.JobBytes.{request, read_job, write_job}
 use Rattle.ordering.specs.Ordering.{ordering}
 use Rattle.planning.specs.Plan.{plan_of}
@@ -15,7 +14,7 @@ use Rattle.examples.specs.Others.{sets}
 
 -- a job of places, booked places, curves and wants
 abbrev pub booked_job : ℕ → ℕ → ℕ → List ℕ → Job
-booked_job places booked curves wants = job_of (record { places = places; booked = booked; curves = curves }) wants (no_warm_ups (length wants))
+booked_job places booked curves wants = job_of (record { places = places; booked = booked; curves = curves }) wants
 
 -- job A's list for a drive of three places, of which one is booked: "Head bit 4 is a byte of booked places", behind the others
 abbrev pub a_booked : List ℕ
@@ -36,7 +35,7 @@ pub record Booked : Type 0 where
   pub byte_64 : read_job (0x10 ∷ 0x40 ∷ []) 0 ≡ refused 2 1
   pub byte_63 : read_job (0x11 ∷ 0x40 ∷ 0x3f ∷ []) 0 ≡ done (request 0 (booked_job 64 63 64 []))
   pub behind_method : read_job (0x18 ∷ 0x03 ∷ 0x07 ∷ []) 0 ≡ done (request 3 (booked_job 8 7 64 []))
-  pub bit_6 : read_job (0x40 ∷ 0x01 ∷ []) 0 ≡ refused 2 0
+  pub bit_5 : read_job (0x20 ∷ 0x01 ∷ []) 0 ≡ refused 2 0
   -- "13, booked not below places, with the byte's offset after its range check": equal and above; absent places are 8; before the records, behind the fields
   pub all_booked : read_job (0x11 ∷ 0x02 ∷ 0x02 ∷ []) 0 ≡ refused 13 2
   pub more_booked : read_job (0x11 ∷ 0x02 ∷ 0x3f ∷ []) 0 ≡ refused 13 2

@@ -1,7 +1,7 @@
 -- Examples of 02, wish 6, a rest that is planned from the curves now held, by computation on the written rules.
 use Rattle.std.specs.Prelude.{◌≡◌, List, [], ◌∷◌, ℕ, take}
 use Rattle.job.specs.Refusal.{done, refused}
-use Rattle.job.specs.Words.{Job, job_of}
+use Rattle.job.specs.Words.{Job}
 use Rattle.job.specs.Handed.{held_known}
 use Rattle.drive.specs.Steps.{held_after}
 use Rattle.planning.specs.Plan.{Plan, plan_of, set_lists}
@@ -11,10 +11,9 @@ use Rattle.examples.specs.Starred.{four, loads}
 use Rattle.examples.specs.Others.{sets}
 use Rattle.examples.specs.Booked.{booked_job}
 
--- THE WORKED EXAMPLE, which is also the C program `rest.c`: a list of four tests, {0,1,2} {1,2,3} {0,5} {3,4}, for a drive of four places; test 3 must follow
--- test 1 (02, wish 10)
+-- THE WORKED EXAMPLE, which is also the C program `rest.c`: a list of four tests, {0,1,2} {1,2,3} {0,5} {3,4}, for a drive of four places
 abbrev pub whole : Job
-whole = job_of (record { places = 4; booked = 0; curves = 6 }) (7 ∷ 14 ∷ 33 ∷ 24 ∷ []) (256 ∷ 256 ∷ 256 ∷ 1 ∷ [])
+whole = booked_job 4 0 6 (7 ∷ 14 ∷ 33 ∷ 24 ∷ [])
 
 -- the order as listed, of four tests ..
 abbrev pub order_4 : List ℕ
@@ -24,10 +23,9 @@ order_4 = 0 ∷ 1 ∷ 2 ∷ 3 ∷ []
 abbrev pub order_3 : List ℕ
 order_3 = 0 ∷ 1 ∷ 2 ∷ []
 
--- behind its second test the rest is changed to {3} {0,4} {3,4}, and two of the places are booked. Wish 10: "In a rest, a warm-up already run is left out": its
--- test 2 was test 3, whose warm-up has run; its test 1 must now follow its test 0
+-- behind its second test the rest is changed to {3} {0,4} {3,4}, and two of the places are booked
 abbrev pub rest : Job
-rest = job_of (record { places = 4; booked = 2; curves = 6 }) (8 ∷ 17 ∷ 24 ∷ []) (256 ∷ 0 ∷ 256 ∷ [])
+rest = booked_job 4 2 6 (8 ∷ 17 ∷ 24 ∷ [])
 
 -- the plan for it from {0,1,2,3}, and its bytes
 abbrev pub rest_plan : Plan

@@ -6,7 +6,6 @@
 --     Looks    examples of 02, wish 7
 --     OldFiles examples of 02, wish 8
 --     EverySize  examples of 02, wish 9
---     WarmUps  examples of 02, wish 10
 pub mod Starred
 pub mod Others
 pub mod Booked
@@ -14,4 +13,3 @@ pub mod Halfway
 pub mod Looks
 pub mod OldFiles
 pub mod EverySize
-pub mod WarmUps

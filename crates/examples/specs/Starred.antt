@@ -1,9 +1,8 @@
 -- The starred examples of document 01, in one theorem on the written rules; with the end step and the ties of 02, wishes 1 and 2, and without the order that
 -- wish 8 lets fall away.
-use Rattle.std.specs.Prelude.{◌≡◌, List, [], ◌∷◌, ℕ, length}
+use Rattle.std.specs.Prelude.{◌≡◌, List, [], ◌∷◌, ℕ}
 use Rattle.job.specs.Refusal.{done, refused}
 use Rattle.job.specs.Words.{Job, job_of}
-use Rattle.warm_bytes.specs.WarmBytes.{no_warm_ups}
 use Rattle.job_bytes.specs.JobBytes.{request, read_job}
 use Rattle.ordering.specs.Ordering.{ordering}
 use Rattle.planning.specs.Plan.{SetLists, set_lists, CountEnd}
@@ -12,7 +11,7 @@ use Rattle.curveplan.specs.Call.{job_to_plan}
 
 -- a job of places, none of them booked, curves and wants
 abbrev pub job : ℕ → ℕ → List ℕ → Job
-job places curves wants = job_of (record { places = places; booked = 0; curves = curves }) wants (no_warm_ups (length wants))
+job places curves wants = job_of (record { places = places; booked = 0; curves = curves }) wants
 
 -- job A: its bytes, its wants, and its plan bytes
 abbrev pub a_bytes : List ℕ

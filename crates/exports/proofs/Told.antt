@@ -14,24 +14,20 @@ use Rattle.job.specs.declared.Head.{Head}
 use Rattle.job.specs.Refusal.{Outcome, done, refused, ◌>>◌, mapped, demand, room}
 use Rattle.job.specs.Words.{Job, capacity}
 use Rattle.job.specs.Handed.{listed, curves_known, tests_known, wants_known, held_known, wants_fit, job_known_by, counts_known, all_curves}
-use Rattle.job.specs.Order.{order_from, order_known}
-use Rattle.job.specs.WarmUps.{warm_ups_known, warm_ups_kept}
-use Rattle.job.specs.Calls.{writing_known, ordering_known, warm_order_known, checking_known, planning_known, sizing_known}
+use Rattle.job.specs.Order.{order_from}
+use Rattle.job.specs.Calls.{ordering_known, checking_known, planning_known, sizing_known}
 use Rattle.job.proofs.Laws.{both, demand_true, both_done, bind_done, mapped_done, done_same, done_both, done_room}
 use Rattle.job.proofs.JobExact.{job_by_exact}
 use Rattle.job.proofs.Refuses.{Refuses, refuses, refuses_more, refuses_demand, refuses_both, refuses_then, refuses_bind, refuses_mapped, refuses_each}
 use Rattle.job.proofs.Refuses.{HandedRefusal, job_by_refuses, HeldRefusal, held_refuses, OfWants, wants_refuse}
-use Rattle.job.proofs.WarmRefuses.{WarmRefusal, warm_refuses, EarlyRefusal, keeps_refuses}
-use Rattle.job.proofs.WarmExact.{writing_exact}
-use Rattle.job.proofs.OrderExact.{order_long}
-use Rattle.job.proofs.Orders.{order_length}
 use Rattle.job.proofs.Examination.{counts_bounds}
 use Rattle.job_bytes.specs.JobBytes.{Request, request, read_bytes, read_job, read_job_answer, job_bytes, write_job, write_job_answer}
 use Rattle.job_bytes.proofs.JobBounds.{Bounded, read, read_bounded, figure_short, written_short}
 use Rattle.job_bytes.proofs.ReadRefuses.{ByReading, number_between, read_refuses}
-use Rattle.set_bytes.proofs.SetRoundTrip.{Bytes}
-use Rattle.ordering.specs.Ordering.{job_order, ordering, order_answer}
-use Rattle.ordering.proofs.Drawn.{job_order_lem}
+use Rattle.job_bytes.proofs.SetRoundTrip.{Bytes}
+use Rattle.ordering.specs.Methods.{order_by}
+use Rattle.ordering.specs.Ordering.{ordering, order_answer}
+use Rattle.ordering.proofs.Ordered.{order_entries}
 use Rattle.drive.specs.declared.Checked.{Checked}
 use Rattle.drive.specs.declared.Checked.TheVariants.{Ends, Breaks}
 use Rattle.drive.specs.Steps.{Move}
@@ -123,20 +119,6 @@ order_told n before (t ∷ ts) l m =
     let b = both (ltb (length before) n) (ltb t n) a.0 in
     order_told n (before ++ (t ∷ [])) ts l (omega (arith, length-append before (t ∷ []), ltb-true (length before) n b.0)))
 
--- 16 names one of the positions, or the one behind them
-warm_told : (n : ℕ) (w : List ℕ) → n ≤ 256 → Refuses Figures (warm_ups_known n w)
-warm_told n w l =
-    refuses_more (WarmRefusal n) Figures (warm_ups_known n w) (λ k i x. (omega (arith, x.0), omega (arith, x.1))) (warm_refuses n 0 w (omega arith))
-
--- 16, 8, and 17, which names one of the positions
-warm_order_told : (n : ℕ) (w order : List ℕ) → n ≤ 256 → Refuses Figures (warm_order_known n w order)
-unfolding warm_order_known
-warm_order_told n w order l =
-    refuses_both Figures _ _ (warm_told n w l)
-    (refuses_then Figures (order_known n order) (warm_ups_kept w order) (order_told n [] order l (omega arith))
-    (λ e. refuses_more (EarlyRefusal (length order)) Figures (warm_ups_kept w order) (λ k i x. (omega (arith, x.0), omega (arith, x.1, order_long n order e)))
-    (keeps_refuses w [] order (length order) (omega arith))))
-
 steps_told : (places all held : ℕ) (ms : List Move) → length ms ≤ 256 → Refuses Figures (checked_outcome (check_from places all 0 held ms))
 unfolding checked_outcome
 steps_told places all held ms l = go (check_from places all 0 held ms) refl
@@ -147,10 +129,7 @@ steps_told places all held ms l = go (check_from places all 0 held ms) refl
 
 -- ---- jobs and orders
 
-module _ (bs wants warm_ups : List ℕ) where
-  abbrev shorter : ℕ
-  shorter = min (length wants) (length warm_ups)
-
+module _ (bs old : List ℕ) where
   read_few : (j : Request) → read_bytes bs ≡ done j → j.head.tests ≤ 256
   read_few j e = of (subst (Bounded bs) e (read_bounded bs))
     where
@@ -164,38 +143,31 @@ module _ (bs wants warm_ups : List ℕ) where
       go (done j) e = tt
       go (refused k i) e = ((number_between k i (refuses ByReading (read_bytes bs) k i (read_refuses bs) e)).0, omega (arith, (figure_short bs k i e).0))
 
-  pub read_job_told : Told (mapped (λ h. h.tests) (read_job_answer bs wants warm_ups))
+  pub read_job_told : Told (mapped (λ h. h.tests) (read_job_answer bs old))
   unfolding read_job_answer read_job
   read_job_told =
       told _
       (λ n e.
-      let h = mapped_done (λ (h : Head). h.tests) (read_job_answer bs wants warm_ups) n e in
-      let j = mapped_done (λ (j : Request). j.head) (read_job bs shorter) h.0 h.1 in
+      let h = mapped_done (λ (h : Head). h.tests) (read_job_answer bs old) n e in
+      let j = mapped_done (λ (j : Request). j.head) (read_job bs (length old)) h.0 h.1 in
       let b = bind_done (read_bytes bs) _ j.0 j.1 in
-      let r = both_done (room shorter b.0.head.tests) (done b.0) j.0 b.2 in
+      let r = both_done (room (length old) b.0.head.tests) (done b.0) j.0 b.2 in
       omega (arith, read_few b.0 b.1, ap (λ (j : Request). j.head.tests) (done_same r.1), ap (λ (h : Head). h.tests) j.2, h.2))
       (refuses_mapped Figures _ _ (refuses_mapped Figures _ _
-      (refuses_bind Figures (read_bytes bs) _ read_told (λ j e. asked shorter j.head.tests (done j) (omega (arith, read_few j e)) tt))))
+      (refuses_bind Figures (read_bytes bs) _ read_told (λ j e. asked (length old) j.head.tests (done j) (omega (arith, read_few j e)) tt))))
 
 -- what every call is examined for before anything is made
 module _ (j : Job) where
-  writing_told : (method : ℕ) → Refuses Figures (writing_known method j)
-  unfolding writing_known
-  writing_told method = refuses_then Figures _ _ (job_told method j) (λ e. warm_told (length j.wants) j.warm_ups (few method j e))
-
-  few_written : (method : ℕ) → writing_known method j ≡ done tt → length j.wants ≤ 256
-  few_written method e = ((writing_exact method j).0 e).0.tests_bound
-
   ordering_told : (method : ℕ) → Refuses Figures (ordering_known method j)
   unfolding ordering_known
-  ordering_told method = refuses_then Figures _ _ (writing_told method) (λ e. fit_told (capacity j.rig) j.wants (few_written method e))
+  ordering_told method = refuses_then Figures _ _ (job_told method j) (λ e. fit_told (capacity j.rig) j.wants (few method j e))
 
   module _ (held : ℕ) (order : List ℕ) where
     checking_told : Refuses Figures (checking_known j held order)
     unfolding checking_known
     checking_told =
         refuses_then Figures _ _ (job_told 0 j)
-        (λ e. refuses_both Figures _ _ (held_told j.rig.curves held) (warm_order_told (length j.wants) j.warm_ups order (few 0 j e)))
+        (λ e. refuses_both Figures _ _ (held_told j.rig.curves held) (order_told (length j.wants) [] order (few 0 j e) (omega arith)))
 
     planning_told : Refuses Figures (planning_known j held order)
     unfolding planning_known
@@ -213,14 +185,14 @@ module _ (method : ℕ) (j : Job) (old : List ℕ) where
       bytes : List ℕ
       bytes = job_bytes (request method j)
 
-      short : writing_known method j ≡ done tt → length bytes ≤ 2598
+      short : job_known_by method j ≡ done tt → length bytes ≤ 2311
       short e = written_short method j (length bytes) bytes
           (unfold write_job in (done_both _ _ e ∙ done_both _ _ (done_room (length bytes) (length bytes) (omega arith))))
 
       writing : Refuses Figures (write_job method j (length old))
       writing =
           unfold write_job in
-          refuses_then Figures _ _ (writing_told j method) (λ e. asked (length old) (length bytes) (done bytes) (omega (arith, short e)) tt)
+          refuses_then Figures _ _ (job_told method j) (λ e. asked (length old) (length bytes) (done bytes) (omega (arith, short e)) tt)
 
   pub order_tests_told : Told (order_answer method j old)
   unfolding order_answer ordering_known ordering
@@ -229,14 +201,14 @@ module _ (method : ℕ) (j : Job) (old : List ℕ) where
       counted : (n : ℕ) → (order : List ℕ) × (ordering method j (length old) ≡ done order) × (length order ≡ n) → n < 2 ^ 48
       counted n x =
           let a = both_done (ordering_known method j) _ x.0 x.1 in
-          let k = (writing_exact method j).0 (both_done (writing_known method j) _ tt a.0).0 in
-          let c = bind_done (room (length old) (length j.wants)) (λ _. done (job_order method j)) x.0 a.1 in
-          omega (arith, x.2, ap length (done_same c.2), order_length _ (job_order method j) (job_order_lem method j k.2).0, k.0.tests_bound)
+          let k = both_done (job_known_by method j) _ tt a.0 in
+          let c = bind_done (room (length old) (length j.wants)) (λ _. done (order_by method (capacity j.rig) j.wants)) x.0 a.1 in
+          omega (arith, x.2, ap length (done_same c.2), order_entries method (capacity j.rig) j.wants, few method j k.0)
 
       refusing : Refuses Figures (ordering method j (length old))
       refusing =
           unfold ordering room in refuses_then Figures _ _ (ordering_told j method)
-          (λ e. let l = few_written j method (both_done (writing_known method j) _ tt e).0 in
+          (λ e. let l = few method j (both_done (job_known_by method j) _ tt e).0 in
           refuses_bind Figures _ _ (refuses_demand Figures _ 9 (length j.wants) (omega arith, omega arith)) (λ _ e. tt))
 
 -- ---- plans
@@ -339,8 +311,8 @@ commit_told s position l k i e =
 
 -- ---- every drive size
 
-module _ (curves : ℕ) (wants warm_ups order : List ℕ) where
-  sizing_refuses : Refuses Figures (sizing curves wants warm_ups order)
+module _ (curves : ℕ) (wants order : List ℕ) where
+  sizing_refuses : Refuses Figures (sizing curves wants order)
   unfolding sizing sizing_known
   sizing_refuses =
       refuses_both Figures _ _
@@ -348,29 +320,29 @@ module _ (curves : ℕ) (wants warm_ups order : List ℕ) where
       (λ e. let l = (counts_bounds curves (length wants) e).1 in
       refuses_both Figures _ _
       (refuses_more OfWants Figures (wants_known curves wants) (λ k i n. (omega (arith, n.0), omega (arith, n.2))) (wants_refuse curves wants l))
-      (warm_order_told (length wants) warm_ups order l))) tt
+      (order_told (length wants) [] order l (omega arith)))) tt
 
-  pub all_sizes_told : Told (mapped (λ _. 0) (sizing curves wants warm_ups order))
+  pub all_sizes_told : Told (mapped (λ _. 0) (sizing curves wants order))
   all_sizes_told =
-      told _ (λ n e. omega (arith, (mapped_done (λ _. 0) (sizing curves wants warm_ups order) n e).2)) (refuses_mapped Figures _ _ sizing_refuses)
+      told _ (λ n e. omega (arith, (mapped_done (λ _. 0) (sizing curves wants order) n e).2)) (refuses_mapped Figures _ _ sizing_refuses)
 
   module _ (loads : ℕ) where
     -- the fewest places are 1 to 64: so 0 tells that there are none ..
-    pub places_told : (p : ℕ) → fewest curves wants warm_ups order loads ≡ done (found p) → (1 ≤ p) × (p ≤ 64)
+    pub places_told : (p : ℕ) → fewest curves wants order loads ≡ done (found p) → (1 ≤ p) × (p ≤ 64)
     unfolding fewest
     places_told p e =
-        let m = mapped_done (fewest_places loads) (sizing curves wants warm_ups order) (found p) e in
-        let s = (sizes_exact curves wants warm_ups order m.0 m.1).serving loads p m.2 in
+        let m = mapped_done (fewest_places loads) (sizing curves wants order) (found p) e in
+        let s = (sizes_exact curves wants order m.0 m.1).serving loads p m.2 in
         (s.0, s.1)
 
     -- .. and the number tells them, or the refusal
-    pub fewest_places_told : Told (mapped places_number (fewest curves wants warm_ups order loads))
+    pub fewest_places_told : Told (mapped places_number (fewest curves wants order loads))
     unfolding places_number
     fewest_places_told =
-        told _ (λ n e. let m = mapped_done places_number (fewest curves wants warm_ups order loads) n e in few_places m.0 m.1 n m.2)
+        told _ (λ n e. let m = mapped_done places_number (fewest curves wants order loads) n e in few_places m.0 m.1 n m.2)
         (refuses_mapped Figures _ _ (unfold fewest in refuses_mapped Figures _ _ sizing_refuses))
       where
-        few_places : (f : Found ℕ) → fewest curves wants warm_ups order loads ≡ done f → (n : ℕ) → places_number f ≡ n → n < 2 ^ 48
+        few_places : (f : Found ℕ) → fewest curves wants order loads ≡ done f → (n : ℕ) → places_number f ≡ n → n < 2 ^ 48
         few_places nobody e n g = omega arith
         few_places (found p) e n g = omega (arith, (places_told p e).1)
 

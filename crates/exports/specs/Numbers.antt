@@ -5,7 +5,7 @@ use Rattle.job.specs.declared.Head.{Head}
 use Rattle.job.specs.declared.Rig.{Rig}
 use Rattle.job.specs.Refusal.{Outcome, done, refused, mapped}
 use Rattle.job.specs.Words.{Job, job_of}
-use Rattle.set_bytes.specs.SetBytes.{read_group}
+use Rattle.job_bytes.specs.SetBytes.{read_group}
 use Rattle.planning.specs.Plan.{CountEnd}
 use Rattle.exports.specs.declared.JobHead.{JobHead}
 
@@ -14,8 +14,8 @@ abbrev pub rig_of : ℕ → ℕ → ℕ → Rig
 rig_of places booked curves = record { places = places; booked = booked; curves = curves }
 
 -- .. and their job
-abbrev pub job : ℕ → ℕ → ℕ → List ℕ → List ℕ → Job
-job places booked curves wants warm_ups = job_of (rig_of places booked curves) wants warm_ups
+abbrev pub job : ℕ → ℕ → ℕ → List ℕ → Job
+job places booked curves wants = job_of (rig_of places booked curves) wants
 
 -- an outcome as one number: a count is itself, a refusal its number × 2^48 plus its figure (modulo 2^48, which none of `curveplan.h` reaches: `Told`).
 -- Document 01's own rule, × 65,536, is that of the one call (`curveplan`, `number_of`); a sheet can have more bytes than that.

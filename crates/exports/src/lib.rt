@@ -1,15 +1,14 @@
 // The functions of the library for C, and for tests in other languages. Each calls the function of its name, and answers numbers; one rule makes an outcome
 // one number.
-ghost use Rattle.std.specs.Prelude.{◌≡◌, List, reverse, ℕ, ◌%◌, ◌^◌, min, length, eqb};
+ghost use Rattle.std.specs.Prelude.{◌≡◌, reverse, ◌%◌, ◌^◌, min, length, eqb};
 ghost use Rattle.std.specs.Int.Count.{count_trailing_zeros};
 ghost use Rattle.lists.specs.Lent.{was, after};
 ghost use Rattle.bitset.specs.Set.{◌∩◌, ◌∪◌, ◌∖◌, size, bit, inside, below};
 ghost use Rattle.job.specs.Refusal.{done, refused, number, figure, read_outcome, count_outcome, examined_outcome, mapped, room, leaves};
 ghost use Rattle.job.specs.Handed.{job_known, job_known_by, counts_known, wants_fit};
-ghost use Rattle.job.specs.WarmUps.{warm_ups_known};
 ghost use Rattle.job.specs.Words.{digit};
-ghost use Rattle.set_bytes.specs.SetBytes.{group_map, set_bytes};
-ghost use Rattle.job_bytes.specs.JobBytes.{read_job_answer, read_job_wants, read_job_warm_ups, write_job_answer, write_job_buffer};
+ghost use Rattle.job_bytes.specs.SetBytes.{group_map, set_bytes};
+ghost use Rattle.job_bytes.specs.JobBytes.{read_job_answer, read_job_wants, write_job_answer, write_job_buffer};
 ghost use Rattle.packages.specs.Tests.{up_to, entered};
 ghost use Rattle.packages.specs.Packages.{packages};
 ghost use Rattle.ordering.specs.Ordering.{order_answer, order_list};
@@ -25,10 +24,10 @@ ghost use Rattle.exports.specs.Numbers.{rig_of, job, numbered, passing, count_of
 ghost use Rattle.exports.specs.States.{step_of, state_of, numbers_of, leaves_state};
 
 use job::{Counted, Examined, JobRead, Refusal, Rig};
+use job_bytes::set_bytes::GroupRead;
 use plan_bytes::StepPart;
 use planning::PlanCounted;
 use report::sizes::Wanted;
-use set_bytes::GroupRead;
 use sizing::Places;
 use stepping::{CommitAnswer, NextStep, State};
 
@@ -123,12 +122,11 @@ fn head_of(r: JobRead) -> JobHead
 }
 
 #[unsafe(no_mangle)]
-pub extern "C" fn curveplan_read_job(job: &[u8], wants: &mut [u64], warm: &mut [u16]) -> JobHead
-    ensures answer { result ≡ head_of (read_job_answer (was job) (was wants) (was warm)) }
-    ensures wants { after wants ≡ read_job_wants (was job) (was wants) (was warm) }
-    ensures warm { after warm ≡ read_job_warm_ups (was job) (was wants) (was warm) }
+pub extern "C" fn curveplan_read_job(job: &[u8], wants: &mut [u64]) -> JobHead
+    ensures answer { result ≡ head_of (read_job_answer (was job) (was wants)) }
+    ensures wants { after wants ≡ read_job_wants (was job) (was wants) }
 {
-    head_of(job_bytes::read_job(job, wants, warm))
+    head_of(job_bytes::read_job(job, wants))
 }
 
 // The rig of numbers that are handed over one by one.
@@ -149,13 +147,12 @@ pub extern "C" fn curveplan_write_job(
     curves: usize,
     method: usize,
     wants: &[u64],
-    warm: &[u16],
     out: &mut [u8],
 ) -> u64
-    ensures answer { result ≡ numbered (write_job_answer method (job places booked curves (was wants) (was warm)) (was out)) }
-    ensures bytes { after out ≡ write_job_buffer method (job places booked curves (was wants) (was warm)) (was out) }
+    ensures answer { result ≡ numbered (write_job_answer method (job places booked curves (was wants)) (was out)) }
+    ensures bytes { after out ≡ write_job_buffer method (job places booked curves (was wants)) (was out) }
 {
-    counted(job_bytes::write_job(rig(places, booked, curves), method, wants, warm, out))
+    counted(job_bytes::write_job(rig(places, booked, curves), method, wants, out))
 }
 
 #[unsafe(no_mangle)]
@@ -165,13 +162,12 @@ pub extern "C" fn curveplan_order_tests(
     curves: usize,
     method: usize,
     wants: &[u64],
-    warm: &[u16],
     order: &mut [u16],
 ) -> u64
-    ensures answer { result ≡ numbered (order_answer method (job places booked curves (was wants) (was warm)) (was order)) }
-    ensures order { after order ≡ order_list method (job places booked curves (was wants) (was warm)) (was order) }
+    ensures answer { result ≡ numbered (order_answer method (job places booked curves (was wants)) (was order)) }
+    ensures order { after order ≡ order_list method (job places booked curves (was wants)) (was order) }
 {
-    counted(ordering::order_tests(rig(places, booked, curves), method, wants, warm, order))
+    counted(ordering::order_tests(rig(places, booked, curves), method, wants, order))
 }
 
 #[unsafe(no_mangle)]
@@ -180,25 +176,22 @@ pub extern "C" fn curveplan_plan_order(
     booked: usize,
     curves: usize,
     wants: &[u64],
-    warm: &[u16],
     held: u64,
     order: &[u16],
     drops: &mut [u64],
     loads: &mut [u64],
     end: &mut u64,
 ) -> u64
-    ensures answer { result
-        ≡ numbered (count_of (plan_answer (job places booked curves (was wants) (was warm)) held (was order) (set_lists (was drops) (was loads)))) }
+    ensures answer { result ≡ numbered (count_of (plan_answer (job places booked curves (was wants)) held (was order) (set_lists (was drops) (was loads)))) }
     ensures lists { set_lists (after drops) (after loads)
-        ≡ plan_lists (job places booked curves (was wants) (was warm)) held (was order) (set_lists (was drops) (was loads)) }
+        ≡ plan_lists (job places booked curves (was wants)) held (was order) (set_lists (was drops) (was loads)) }
     ensures end { after end
-        ≡ leaves_one (end_of (plan_answer (job places booked curves (was wants) (was warm)) held (was order) (set_lists (was drops) (was loads)))) (was end) }
+        ≡ leaves_one (end_of (plan_answer (job places booked curves (was wants)) held (was order) (set_lists (was drops) (was loads)))) (was end) }
 {
     with_end(
         planning::plan(
             rig(places, booked, curves),
             wants,
-            warm,
             held,
             order,
             drops,
@@ -214,19 +207,17 @@ pub extern "C" fn curveplan_check_plan(
     booked: usize,
     curves: usize,
     wants: &[u64],
-    warm: &[u16],
     held: u64,
     order: &[u16],
     drops: &[u64],
     loads: &[u64],
     end: u64,
 ) -> u64
-    ensures { result ≡ numbered (checking (job places booked curves (was wants) (was warm)) held (was order) (plan_of (was drops) (was loads) end)) }
+    ensures { result ≡ numbered (checking (job places booked curves (was wants)) held (was order) (plan_of (was drops) (was loads) end)) }
 {
     counted(planning::check_plan(
         rig(places, booked, curves),
         wants,
-        warm,
         held,
         order,
         drops,
@@ -241,7 +232,6 @@ pub extern "C" fn curveplan_write_plan(
     booked: usize,
     curves: usize,
     wants: &[u64],
-    warm: &[u16],
     held: u64,
     order: &[u16],
     drops: &[u64],
@@ -250,14 +240,13 @@ pub extern "C" fn curveplan_write_plan(
     out: &mut [u8],
 ) -> u64
     ensures answer { result
-        ≡ numbered (write_plan_answer (job places booked curves (was wants) (was warm)) held (was order) (plan_of (was drops) (was loads) end) (was out)) }
+        ≡ numbered (write_plan_answer (job places booked curves (was wants)) held (was order) (plan_of (was drops) (was loads) end) (was out)) }
     ensures bytes { after out
-        ≡ write_plan_buffer (job places booked curves (was wants) (was warm)) held (was order) (plan_of (was drops) (was loads) end) (was out) }
+        ≡ write_plan_buffer (job places booked curves (was wants)) held (was order) (plan_of (was drops) (was loads) end) (was out) }
 {
     counted(plan_bytes::write_plan(
         rig(places, booked, curves),
         wants,
-        warm,
         held,
         order,
         drops,
@@ -325,14 +314,13 @@ pub extern "C" fn curveplan_audit(job: &[u8], plan: &[u8], out: &mut [u8]) -> u6
 pub extern "C" fn curveplan_all_sizes(
     curves: usize,
     wants: &[u64],
-    warm: &[u16],
     order: &[u16],
     counts: &mut [u16; 64],
 ) -> u64
-    ensures answer { result ≡ passing (sizing curves (was wants) (was warm) (was order)) }
-    ensures counts { after counts ≡ leaves_counts (sizing curves (was wants) (was warm) (was order)) (was counts) }
+    ensures answer { result ≡ passing (sizing curves (was wants) (was order)) }
+    ensures counts { after counts ≡ leaves_counts (sizing curves (was wants) (was order)) (was counts) }
 {
-    let sizes = sizing::all_sizes(curves, wants, warm, order);
+    let sizes = sizing::all_sizes(curves, wants, order);
     let answer = sizes.answer;
     let made = sizes.counts;
     match answer {
@@ -349,13 +337,12 @@ pub extern "C" fn curveplan_all_sizes(
 pub extern "C" fn curveplan_fewest_places(
     curves: usize,
     wants: &[u64],
-    warm: &[u16],
     order: &[u16],
     loads: usize,
 ) -> u64
-    ensures { result ≡ numbered (mapped places_number (fewest curves (was wants) (was warm) (was order) loads)) }
+    ensures { result ≡ numbered (mapped places_number (fewest curves (was wants) (was order) loads)) }
 {
-    match sizing::fewest_places(curves, wants, warm, order, loads) {
+    match sizing::fewest_places(curves, wants, order, loads) {
         Places::Fewest(p) => p as u64,
         Places::NoSize => 0,
         Places::Refused(r) => refusal(r),
@@ -466,15 +453,14 @@ pub extern "C" fn curveplan_make_state(
     booked: usize,
     curves: usize,
     wants: &[u64],
-    warm: &[u16],
     held: u64,
     order: &[u16],
     state: &mut [u64; 260],
 ) -> u64
-    ensures answer { result ≡ numbered (tests_made (making (job places booked curves (was wants) (was warm)) held (was order))) }
-    ensures state { after state ≡ leaves_state (making (job places booked curves (was wants) (was warm)) held (was order)) (was state) }
+    ensures answer { result ≡ numbered (tests_made (making (job places booked curves (was wants)) held (was order))) }
+    ensures state { after state ≡ leaves_state (making (job places booked curves (was wants)) held (was order)) (was state) }
 {
-    let made = stepping::make_state(rig(places, booked, curves), wants, warm, held, order);
+    let made = stepping::make_state(rig(places, booked, curves), wants, held, order);
     let answer = made.answer;
     match answer {
         Counted::Count(tests) => {
@@ -545,7 +531,6 @@ pub extern "C" fn curveplan_commit(state: &mut [u64; 260], position: usize) -> S
 
 // ---- the examinations
 
-// Of places, booked places, curves and wants, whatever the warm_ups_lem.
 #[unsafe(no_mangle)]
 pub extern "C" fn curveplan_examine(
     places: usize,
@@ -553,7 +538,7 @@ pub extern "C" fn curveplan_examine(
     curves: usize,
     wants: &[u64],
 ) -> u64
-    ensures { (w : List ℕ) → result ≡ passing (job_known (job places booked curves (was wants) w)) }
+    ensures { result ≡ passing (job_known (job places booked curves (was wants))) }
 {
     examined(job::examine_job(rig(places, booked, curves), 0, wants))
 }
@@ -566,7 +551,7 @@ pub extern "C" fn curveplan_examine_by(
     method: usize,
     wants: &[u64],
 ) -> u64
-    ensures { (w : List ℕ) → result ≡ passing (job_known_by method (job places booked curves (was wants) w)) }
+    ensures { result ≡ passing (job_known_by method (job places booked curves (was wants))) }
 {
     examined(job::examine_job(rig(places, booked, curves), method, wants))
 }
@@ -585,13 +570,6 @@ pub extern "C" fn curveplan_examine_sizes(capacity: usize, wants: &[u64]) -> u64
     examined(job::examine_sizes(capacity, wants))
 }
 
-#[unsafe(no_mangle)]
-pub extern "C" fn curveplan_examine_warm_ups(tests: usize, warm: &[u16]) -> u64
-    ensures { result ≡ passing (warm_ups_known tests (was warm)) }
-{
-    examined(job::examine_warm_ups(tests, warm))
-}
-
 // ---- sets in bytes
 
 // The curves of the group go to `set`.
@@ -606,7 +584,7 @@ pub extern "C" fn curveplan_read_group(
     ensures answer { result ≡ passing (group_at (was rest) at group curves) }
     ensures set { after set ≡ leaves_one (group_at (was rest) at group curves) (was set) }
 {
-    match set_bytes::read_group(rest, at, group, curves) {
+    match job_bytes::set_bytes::read_group(rest, at, group, curves) {
         GroupRead::Owed => SCALE,
         GroupRead::Empty => 2 * SCALE,
         GroupRead::Unknown => 3 * SCALE,
@@ -621,14 +599,14 @@ pub extern "C" fn curveplan_read_group(
 pub extern "C" fn curveplan_group_map(s: u64) -> u64
     ensures { result ≡ group_map 8 s }
 {
-    set_bytes::group_map(s) as u64
+    job_bytes::set_bytes::group_map(s) as u64
 }
 
 #[unsafe(no_mangle)]
 pub extern "C" fn curveplan_set_len(s: u64) -> u64
     ensures { result ≡ length (set_bytes s) }
 {
-    set_bytes::set_len(s) as u64
+    job_bytes::set_bytes::set_len(s) as u64
 }
 
 #[unsafe(no_mangle)]
@@ -636,7 +614,7 @@ pub extern "C" fn curveplan_put_set(s: u64, out: &mut [u8]) -> u64
     ensures count { result ≡ length (set_bytes s) }
     ensures bytes { after out ≡ leaves (mapped (λ _. set_bytes s) (room (length (was out)) (length (set_bytes s)))) (was out) }
 {
-    set_bytes::put_set(s, out) as u64
+    job_bytes::set_bytes::put_set(s, out) as u64
 }
 
 // ---- sets

@@ -19,7 +19,7 @@ use Rattle.job.proofs.JobExact.{places_known_lem, booked_done, job_by_exact}
 
 -- the same job, with no place booked
 abbrev pub none_booked : Job → Job
-none_booked j = job_of (record { places = j.rig.places; booked = 0; curves = j.rig.curves }) j.wants j.warm_ups
+none_booked j = job_of (record { places = j.rig.places; booked = 0; curves = j.rig.curves }) j.wants
 
 -- ---- of the booked places alone
 module _ (rig : Rig) where

@@ -47,11 +47,6 @@ examines_exact P k i o (faulty s e f) t = (
   (λ g. e ∙ ap (λ (x : ℕ). refused k (i + x)) (first_one P s t f g)),
 )
 
--- nothing is refused exactly where none has a fault
-pub examines_done : (P : ℕ → Type 0) (k i : ℕ) (o : Outcome (Unit {0})) → Examines P k i o → o ≡ done tt ↔ ((t : ℕ) → P t → ⊥)
-examines_done P k i o (faultless e none) = ((λ d. none), (λ n. e))
-examines_done P k i o (faulty t e f) = ((λ d. absurd (refused≢done (sym e ∙ d))), (λ n. absurd (n t f.0)))
-
 -- position i, and then those behind it, where Q t is a fault at i + 1 + t
 pub examines_next : (P Q : ℕ → Type 0) (k i j : ℕ) (b : Bool) (o : Outcome (Unit {0})) → (b ≡ false → P 0) → (b ≡ true → P 0 → ⊥)
     → j ≡ suc i → ((t : ℕ) → Q t ↔ P (suc t)) → Examines Q k j o → Examines P k i (◌>>◌ (demand b k i) o)

@@ -19,13 +19,14 @@ use Rattle.bitset.proofs.Element.{∈-pos, lowest_in, lowest_least}
 use Rattle.job.specs.Refusal.{Outcome, done, refused, ◌>>◌, demand}
 use Rattle.job.specs.Words.{Job, IsJob}
 use Rattle.job.specs.Handed.{all_curves, held_known, job_known}
-use Rattle.job.specs.Calls.{warm_order_known, checking_known}
+use Rattle.job.specs.Order.{order_known}
+use Rattle.job.specs.Calls.{checking_known}
 use Rattle.job.proofs.Laws.{demand_true, demand_done, done_both, refused_split}
 use Rattle.job.proofs.Examination.{refused_both}
 use Rattle.job.proofs.Refuses.{refuses, HandedRefusal, job_by_refuses}
 use Rattle.job.proofs.JobExact.{below_inside, inside_below, job_exact}
 use Rattle.job.proofs.Faults.{First, Examines, faultless, faulty, examines_exact}
-use Rattle.job.proofs.WarmRefuses.{OrderRefusal, warm_order_refuses}
+use Rattle.job.proofs.OrderExact.{order_refuses}
 
 -- a held curve that a job with so many curves lacks
 abbrev pub UnknownHeld : ℕ → ℕ → ℕ → Type 0
@@ -73,21 +74,16 @@ module _ (curves held : ℕ) where
   unfolding held_known
   held_exact = ((λ e. inside_below curves held (demand_true _ 14 _ e)), (λ h. demand_done _ 14 _ (below_inside curves held h)))
 
--- of all that planning and checking ask: "after 13", and before 16 and 8
+-- of all that planning and checking ask: "after 13", and before 8
 module _ (j : Job) (held : ℕ) (order : List ℕ) (range : held < 2 ^ 64) (k : ℕ) where
   abbrev behind : Outcome (Unit {0})
-  behind = ◌>>◌ (held_known j.rig.curves held) (warm_order_known (length j.wants) j.warm_ups order)
-
-  no_order : OrderRefusal 14 k → ⊥
-  no_order (inl e) = omega arith
-  no_order (inr (inl e)) = omega arith
-  no_order (inr (inr e)) = omega arith
+  behind = ◌>>◌ (held_known j.rig.curves held) (order_known (length j.wants) order)
 
   of_held : (held_known j.rig.curves held ≡ refused 14 k)
-      ⊎ ((x : Unit {0}) × (held_known j.rig.curves held ≡ done x) × (warm_order_known (length j.wants) j.warm_ups order ≡ refused 14 k))
+      ⊎ ((x : Unit {0}) × (held_known j.rig.curves held ≡ done x) × (order_known (length j.wants) order ≡ refused 14 k))
       → First (UnknownHeld j.rig.curves held) k
   of_held (inl e) = (unknown_held_exact j.rig.curves held range k).0 e
-  of_held (inr (x, e, f)) = absurd (no_order (refuses OrderRefusal _ 14 k (warm_order_refuses (length j.wants) j.warm_ups order) f))
+  of_held (inr (x, e, f)) = absurd (omega (arith, refuses (λ k i. k ≡ 8) _ 14 k (order_refuses (length j.wants) [] order) f))
 
   other : HandedRefusal 14 k → ⊥
   other (inl h) = omega (arith, h.0)

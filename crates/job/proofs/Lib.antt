@@ -12,11 +12,6 @@
 --     OrderTurns    one turn of the examination of an order
 --     OrderExact    refusal 8 is not given exactly where an order names each test once
 --     OrderFault    refusal 8 names the first position with a fault
---     Ready         tests that have no warm-up, or whose warm-up is taken
---     WarmTurns     one turn of the examinations of warm_ups_lem
---     WarmRefuses   which refusals warm_ups_lem and an order can have
---     WarmFault     16 and 17 name the first position with a fault, and are not given exactly where there is none
---     WarmExact     exactly when 16, 8 and 17 are given among all that a call is handed
 --     SizingExact   02, wish 9: apart from 7, the walk for every drive size refuses as planning does
 pub mod Laws
 pub mod Examination
@@ -26,14 +21,9 @@ pub mod JobExact
 pub mod BookedExact
 pub mod MethodExact
 pub mod Faults
+pub mod HeldExact
 pub mod Marks
 pub mod OrderTurns
 pub mod OrderExact
 pub mod OrderFault
-pub mod Ready
-pub mod WarmTurns
-pub mod WarmRefuses
-pub mod WarmFault
-pub mod HeldExact
-pub mod WarmExact
 pub mod SizingExact

@@ -64,8 +64,8 @@ module _ (P : ℕ → ℕ → Type 0) where
       refuses_both (demand (ok x) k i) (each ok k (suc i) xs) (refuses_demand (ok x) k i (rw z at (p 0 (omega arith))))
       (refuses_each ok k (suc i) xs (λ t l. let n : i + suc t ≡ suc i + t = omega arith in rw n at (p (suc t) (omega arith))))
 
--- ---- the numbers of the table: 1 to 17, without 5
-pub in_table : (r : Refusal) → (1 ≤ number r) × (number r ≤ 17) × (number r ≡ 5 → ⊥)
+-- ---- the numbers of the table: 1 to 15, without 5
+pub in_table : (r : Refusal) → (1 ≤ number r) × (number r ≤ 15) × (number r ≡ 5 → ⊥)
 in_table (Refusal.Truncated i) = (omega arith, omega arith, λ e. omega arith)
 in_table (Refusal.BadHeader i) = (omega arith, omega arith, λ e. omega arith)
 in_table (Refusal.EmptyGroup i) = (omega arith, omega arith, λ e. omega arith)
@@ -80,8 +80,6 @@ in_table (Refusal.PlanRejected i) = (omega arith, omega arith, λ e. omega arith
 in_table (Refusal.TooManyBooked i) = (omega arith, omega arith, λ e. omega arith)
 in_table (Refusal.UnknownHeld i) = (omega arith, omega arith, λ e. omega arith)
 in_table (Refusal.NotNext i) = (omega arith, omega arith, λ e. omega arith)
-in_table (Refusal.BadWarmUp i) = (omega arith, omega arith, λ e. omega arith)
-in_table (Refusal.BeforeWarmUp i) = (omega arith, omega arith, λ e. omega arith)
 
 -- 02, wish 3: "Refusal 5 is withdrawn and its number not used again": NO REFUSAL that a function can answer has this number
 pub withdrawn : (r : Refusal) → number r ≡ 5 → ⊥

@@ -5,7 +5,6 @@ unfoldable pub use Rattle.lists.specs.Lent.{overwritten}
 use Rattle.job.specs.declared.Refusal.{Refusal}
 use Rattle.job.specs.declared.Refusal.TheVariants.{Truncated, BadHeader, EmptyGroup, UnknownCurve, TrailingBytes, TestTooLarge, BadOrder}
 use Rattle.job.specs.declared.Refusal.TheVariants.{BufferTooSmall, BadArgument, BadPlanBytes, PlanRejected, TooManyBooked, UnknownHeld, NotNext}
-use Rattle.job.specs.declared.Refusal.TheVariants.{BadWarmUp, BeforeWarmUp}
 use Rattle.job.specs.declared.Head.{Head}
 use Rattle.job.specs.declared.JobRead.{JobRead}
 use Rattle.job.specs.declared.Counted.{Counted}
@@ -33,8 +32,6 @@ number (PlanRejected i) = 12
 number (TooManyBooked i) = 13
 number (UnknownHeld i) = 14
 number (NotNext i) = 15
-number (BadWarmUp i) = 16
-number (BeforeWarmUp i) = 17
 
 -- .. and its figure
 abbrev pub figure : Refusal → ℕ
@@ -52,8 +49,6 @@ figure (PlanRejected i) = i
 figure (TooManyBooked i) = i
 figure (UnknownHeld i) = i
 figure (NotNext i) = i
-figure (BadWarmUp i) = i
-figure (BeforeWarmUp i) = i
 
 -- ---- "Any answer that is an enum has a definition that gives this paper's number and values for each of the enum's cases."
 

@@ -1,13 +1,11 @@
 // The job of a rig: its head, the refusals, what the library's functions answer, and the examination of handed numbers and lists.
-ghost use Rattle.std.specs.Prelude.{◌≡◌, false, List, ℕ, ◌≤◌, ◌<◌, length, get_or};
+ghost use Rattle.std.specs.Prelude.{◌≡◌, ◌≤◌, length};
 ghost use Rattle.lists.specs.Lent.{was};
 ghost use Rattle.job.specs.Refusal.{number, figure, examined_outcome};
 ghost use Rattle.job.specs.Words.{job_of, capacity};
-ghost use Rattle.job.specs.Handed.{between, is_method, numbers_known, wants_known, wants_fit, booked_known, booked_below, held_known};
-ghost use Rattle.job.specs.Handed.{job_known_by, counts_known, listed};
+ghost use Rattle.job.specs.Handed.{between, is_method, numbers_known, wants_known, wants_fit, booked_known, booked_below, held_known, job_known_by, counts_known};
 ghost use Rattle.job.specs.Order.{order_known};
-ghost use Rattle.job.specs.WarmUps.{warm_ups_known, ready, warm_ups_kept};
-ghost use Rattle.job.specs.Calls.{writing_known, ordering_known, warm_order_known, checking_known, planning_known, order_alone_known, sizing_known};
+ghost use Rattle.job.specs.Calls.{ordering_known, checking_known, planning_known, order_alone_known, sizing_known};
 
 // "Places in the drive 1 to 64. Curves 1 to 64, numbered from 0. Tests 1 to 256, numbered from 0.", and since wish 3 of 02 a list may have no tests.
 pub const MOST_PLACES: usize = 64;
@@ -18,9 +16,6 @@ pub const MOST_TESTS: usize = 256;
 
 // 02, wish 5: "booked places, 1..63, absent 0".
 pub const MOST_BOOKED: usize = 63;
-
-// 02, wish 10: the number of a warm-up that a test does not have, "256 for none".
-pub const NO_WARM_UP: u16 = 256;
 
 // The methods are 0 to 3, but for 2, which old job files may still have (02, wish 8).
 const LAST_METHOD: usize = 3;
@@ -59,10 +54,6 @@ pub enum Refusal {
     UnknownHeld(usize),
     // 15, "a commit whose position is not the next one, or after done"
     NotNext(usize),
-    // 16, "a faulty warm-up part", or a handed warm-up that is "neither lower nor 256"
-    BadWarmUp(usize),
-    // 17, "an order running a test before its warm-up"
-    BeforeWarmUp(usize),
 }
 
 // The number of a refusal in document 01's table.
@@ -84,8 +75,6 @@ pub fn number_of(r: Refusal) -> u64
         Refusal::TooManyBooked(_) => 13,
         Refusal::UnknownHeld(_) => 14,
         Refusal::NotNext(_) => 15,
-        Refusal::BadWarmUp(_) => 16,
-        Refusal::BeforeWarmUp(_) => 17,
     }
 }
 
@@ -108,8 +97,6 @@ pub fn figure_of(r: Refusal) -> u64
         Refusal::TooManyBooked(i) => i as u64,
         Refusal::UnknownHeld(i) => i as u64,
         Refusal::NotNext(i) => i as u64,
-        Refusal::BadWarmUp(i) => i as u64,
-        Refusal::BeforeWarmUp(i) => i as u64,
     }
 }
 
@@ -240,9 +227,9 @@ fn examine_booked(rig: Rig) -> Examined
     examine_capacity(rig, 0)
 }
 
-// 10 and 13, of a rig, a method and wants, whatever the warm_ups_lem. With method 0, of a rig and wants alone.
+// 10 and 13, of a job and a method: what writing a job is handed. With method 0, of a job alone.
 pub fn examine_job(rig: Rig, method: usize, wants: &[u64]) -> Examined
-    ensures { (w : List ℕ) → examined_outcome result ≡ job_known_by method (job_of rig (was wants) w) }
+    ensures { examined_outcome result ≡ job_known_by method (job_of rig (was wants)) }
 {
     if let Examined::Refused(r) = examine_numbers(rig, wants.len()) {
         return Examined::Refused(r);
@@ -319,106 +306,21 @@ fn examine_order(tests: usize, order: &[u16]) -> Examined
     Examined::Passed
 }
 
-// ---- 16 and 17
+// ---- what the other calls are handed
 
-// 16: "for handed warm_ups_lem the lowest test whose number is neither lower nor 256, or the first missing or surplus position, the smaller".
-pub fn examine_warm_ups(tests: usize, warm: &[u16]) -> Examined
-    ensures { examined_outcome result ≡ warm_ups_known tests (was warm) }
-{
-    let mut t: usize = 0;
-    while t < warm.len() {
-        if tests <= t {
-            return Examined::Refused(Refusal::BadWarmUp(t));
-        }
-        let w = warm[t];
-        if w != NO_WARM_UP {
-            if t <= w as usize {
-                return Examined::Refused(Refusal::BadWarmUp(t));
-            }
-        }
-        t += 1;
-    }
-    if t < tests {
-        return Examined::Refused(Refusal::BadWarmUp(t));
-    }
-    Examined::Passed
-}
-
-// Whether the test t has no warm-up, or its warm-up is taken: flag s is set where test s is taken, and a test without a flag is not.
-pub fn is_ready(warm: &[u16], taken: &[bool], t: usize) -> bool
-    ensures { (ts : List ℕ) → ((s : ℕ) → get_or (was taken) s false ≡ listed ts s) → result ≡ ready (was warm) ts t }
-{
-    if warm.len() <= t {
-        return true;
-    }
-    let w = warm[t];
-    if w == NO_WARM_UP {
-        return true;
-    }
-    let first = w as usize;
-    if taken.len() <= first {
-        return false;
-    }
-    taken[first]
-}
-
-// 17: "an order running a test before its warm-up, with the first such position".
-fn examine_kept(warm: &[u16], order: &[u16]) -> Examined
-    requires { (i : ℕ) → i < length order.now → get_or order.now i 0 < 256 }
-    ensures { examined_outcome result ≡ warm_ups_kept (was warm) (was order) }
-{
-    let mut taken = [false; MOST_TESTS];
-    let mut i: usize = 0;
-    while i < order.len() {
-        let t = order[i] as usize;
-        if !is_ready(warm, &taken, t) {
-            return Examined::Refused(Refusal::BeforeWarmUp(i));
-        }
-        taken[t] = true;
-        i += 1;
-    }
-    Examined::Passed
-}
-
-// Of warm_ups_lem and an order: 16, 8, 17.
-fn examine_warm_order(tests: usize, warm: &[u16], order: &[u16]) -> Examined
-    requires { tests ≤ 256 }
-    ensures { examined_outcome result ≡ warm_order_known tests (was warm) (was order) }
-{
-    if let Examined::Refused(r) = examine_warm_ups(tests, warm) {
-        return Examined::Refused(r);
-    }
-    if let Examined::Refused(r) = examine_order(tests, order) {
-        return Examined::Refused(r);
-    }
-    examine_kept(warm, order)
-}
-
-// ---- what the calls are handed
-
-// Of what writing a job is handed: 10, 13, 16.
-pub fn examine_writing(rig: Rig, method: usize, wants: &[u64], warm: &[u16]) -> Examined
-    ensures { examined_outcome result ≡ writing_known method (job_of rig (was wants) (was warm)) }
+// Of what ordering is handed: 10, 13, 7.
+pub fn examine_ordering(rig: Rig, method: usize, wants: &[u64]) -> Examined
+    ensures { examined_outcome result ≡ ordering_known method (job_of rig (was wants)) }
 {
     if let Examined::Refused(r) = examine_job(rig, method, wants) {
-        return Examined::Refused(r);
-    }
-    examine_warm_ups(wants.len(), warm)
-}
-
-// Of what ordering is handed: 10, 13, 16, 7.
-pub fn examine_ordering(rig: Rig, method: usize, wants: &[u64], warm: &[u16]) -> Examined
-    ensures { examined_outcome result ≡ ordering_known method (job_of rig (was wants) (was warm)) }
-{
-    if let Examined::Refused(r) = examine_writing(rig, method, wants, warm) {
         return Examined::Refused(r);
     }
     examine_fit(rig, wants)
 }
 
-// Of what the plan check is handed, but for the plan: 10, 13, 14, 16, 8, 17.
-pub fn examine_checking(rig: Rig, wants: &[u64], warm: &[u16], held: u64, order: &[u16]) -> Examined
-    ensures { examined_outcome result ≡ checking_known (job_of rig (was wants) (was warm)) held (was order) }
+// Of what the plan check is handed, but for the plan: 10, 13, 14, 8.
+pub fn examine_checking(rig: Rig, wants: &[u64], held: u64, order: &[u16]) -> Examined
+    ensures { examined_outcome result ≡ checking_known (job_of rig (was wants)) held (was order) }
 {
     if let Examined::Refused(r) = examine_job(rig, 0, wants) {
         return Examined::Refused(r);
@@ -426,14 +328,14 @@ pub fn examine_checking(rig: Rig, wants: &[u64], warm: &[u16], held: u64, order:
     if let Examined::Refused(r) = examine_held(rig.curves, held) {
         return Examined::Refused(r);
     }
-    examine_warm_order(wants.len(), warm, order)
+    examine_order(wants.len(), order)
 }
 
-// Of what planning is handed: 10, 13, 14, 16, 8, 17, 7.
-pub fn examine_planning(rig: Rig, wants: &[u64], warm: &[u16], held: u64, order: &[u16]) -> Examined
-    ensures { examined_outcome result ≡ planning_known (job_of rig (was wants) (was warm)) held (was order) }
+// Of what planning is handed: 10, 13, 14, 8, 7.
+pub fn examine_planning(rig: Rig, wants: &[u64], held: u64, order: &[u16]) -> Examined
+    ensures { examined_outcome result ≡ planning_known (job_of rig (was wants)) held (was order) }
 {
-    if let Examined::Refused(r) = examine_checking(rig, wants, warm, held, order) {
+    if let Examined::Refused(r) = examine_checking(rig, wants, held, order) {
         return Examined::Refused(r);
     }
     examine_fit(rig, wants)
@@ -449,9 +351,9 @@ pub fn examine_order_alone(order: &[u16]) -> Examined
     examine_order(order.len(), order)
 }
 
-// Of what the walk for every drive size is handed, 02, wish 9: 10, 16, 8, 17.
-pub fn examine_sizing(curves: usize, wants: &[u64], warm: &[u16], order: &[u16]) -> Examined
-    ensures { examined_outcome result ≡ sizing_known curves (was wants) (was warm) (was order) }
+// Of what the walk for every drive size is handed, 02, wish 9: 10, 8.
+pub fn examine_sizing(curves: usize, wants: &[u64], order: &[u16]) -> Examined
+    ensures { examined_outcome result ≡ sizing_known curves (was wants) (was order) }
 {
     if let Examined::Refused(r) = examine_counts(curves, wants.len()) {
         return Examined::Refused(r);
@@ -459,5 +361,5 @@ pub fn examine_sizing(curves: usize, wants: &[u64], warm: &[u16], order: &[u16])
     if let Examined::Refused(r) = examine_wants(curves, wants) {
         return Examined::Refused(r);
     }
-    examine_warm_order(wants.len(), warm, order)
+    examine_order(wants.len(), order)
 }

@@ -7,9 +7,8 @@ use native.Mathlib.Omega.{arith}
 use lib.ListN.{get_or, set}
 use Rattle.job.specs.Refusal.{Outcome, done, refused, ◌>>=◌, ◌>>◌, demand}
 use Rattle.job_bytes.specs.declared.fields.Field.{Field}
-use Rattle.set_bytes.specs.SetBytes.{Got, got, byte_at}
-use Rattle.job_bytes.specs.JobBytes.{read_field}
-use Rattle.set_bytes.specs.Numbers.{read_number}
+use Rattle.job_bytes.specs.SetBytes.{Got, got, byte_at}
+use Rattle.job_bytes.specs.JobBytes.{read_number, read_field}
 
 -- two lists of bytes that differ at place n alone, where the first has 2 and the second 1
 pub data Apart : ℕ → List ℕ → List ℕ → Type 0 where
@@ -44,7 +43,7 @@ byte_alike : (o i : ℕ) {n : ℕ} {r s : List ℕ} → Apart (suc n) r s → Al
 unfolding byte_at
 byte_alike o i (there n b r s p) = value b (suc i) r s p
 
-number_alike : (w i n : ℕ) (r s : List ℕ) → Apart (w + n) r s → Alike n (read_number 1 w i r) (read_number 1 w i s)
+number_alike : (w i n : ℕ) (r s : List ℕ) → Apart (w + n) r s → Alike n (read_number w i r) (read_number w i s)
 unfolding read_number
 number_alike zero i n r s p = let z : 0 + n ≡ n = omega arith in value 0 i r s (rw z at p)
 number_alike (suc w) i n r s p =

@@ -1,6 +1,6 @@
 -- 13 in job bytes: it comes exactly where the fields of the head are read and none of the places is left, with the offset of the booked byte.
 use mathlib.Core.Path.{◌≡◌, refl, sym, ap, ◌∙◌, subst}
-use mathlib.Core.Logic.{◌↔◌, inl, inr}
+use mathlib.Core.Logic.{◌↔◌}
 use mathlib.Core.Bool.{Bool, true, false}
 use mathlib.Core.List.{List, [], ◌∷◌, ◌++◌, append_assoc, zip_with, flatten}
 use Prim.Native.Nat.{ℕ, ◌-◌, ◌≤◌, ◌<◌}
@@ -14,30 +14,27 @@ use Rattle.job.specs.declared.Head.{Head}
 use Rattle.job.specs.Refusal.{Outcome, done, refused, ◌>>=◌, ◌>>◌, demand}
 use Rattle.job.specs.Handed.{booked_below}
 use Rattle.job_bytes.specs.declared.fields.Field.{Field}
-use Rattle.set_bytes.specs.SetBytes.{Bytes, Got}
-use Rattle.job_bytes.specs.JobBytes.{Request, fields, head_fields, read_head, bit5, read_bytes, head_bytes}
-use Rattle.set_bytes.specs.Numbers.{number_bytes}
+use Rattle.job_bytes.specs.SetBytes.{Got}
+use Rattle.job_bytes.specs.JobBytes.{Request, fields, head_fields, read_head, read_bytes, number_bytes, head_bytes}
 use Rattle.job.proofs.Laws.{refused≢done, demand_refused}
 use Rattle.job.proofs.Refuses.{refuses}
-use Rattle.job_bytes.proofs.HeadMap.{fields_map, fields_bytes, bytes_of, head_bytes_lem, fields_append}
-use Rattle.job_bytes.proofs.HeadRoundTrip.{within, standing, table_read}
-use Rattle.job_bytes.proofs.Parts.{behind_head}
-use Rattle.set_bytes.proofs.Spans.{Spans, span_done}
-use Rattle.job_bytes.proofs.JobSpans.{table_span}
+use Rattle.job_bytes.proofs.SetRoundTrip.{Bytes}
+use Rattle.job_bytes.proofs.HeadRoundTrip.{fields_map, fields_bytes, bytes_of, head_bytes_lem, fields_append, within, standing, table_read}
+use Rattle.job_bytes.proofs.Spans.{Spans, span_done, table_span}
 use Rattle.job_bytes.proofs.Heads.{head_booked}
 use Rattle.job_bytes.proofs.Records.{whole_head}
-use Rattle.job_bytes.proofs.ReadRefuses.{ByByte, BehindHead, table, tests}
+use Rattle.job_bytes.proofs.ReadRefuses.{ByByte, table, behind_head, tests}
 
 -- ---- the byte
 
 -- a head with booked places ends in their number
-last_byte : (d : ℕ) (h : Head) (m : ℕ) → 0 < h.rig.booked → h.rig.booked < 256
-    → (front : List ℕ) × (head_bytes d (standing h m) ≡ front ++ (h.rig.booked ∷ []))
+last_byte : (h : Head) (m : ℕ) → 0 < h.rig.booked → h.rig.booked < 256
+    → (front : List ℕ) × (head_bytes (standing h m) ≡ front ++ (h.rig.booked ∷ []))
 unfolding fields number_bytes fields_bytes zip_with flatten
-last_byte d h m some small = (
-  fields_map d fields (standing h m) ∷ fields_bytes (take 4 fields) vs,
-  head_bytes_lem d (standing h m)
-      ∙ ap {B = List ℕ} (λ bs. fields_map d fields (standing h m) ∷ bs) (fields_append (take 4 fields) (f ∷ []) vs (b ∷ []) refl ∙ rw own refl),
+last_byte h m some small = (
+  fields_map fields (standing h m) ∷ fields_bytes (take 4 fields) vs,
+  head_bytes_lem (standing h m)
+      ∙ ap {B = List ℕ} (λ bs. fields_map fields (standing h m) ∷ bs) (fields_append (take 4 fields) (f ∷ []) vs (b ∷ []) refl ∙ rw own refl),
 )
   where
     b : ℕ
@@ -61,7 +58,7 @@ booked_byte bs g all e some =
     let t = table_read bs g e in
     let s = span_done (subst (Spans 7 0 bs) e (table_span bs)) in
     let w = within _ b 0 63 (omega arith, omega arith) (omega arith, omega arith) t.have.1.1.1.1.0 in
-    let l = last_byte (bit5 bs) g.value t.method some (omega (arith, w.1)) in
+    let l = last_byte g.value t.method some (omega (arith, w.1)) in
     let y : bs ≡ l.0 ++ (b ∷ g.rest) = (t.exact all).0 ∙ ap (λ (z : List ℕ). z ++ g.rest) l.1 ∙ append_assoc l.0 (b ∷ []) g.rest in
     let n : g.next - 1 ≡ length l.0 =
     omega (arith, ap length y, length-append l.0 (b ∷ g.rest), ap length s.behind, length-drop g.next bs, s.within) in
@@ -99,12 +96,8 @@ booked_exact bs i = (
       rw x.3 (whole_head bs 13 (x.0.next - 1) (head_booked bs x.0 x.1 13 (x.0.next - 1) l)),
 )
   where
-    never : BehindHead 13 i → ⊥
-    never (inl n) = omega (arith, n.1)
-    never (inr n) = omega (arith, n)
-
-    go : (o : Outcome (Got Head)) → read_head bs ≡ o → ◌>>=◌ o (behind_head (bit5 bs)) ≡ refused 13 i → NoneLeft bs i
-    go (done g) e r = absurd (never (refuses BehindHead (behind_head (bit5 bs) g) 13 i (tests (bit5 bs) g) r))
+    go : (o : Outcome (Got Head)) → read_head bs ≡ o → ◌>>=◌ o behind_head ≡ refused 13 i → NoneLeft bs i
+    go (done g) e r = absurd (omega (arith, (refuses ByByte (behind_head g) 13 i (tests g) r).1))
     go (refused k f) e r = none_left bs i (e ∙ refused_is r)
       where
         refused_is : ◌≡◌ {A = Outcome Request} (refused k f) (refused 13 i) → ◌≡◌ {A = Outcome (Got Head)} (refused k f) (refused 13 i)

@@ -13,14 +13,15 @@ use Rattle.job.specs.declared.Counted.{Counted}
 use Rattle.job.specs.Refusal.{Outcome, done, refused, number, figure, count_outcome, ◌>>=◌, ◌>>◌, mapped, demand}
 use Rattle.job.specs.Handed.{booked_below}
 use Rattle.job_bytes.specs.declared.fields.Field.{Field}
-use Rattle.set_bytes.specs.SetBytes.{Got, got}
-use Rattle.job_bytes.specs.JobBytes.{fields, head_of, read_field, read_fields, head_fields, read_head}
-use Rattle.set_bytes.specs.Numbers.{read_number}
-pub use Rattle.job_bytes.proofs.HeadMap.{rows}
+use Rattle.job_bytes.specs.SetBytes.{Got, got}
+use Rattle.job_bytes.specs.JobBytes.{fields, head_of, read_number, read_field, read_fields, head_fields, read_head}
 use Rattle.job_bytes.proofs.HeadRoundTrip.{holds}
-use Rattle.set_bytes.proofs.Turns.{byte_there, byte_none}
-use Rattle.set_bytes.proofs.Spans.{Spans, span_done}
-use Rattle.job_bytes.proofs.JobSpans.{field_span, head_span}
+use Rattle.job_bytes.proofs.Turns.{byte_there, byte_none}
+use Rattle.job_bytes.proofs.Spans.{Spans, span_done, field_span, head_span}
+
+pub rows : length fields ≡ 5
+unfolding fields
+rows = refl
 
 pub byte_more : (w v b : ℕ) → v < 2 ^ (8 * w) → b < 256 → b + 256 * v < 2 ^ (8 * suc w)
 byte_more w v b h l = let e : 8 * suc w ≡ 8 + 8 * w = omega arith in rw (e, pow-add 2 8 (8 * w)) (omega arith)
@@ -38,28 +39,28 @@ module _ {A : Type 0} (o : Outcome A) (f : ℕ → A) (r : Counted) (e : o ≡ m
 module _ (bs : List ℕ) where
   -- ---- a number of w bytes
   number_next : (w i : ℕ) → i < length bs
-      → read_number 1 (suc w) i (drop i bs) ≡ ◌>>=◌ (read_number 1 w (suc i) (drop (suc i) bs)) (λ r. done (got (get_or bs i 0 + 256 * r.value) r.next r.rest))
+      → read_number (suc w) i (drop i bs) ≡ ◌>>=◌ (read_number w (suc i) (drop (suc i) bs)) (λ r. done (got (get_or bs i 0 + 256 * r.value) r.next r.rest))
   unfolding read_number ◌>>=◌
   number_next w i h = rw (byte_there 1 i i bs h) refl
 
   -- one byte in front of a number that was read
-  pub number_more : (w i v n : ℕ) → i < length bs → read_number 1 w (suc i) (drop (suc i) bs) ≡ done (got v n (drop n bs))
-      → read_number 1 (suc w) i (drop i bs) ≡ done (got (get_or bs i 0 + 256 * v) n (drop n bs))
+  pub number_more : (w i v n : ℕ) → i < length bs → read_number w (suc i) (drop (suc i) bs) ≡ done (got v n (drop n bs))
+      → read_number (suc w) i (drop i bs) ≡ done (got (get_or bs i 0 + 256 * v) n (drop n bs))
   unfolding ◌>>=◌
   number_more w i v n h e = number_next w i h ∙ rw e refl
 
-  number_none : (w i : ℕ) → length bs ≤ i → read_number 1 (suc w) i (drop i bs) ≡ refused 1 i
+  number_none : (w i : ℕ) → length bs ≤ i → read_number (suc w) i (drop i bs) ≡ refused 1 i
   unfolding read_number ◌>>=◌
   number_none w i h = rw (byte_none 1 i i bs h) refl
 
   -- 1 with the input length, where the bytes end before the number does
-  number_cut : (w i : ℕ) → i ≤ length bs → length bs < i + w → read_number 1 w i (drop i bs) ≡ refused 1 (length bs)
+  number_cut : (w i : ℕ) → i ≤ length bs → length bs < i + w → read_number w i (drop i bs) ≡ refused 1 (length bs)
   unfolding ◌>>=◌
   number_cut zero i l h = absurd (omega arith)
   number_cut (suc w) i l h = go (dec_le (length bs) i) (number_cut w (suc i))
     where
-      go : Dec (length bs ≤ i) → (suc i ≤ length bs → length bs < suc i + w → read_number 1 w (suc i) (drop (suc i) bs) ≡ refused 1 (length bs))
-          → read_number 1 (suc w) i (drop i bs) ≡ refused 1 (length bs)
+      go : Dec (length bs ≤ i) → (suc i ≤ length bs → length bs < suc i + w → read_number w (suc i) (drop (suc i) bs) ≡ refused 1 (length bs))
+          → read_number (suc w) i (drop i bs) ≡ refused 1 (length bs)
       go (yes z) ih = let e : i ≡ length bs = omega arith in number_none w i z ∙ ap (refused 1) e
       go (no z) ih = number_next w i (omega arith) ∙ rw (ih (omega arith) (omega arith)) refl
 
@@ -69,7 +70,7 @@ module _ (bs : List ℕ) where
     unfolding read_field ◌>>=◌
     field_cut l h = rw (number_cut f.width i l h) refl
 
-    pub field_judged : (g : Got ℕ) → read_number 1 f.width i (drop i bs) ≡ done g
+    pub field_judged : (g : Got ℕ) → read_number f.width i (drop i bs) ≡ done g
         → read_field f 1 i (drop i bs) ≡ ◌>>◌ (demand (holds f g.value) 2 i) (done g)
     unfolding holds read_field ◌>>=◌
     field_judged g e = rw e refl
@@ -99,14 +100,14 @@ module _ (bs : List ℕ) where
   head_none h = rw (byte_none 1 0 0 bs (omega arith)) refl
 
   module _ (some : 0 < length bs) where
-    pub head_map : 2 ^ suc (length fields) ≤ get_or bs 0 0 → head_fields bs ≡ refused 2 0
+    pub head_map : 2 ^ length fields ≤ get_or bs 0 0 → head_fields bs ≡ refused 2 0
     unfolding head_fields demand ◌>>=◌ ◌>>◌
-    head_map h = rw (byte_there 1 0 0 bs some, le-ltb (get_or bs 0 0) (2 ^ suc (length fields)) h) refl
+    head_map h = rw (byte_there 1 0 0 bs some, le-ltb (get_or bs 0 0) (2 ^ length fields) h) refl
 
-    pub head_fields_lem : get_or bs 0 0 < 2 ^ suc (length fields)
+    pub head_fields_lem : get_or bs 0 0 < 2 ^ length fields
         → head_fields bs ≡ ◌>>=◌ (read_fields fields (get_or bs 0 0) [] 1 (drop 1 bs)) (λ r. done (got (head_of r.value) r.next r.rest))
     unfolding head_fields demand ◌>>=◌ ◌>>◌
-    head_fields_lem h = rw (byte_there 1 0 0 bs some, lt-ltb (get_or bs 0 0) (2 ^ suc (length fields)) h) refl
+    head_fields_lem h = rw (byte_there 1 0 0 bs some, lt-ltb (get_or bs 0 0) (2 ^ length fields) h) refl
 
   -- 13 behind its fields, or what they come to
   pub head_fault : (k f : ℕ) → head_fields bs ≡ refused k f → read_head bs ≡ refused k f

@@ -1,5 +1,5 @@
--- The bounds of job bytes: a head takes at most 7 bytes, each of at most 256 records at most 9, and the warm-up part at most 287, 32 of its map and 255 numbers. So a
--- job that reads has at most 2,598 bytes, no figure of a refusal is larger than that, and bytes behind the 2,599th never change the answer.
+-- The bounds of job bytes: a head takes at most 7 bytes and each of at most 256 records at most 9. So a job that reads has at most 2,311 bytes, no figure of a
+-- refusal is larger than that, and bytes behind the 2,312th never change the answer.
 use mathlib.Core.Path.{◌≡◌, refl, sym, ap, ◌∙◌, subst}
 use mathlib.Core.Logic.{◌⊎◌, inl, inr}
 use mathlib.Core.Bool.{Bool, true, false}
@@ -8,91 +8,81 @@ use Prim.Native.Nat.{ℕ, zero, suc, ◌+◌, ◌-◌, ◌*◌, ◌/◌, ◌%◌
 use native.Mathlib.Omega.{arith}
 use native.Mathlib.Decide.{dec_le}
 use lib.Dec.{leb}
-use lib.ListN.{length, get_or, take, drop, length-take, length-drop, take-append-drop}
+use lib.ListN.{length, take, drop, length-take, length-drop, take-append-drop}
 use lib.Seq.{take_all}
 use Rattle.job.specs.declared.Head.{Head}
 use Rattle.job.specs.Refusal.{Outcome, done, refused, ◌>>=◌, ◌>>◌, demand, room}
+use Rattle.job_bytes.specs.declared.fields.Field.{Field}
+use Rattle.job_bytes.specs.SetBytes.{Got, got}
 use Rattle.job.specs.Words.{Job}
 use Rattle.job.specs.Handed.{booked_below}
+use Rattle.job_bytes.specs.JobBytes.{Request, fields, read_number, read_field, read_fields, head_fields, read_head, read_record, read_records, at_end}
+use Rattle.job_bytes.specs.JobBytes.{read_bytes, read_job, read_job_answer, read_job_wants, write_job}
 use Rattle.job.proofs.Laws.{refused≢done, bind_done, mapped_done, mapped_refused}
-use Rattle.set_bytes.specs.SetBytes.{Got, got}
-use Rattle.set_bytes.proofs.Spans.{Spans, span_done, span_refused}
-use Rattle.set_bytes.proofs.Behind.{Same, value, fault, same_then, same_test, byte_same, number_same, groups_same}
-use Rattle.warm_bytes.specs.WarmBytes.{read_part}
-use Rattle.warm_bytes.proofs.PartSpans.{part_span, part_same}
-use Rattle.job_bytes.specs.declared.fields.Field.{Field}
-use Rattle.job_bytes.specs.JobBytes.{Request, fields, read_field, read_fields, head_fields, read_head, read_record, read_records, bit5, read_bytes}
-use Rattle.set_bytes.specs.SetBytes.{at_end}
-use Rattle.job_bytes.specs.JobBytes.{read_job, job_read, read_job_answer, read_job_wants, read_job_warm_ups, write_job}
 use Rattle.job_bytes.proofs.HeadRoundTrip.{head_range}
-use Rattle.job_bytes.proofs.JobSpans.{widths, head_span, records_span}
+use Rattle.job_bytes.proofs.Spans.{Ends, Spans, span_done, span_refused, widths, head_span, records_span}
+use Rattle.job_bytes.proofs.Behind.{Same, value, fault, same_then, same_test, byte_same, groups_same}
 use Rattle.job_bytes.proofs.JobRoundTrip.{job_back}
-use Rattle.job_bytes.proofs.Parts.{behind_part, behind_records, behind_head}
 
 -- ---- how long, and how large a figure
 
 -- what a reading of the whole job comes to: done within the bound, or a figure within it
 pub data Bounded (bs : List ℕ) : Outcome Request → Type 0 where
-  read : (j : Request) → length bs ≤ 2598 → j.head.tests ≤ 256 → Bounded bs (done j)
-  figure : (k f : ℕ) → f ≤ 2598 → f ≤ length bs → Bounded bs (refused k f)
+  read : (j : Request) → length bs ≤ 2311 → j.head.tests ≤ 256 → Bounded bs (done j)
+  figure : (k f : ℕ) → f ≤ 2311 → f ≤ length bs → Bounded bs (refused k f)
 
-module _ (bs : List ℕ) where
-  -- behind the part
-  at_end_lem : (e : ℕ) (rest : List ℕ) (j : Request) → e ≤ 2598 → e ≤ length bs → rest ≡ drop e bs → j.head.tests ≤ 256
-      → Bounded bs (◌>>◌ (at_end 6 e rest) (done j))
-  unfolding at_end ◌>>◌
-  at_end_lem e [] j m l r t = read j (omega (arith, ap length r, length-drop e bs)) t
-  at_end_lem e (b ∷ rest) j m l r t = figure 6 e m l
-
-  module _ (h : Head) (few : h.tests ≤ 256) where
-    behind_part_lem : (ws : List ℕ) (n : ℕ) (o : Outcome (Got (List ℕ))) → n ≤ 2311 → Spans 287 n bs o → Bounded bs (◌>>=◌ o (behind_part h ws))
-    unfolding ◌>>=◌
-    behind_part_lem ws n (done g) m s = let e = span_done s in at_end_lem g.next g.rest _ (omega (arith, e.most)) e.within e.behind few
-    behind_part_lem ws n (refused k f) m s = let e = span_refused s in figure k f (omega (arith, e.0)) e.1
-
-    behind_records_lem : (n : ℕ) (o : Outcome (Got (List ℕ))) → n ≤ 7 → Spans (9 * h.tests) n bs o → Bounded bs (◌>>=◌ o (behind_records (bit5 bs) h))
-    unfolding ◌>>=◌
-    behind_records_lem n (refused k f) m s = let e = span_refused s in figure k f (omega (arith, e.0)) e.1
-    behind_records_lem n (done g) m s =
-        let e = span_done s in
-        let part = part_span bs (bit5 bs) h.tests g.next few e.within in
-        behind_part_lem g.value g.next (read_part (bit5 bs) h.tests g.next g.rest) (omega (arith, e.most)) (rw e.behind part)
-
-  behind_head_lem : (o : Outcome (Got Head)) → read_head bs ≡ o → Spans 7 0 bs o → Bounded bs (◌>>=◌ o (behind_head (bit5 bs)))
-  unfolding ◌>>=◌
-  behind_head_lem (refused k f) e s = let x = span_refused s in figure k f (omega (arith, x.0)) x.1
-  behind_head_lem (done g) e s =
-      let h = g.value in
-      let x = span_done s in
-      let few = (head_range bs g e).tests in
-      behind_records_lem h few g.next (read_records h.rig.curves h.tests [] g.next g.rest) (omega (arith, x.most))
-      (rw x.behind (records_span bs h.rig.curves h.tests [] g.next x.within))
+-- behind the records
+at_end_lem : (bs : List ℕ) (e : ℕ) (rest : List ℕ) (j : Request) → e ≤ 2311 → e ≤ length bs → rest ≡ drop e bs → j.head.tests ≤ 256
+    → Bounded bs (◌>>◌ (at_end 6 e rest) (done j))
+unfolding at_end ◌>>◌
+at_end_lem bs e [] j m l r t = read j (omega (arith, ap length r, length-drop e bs)) t
+at_end_lem bs e (b ∷ rest) j m l r t = figure 6 e m l
 
 pub read_bounded : (bs : List ℕ) → Bounded bs (read_bytes bs)
-unfolding read_bytes
-read_bounded bs = behind_head_lem bs (read_head bs) refl (head_span bs)
+unfolding read_bytes ◌>>=◌ ◌>>◌
+read_bounded bs = behind (read_head bs) refl (head_span bs)
+  where
+    all : (h : Head) (n : ℕ) (o : Outcome (Got (List ℕ))) → h.tests ≤ 256 → n ≤ 7 → Spans (9 * h.tests) n bs o
+        → Bounded bs (◌>>=◌ o (λ r. ◌>>◌ (at_end 6 r.next r.rest) (done (record { head = h; wants = r.value }))))
+    all h n (done g) t m s = let e = span_done s in at_end_lem bs g.next g.rest _ (omega (arith, e.most)) e.within e.behind t
+    all h n (refused k f) t m s = let e = span_refused s in figure k f (omega (arith, e.0)) e.1
 
--- A JOB THAT READS HAS AT MOST 2,598 BYTES
-pub job_short : (bs : List ℕ) (j : Request) → read_bytes bs ≡ done j → length bs ≤ 2598
+    records : (h : Head) (n : ℕ) (rest : List ℕ) → h.tests ≤ 256 → Ends 7 0 bs n rest
+        → Bounded bs (◌>>=◌ (read_records h.rig.curves h.tests [] n rest)
+        (λ r. ◌>>◌ (at_end 6 r.next r.rest) (done (record { head = h; wants = r.value }))))
+    records h n rest t s =
+        subst (λ (l : List ℕ). Bounded bs (◌>>=◌ (read_records h.rig.curves h.tests [] n l)
+        (λ r. ◌>>◌ (at_end 6 r.next r.rest) (done (record { head = h; wants = r.value }))))) (sym s.behind)
+        (all h n (read_records h.rig.curves h.tests [] n (drop n bs)) t (omega (arith, s.most))
+        (records_span bs h.rig.curves h.tests [] n s.within))
+
+    behind : (o : Outcome (Got Head)) → read_head bs ≡ o → Spans 7 0 bs o
+        → Bounded bs (◌>>=◌ o (λ h. ◌>>=◌ (read_records h.value.rig.curves h.value.tests [] h.next h.rest)
+        (λ r. ◌>>◌ (at_end 6 r.next r.rest) (done (record { head = h.value; wants = r.value })))))
+    behind (refused k f) e s = let x = span_refused s in figure k f (omega (arith, x.0)) x.1
+    behind (done g) e s = records g.value g.next g.rest (head_range bs g e).tests (span_done s)
+
+-- A JOB THAT READS HAS AT MOST 2,311 BYTES
+pub job_short : (bs : List ℕ) (j : Request) → read_bytes bs ≡ done j → length bs ≤ 2311
 job_short bs j e = of (subst (Bounded bs) e (read_bounded bs))
   where
-    of : {j : Request} → Bounded bs (done j) → length bs ≤ 2598
+    of : {j : Request} → Bounded bs (done j) → length bs ≤ 2311
     of (read j l t) = l
 
--- A FIGURE IS AT MOST 2,598, and points into the input or to its end
-pub figure_short : (bs : List ℕ) (k f : ℕ) → read_bytes bs ≡ refused k f → (f ≤ 2598) × (f ≤ length bs)
+-- A FIGURE IS AT MOST 2,311, and points into the input or to its end
+pub figure_short : (bs : List ℕ) (k f : ℕ) → read_bytes bs ≡ refused k f → (f ≤ 2311) × (f ≤ length bs)
 figure_short bs k f e = of (subst (Bounded bs) e (read_bounded bs))
   where
-    of : {k f : ℕ} → Bounded bs (refused k f) → (f ≤ 2598) × (f ≤ length bs)
+    of : {k f : ℕ} → Bounded bs (refused k f) → (f ≤ 2311) × (f ≤ length bs)
     of (figure k f m l) = (m, l)
 
 -- .. also where the lent list is asked: 9 has the number of tests
-pub job_figure : (bs : List ℕ) (lent k f : ℕ) → read_job bs lent ≡ refused k f → (f ≤ 2598) × ((f ≤ length bs) ⊎ ((k ≡ 9) × (f ≤ 256)))
+pub job_figure : (bs : List ℕ) (lent k f : ℕ) → read_job bs lent ≡ refused k f → (f ≤ 2311) × ((f ≤ length bs) ⊎ ((k ≡ 9) × (f ≤ 256)))
 unfolding read_job room demand ◌>>=◌ ◌>>◌
 job_figure bs lent k f e = go (read_bounded bs) e
   where
     short : (b : Bool) (j : Request) → j.head.tests ≤ 256 → ◌>>◌ (demand b 9 j.head.tests) (done j) ≡ refused k f
-        → (f ≤ 2598) × ((f ≤ length bs) ⊎ ((k ≡ 9) × (f ≤ 256)))
+        → (f ≤ 2311) × ((f ≤ length bs) ⊎ ((k ≡ 9) × (f ≤ 256)))
     short true j t e = absurd (refused≢done (sym e))
     short false j t e =
         let n : k ≡ 9 = cc in
@@ -100,7 +90,7 @@ job_figure bs lent k f e = go (read_bounded bs) e
         (omega arith, inr (n, omega arith))
 
     go : {o : Outcome Request} → Bounded bs o → ◌>>=◌ o (λ j. ◌>>◌ (room lent j.head.tests) (done j)) ≡ refused k f
-        → (f ≤ 2598) × ((f ≤ length bs) ⊎ ((k ≡ 9) × (f ≤ 256)))
+        → (f ≤ 2311) × ((f ≤ length bs) ⊎ ((k ≡ 9) × (f ≤ 256)))
     go (read j l t) e = short (leb j.head.tests lent) j t e
     go (figure n i m l) e =
         let q : f ≡ i = cc in
@@ -109,10 +99,17 @@ job_figure bs lent k f e = go (read_bounded bs) e
 -- ---- bytes behind
 
 module _ (ys : List ℕ) where
+  number_same : (w i m : ℕ) (xs : List ℕ) → w + m ≤ length xs → Same ys m (read_number w i xs) (read_number w i (xs ++ ys))
+  unfolding read_number
+  number_same zero i m xs l = value 0 i xs (omega arith)
+  number_same (suc w) i m xs l =
+      same_then ys (w + m) m _ (byte_same ys 1 i (w + m) xs (omega arith))
+      (λ b n xs l. same_then ys m m _ (number_same w n m xs l) (λ r n xs l. value _ n xs l))
+
   field_same : (f : Field) (d i m : ℕ) (xs : List ℕ) → f.width + m ≤ length xs → Same ys m (read_field f d i xs) (read_field f d i (xs ++ ys))
   unfolding read_field
   field_same f zero i m xs l = value f.absent i xs (omega arith)
-  field_same f (suc d) i m xs l = same_then ys m m _ (number_same ys 1 f.width i m xs l) (λ v n xs l. same_test ys m _ 2 i (value v n xs l))
+  field_same f (suc d) i m xs l = same_then ys m m _ (number_same f.width i m xs l) (λ v n xs l. same_test ys m _ 2 i (value v n xs l))
 
   fields_same : (fs : List Field) (map : ℕ) (vs : List ℕ) (i m : ℕ) (xs : List ℕ) → widths fs + m ≤ length xs
       → Same ys m (read_fields fs map vs i xs) (read_fields fs map vs i (xs ++ ys))
@@ -144,66 +141,52 @@ module _ (ys : List ℕ) where
   records_same curves (suc k) wants i m xs l =
       same_then ys (9 * k + m) m _ (record_same curves i (9 * k + m) xs (omega arith)) (λ r n xs l. records_same curves k (wants ++ (r ∷ [])) n m xs l)
 
-  -- with a byte left behind the part in both, both are refused there
-  end_same : (h : Head) (ws : List ℕ) {o q : Outcome (Got (List ℕ))} → Same ys 1 o q → ◌>>=◌ q (behind_part h ws) ≡ ◌>>=◌ o (behind_part h ws)
+  -- with a byte left behind the records in both, both are refused there
+  end_same : (h : Head) {o q : Outcome (Got (List ℕ))} → Same ys 1 o q
+      → ◌≡◌ {A = Outcome Request} (◌>>=◌ q (λ r. ◌>>◌ (at_end 6 r.next r.rest) (done (record { head = h; wants = r.value }))))
+      (◌>>=◌ o (λ r. ◌>>◌ (at_end 6 r.next r.rest) (done (record { head = h; wants = r.value }))))
   unfolding ◌>>=◌ ◌>>◌ at_end
-  end_same h ws (value a n [] l) = absurd (omega arith)
-  end_same h ws (value a n (x ∷ xs) l) = refl
-  end_same h ws (fault k f) = refl
+  end_same h (value a n [] l) = absurd (omega arith)
+  end_same h (value a n (x ∷ xs) l) = refl
+  end_same h (fault k f) = refl
 
-  tests_same : (d : ℕ) (h : Head) {o q : Outcome (Got (List ℕ))} → h.tests ≤ 256 → Same ys 288 o q → ◌>>=◌ q (behind_records d h) ≡ ◌>>=◌ o (behind_records d h)
-  unfolding ◌>>=◌
-  tests_same d h few (value a n xs l) = end_same h a (part_same ys d h.tests n 1 xs few (omega arith))
-  tests_same d h few (fault k f) = refl
-
-  -- the map is before them
-  map_same : (xs : List ℕ) → 1 ≤ length xs → get_or (xs ++ ys) 0 0 ≡ get_or xs 0 0
-  map_same [] l = absurd (omega arith)
-  map_same (x ∷ xs) l = refl
-
-  -- BYTES BEHIND THE 2,599TH NEVER CHANGE THE ANSWER
-  pub behind_same : (xs : List ℕ) → 2599 ≤ length xs → read_bytes (xs ++ ys) ≡ read_bytes xs
-  unfolding read_bytes ◌>>=◌
-  behind_same xs l = go refl refl (head_same 2592 xs (omega arith))
+  -- BYTES BEHIND THE 2,312TH NEVER CHANGE THE ANSWER
+  pub behind_same : (xs : List ℕ) → 2312 ≤ length xs → read_bytes (xs ++ ys) ≡ read_bytes xs
+  unfolding read_bytes ◌>>=◌ ◌>>◌
+  behind_same xs l = go refl refl (head_same 2305 xs (omega arith))
     where
-      go : {o q : Outcome (Got Head)} → read_head xs ≡ o → read_head (xs ++ ys) ≡ q → Same ys 2592 o q → read_bytes (xs ++ ys) ≡ read_bytes xs
+      go : {o q : Outcome (Got Head)} → read_head xs ≡ o → read_head (xs ++ ys) ≡ q → Same ys 2305 o q → read_bytes (xs ++ ys) ≡ read_bytes xs
       go e f (fault k i) = rw (e, f) refl
       go e f (value h n rest m) =
-          let few = (head_range xs (got h n rest) e).tests in
-          rw (e, f, map_same xs (omega arith))
-          (tests_same (bit5 xs) h few (records_same h.rig.curves h.tests [] n 288 rest (omega arith)))
+          let t = (head_range xs (got h n rest) e).tests in
+          rw (e, f) (end_same h (records_same h.rig.curves h.tests [] n 1 rest (omega arith)))
 
-pub prefix_reads : (bs : List ℕ) → read_bytes (take 2599 bs) ≡ read_bytes bs
-prefix_reads bs = go (dec_le (length bs) 2599)
+pub prefix_reads : (bs : List ℕ) → read_bytes (take 2312 bs) ≡ read_bytes bs
+prefix_reads bs = go (dec_le (length bs) 2312)
   where
-    go : Dec (length bs ≤ 2599) → read_bytes (take 2599 bs) ≡ read_bytes bs
-    go (yes l) = ap read_bytes (take_all 2599 bs l)
-    go (no l) = sym (behind_same (drop 2599 bs) (take 2599 bs) (omega (arith, length-take 2599 bs))) ∙ ap read_bytes (take-append-drop 2599 bs)
+    go : Dec (length bs ≤ 2312) → read_bytes (take 2312 bs) ≡ read_bytes bs
+    go (yes l) = ap read_bytes (take_all 2312 bs l)
+    go (no l) = sym (behind_same (drop 2312 bs) (take 2312 bs) (omega (arith, length-take 2312 bs))) ∙ ap read_bytes (take-append-drop 2312 bs)
 
 -- ---- the same of what `read_job` answers and leaves, and of what `write_job` writes
-module _ (bs wants warm_ups : List ℕ) where
-  pub prefix_answer : read_job_answer (take 2599 bs) wants warm_ups ≡ read_job_answer bs wants warm_ups
-  unfolding read_job_answer read_job
-  prefix_answer = rw (prefix_reads bs) refl
+pub prefix_answer : (bs old : List ℕ) → read_job_answer (take 2312 bs) old ≡ read_job_answer bs old
+unfolding read_job_answer read_job
+prefix_answer bs old = rw (prefix_reads bs) refl
 
-  pub prefix_wants : read_job_wants (take 2599 bs) wants warm_ups ≡ read_job_wants bs wants warm_ups
-  unfolding read_job_wants read_job
-  prefix_wants = rw (prefix_reads bs) refl
+pub prefix_wants : (bs old : List ℕ) → read_job_wants (take 2312 bs) old ≡ read_job_wants bs old
+unfolding read_job_wants read_job
+prefix_wants bs old = rw (prefix_reads bs) refl
 
-  pub prefix_warm_ups : read_job_warm_ups (take 2599 bs) wants warm_ups ≡ read_job_warm_ups bs wants warm_ups
-  unfolding read_job_warm_ups read_job
-  prefix_warm_ups = rw (prefix_reads bs) refl
+pub answer_figure : (bs old : List ℕ) (k f : ℕ) → read_job_answer bs old ≡ refused k f → (f ≤ 2311) × ((f ≤ length bs) ⊎ ((k ≡ 9) × (f ≤ 256)))
+unfolding read_job_answer
+answer_figure bs old k f e = job_figure bs (length old) k f (mapped_refused (λ (j : Request). j.head) (read_job bs (length old)) k f e)
 
-  pub answer_figure : (k f : ℕ) → read_job_answer bs wants warm_ups ≡ refused k f → (f ≤ 2598) × ((f ≤ length bs) ⊎ ((k ≡ 9) × (f ≤ 256)))
-  unfolding read_job_answer
-  answer_figure k f e = job_figure bs _ k f (mapped_refused (λ (j : Request). j.head) (job_read bs wants warm_ups) k f e)
+pub answer_short : (bs old : List ℕ) (h : Head) → read_job_answer bs old ≡ done h → length bs ≤ 2311
+unfolding read_job_answer read_job
+answer_short bs old h e =
+    let x = mapped_done (λ (j : Request). j.head) (read_job bs (length old)) h e in
+    let y = bind_done (read_bytes bs) _ x.0 x.1 in
+    job_short bs y.0 y.1
 
-  pub answer_short : (h : Head) → read_job_answer bs wants warm_ups ≡ done h → length bs ≤ 2598
-  unfolding read_job_answer read_job
-  answer_short h e =
-      let x = mapped_done (λ (j : Request). j.head) (job_read bs wants warm_ups) h e in
-      let y = bind_done (read_bytes bs) _ x.0 x.1 in
-      job_short bs y.0 y.1
-
-pub written_short : (method : ℕ) (j : Job) (lent : ℕ) (bytes : List ℕ) → write_job method j lent ≡ done bytes → length bytes ≤ 2598
+pub written_short : (method : ℕ) (j : Job) (lent : ℕ) (bytes : List ℕ) → write_job method j lent ≡ done bytes → length bytes ≤ 2311
 written_short method j lent bytes e = job_short bytes _ (job_back method j lent bytes e)

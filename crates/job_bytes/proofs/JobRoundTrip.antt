@@ -7,22 +7,17 @@ use native.Mathlib.Omega.{arith}
 use lib.ListN.{length, get_or, length-append}
 use Rattle.job.specs.declared.Head.{Head}
 use Rattle.job.specs.Refusal.{done, ◌>>=◌, ◌>>◌, room}
-use Rattle.job.specs.Words.{Job, job_of, IsJob, IsMethod, WarmUps}
-use Rattle.job.specs.Calls.{writing_known}
-use Rattle.job.proofs.Laws.{done_same, refused≢done, both_done, done_both, bind_done, done_room}
-use Rattle.job.proofs.WarmExact.{writing_exact}
-use Rattle.set_bytes.specs.SetBytes.{Bytes, group_map, group_bytes, set_bytes, Got, got, byte_at}
-use Rattle.set_bytes.proofs.Encoding.{stands_le}
-use Rattle.set_bytes.proofs.SetRoundTrip.{set_back, SetRead, set_read}
-use Rattle.warm_bytes.specs.WarmBytes.{warm_map, part_bit, part_bytes}
-use Rattle.warm_bytes.proofs.PartRoundTrip.{part_back, IsRead, part_read}
-use Rattle.job_bytes.specs.JobBytes.{Request, job_in, request, values_of, read_record, read_records, bit5, read_bytes, head_bytes, record_bytes}
+use Rattle.job.specs.Handed.{job_known_by}
+use Rattle.job_bytes.specs.SetBytes.{group_map, group_bytes, set_bytes, Got, got, byte_at}
+use Rattle.job_bytes.specs.JobBytes.{Request, job_in, request, values_of, read_head, read_record, read_records, at_end, read_bytes, head_bytes, record_bytes}
 use Rattle.job_bytes.specs.JobBytes.{job_bytes, write_job}
 use Rattle.job_bytes.specs.OldFiles.{upgraded}
-use Rattle.job_bytes.proofs.HeadMap.{rows, head_bit5}
+use Rattle.job.proofs.Laws.{done_same, refused≢done, both_done, done_both, bind_done, done_room}
+use Rattle.job.specs.Words.{Job, job_of, IsJob}
+use Rattle.job.proofs.JobExact.{job_by_exact}
+use Rattle.job_bytes.proofs.SetRoundTrip.{set_back, Bytes, SetRead, set_read}
 use Rattle.job_bytes.proofs.HeadRoundTrip.{InRange, range_in, standing, method_le, head_range, head_back, head_read}
 use Rattle.job_bytes.proofs.OldFiles.{upgraded_length, head_upgraded}
-use Rattle.job_bytes.proofs.Parts.{parts, parts_read}
 
 -- ---- written, then read
 
@@ -45,36 +40,27 @@ module _ (curves : ℕ) (few : curves ≤ 64) where
       rw (append_assoc (set_bytes w) (record_bytes ws) rest, record_back i w (record_bytes ws ++ rest) (h 0 (omega arith)))
       (records_back (i + length (set_bytes w)) (acc ++ (w ∷ [])) ws rest (λ t l. h (suc t) (omega arith)) ∙ rw (n, append_assoc acc (w ∷ []) ws) refl)
 
--- the head, the records and the part, which are written one behind the other
-job_reads : (method : ℕ) (j : Job) → IsJob j → IsMethod method → WarmUps (length j.wants) j.warm_ups
-    → read_bytes (job_bytes (request method j)) ≡ done (request method j)
-unfolding job_bytes
-job_reads method j is known warm =
-    let h = (request method j).head in
-    let d = part_bit j.warm_ups in
-    let one : d ≤ 1 = stands_le (warm_map j.warm_ups) in
-    let hb = head_bytes d (values_of h) in
-    let rb = record_bytes j.wants in
-    let pb = part_bytes j.warm_ups in
-    let ok : InRange h =
-    record { places = is.places_bounds; booked = is.booked_bound; curves = is.curves_bounds; tests = is.tests_bound; method = known } in
-    let a = head_back d h (rb ++ pb) one (range_in h ok) known.1 ok.booked in
-    let b = records_back j.rig.curves is.curves_bounds.1 (length hb) [] j.wants pb is.own_curves in
-    let c = part_back (length j.wants) (length hb + length rb) j.warm_ups [] is.tests_bound warm in
-    let n = length hb + length rb in
-    rw (append_assoc hb rb pb)
-    (parts_read (hb ++ (rb ++ pb)) h j.wants j.warm_ups (rb ++ pb) (length hb) n (n + length pb) pb a b
-    (rw (head_bit5 d (values_of h) (rb ++ pb) one rows) (rw (append-nil pb) at c)))
-
 -- A JOB THAT IS WRITTEN READS BACK
 pub job_back : (method : ℕ) (j : Job) (lent : ℕ) (bytes : List ℕ) → write_job method j lent ≡ done bytes → read_bytes bytes ≡ done (request method j)
-unfolding write_job
+unfolding write_job read_bytes job_bytes at_end ◌>>=◌ ◌>>◌
 job_back method j lent bytes e =
-    let q = request method j in
-    let a = both_done (writing_known method j) _ bytes e in
-    let b = both_done (room lent (length (job_bytes q))) (done (job_bytes q)) bytes a.1 in
-    let x = (writing_exact method j).0 a.0 in
-    subst (λ (bs : List ℕ). read_bytes bs ≡ done q) (done_same b.1) (job_reads method j x.0 x.1 x.2)
+    let a = both_done (job_known_by method j) _ bytes e in
+    let b = both_done (room lent (length (job_bytes (request method j)))) (done (job_bytes (request method j))) bytes a.1 in
+    let s : job_bytes (request method j) ≡ bytes = same b.1 in
+    subst (λ (bs : List ℕ). read_bytes bs ≡ done (request method j)) s (go a.0)
+  where
+    same : {x y : List ℕ} → done x ≡ done y → x ≡ y
+    same e = cc
+
+    go : job_known_by method j ≡ done tt → read_bytes (job_bytes (request method j)) ≡ done (request method j)
+    go k =
+        let x = (job_by_exact j method).0 k in
+        let h = (request method j).head in
+        let ok : InRange h =
+        record { places = x.0.places_bounds; booked = x.0.booked_bound; curves = x.0.curves_bounds; tests = x.0.tests_bound; method = x.1 } in
+        let z : record_bytes j.wants ≡ record_bytes j.wants ++ [] = sym (append-nil (record_bytes j.wants)) in
+        let r = records_back j.rig.curves x.0.curves_bounds.1 (length (head_bytes (values_of h))) [] j.wants [] x.0.own_curves in
+        rw (head_back h (record_bytes j.wants) (range_in h ok) x.1.1 ok.booked, z, r) refl
 
 -- ---- read, then written
 
@@ -118,17 +104,20 @@ records_read curves (suc k) i acc bs g all e =
     each_known w ws h r zero l = h
     each_known w ws h r (suc t) l = r t (omega arith)
 
--- a job whose numbers are in range is written, in as many bytes as it has
-job_written : (h : Head) (ws us bs : List ℕ) → InRange h → length ws ≡ h.tests → ((t : ℕ) → t < length ws → get_or ws t 0 < 2 ^ h.rig.curves)
-    → WarmUps h.tests us → bs ≡ head_bytes (part_bit us) (values_of h) ++ (record_bytes ws ++ part_bytes us)
-    → write_job h.method (job_of h.rig ws us) (length bs) ≡ done bs
+pub end_none : (k i : ℕ) (bs : List ℕ) → at_end k i bs ≡ done tt → bs ≡ []
+unfolding at_end
+end_none k i [] e = refl
+end_none k i (b ∷ bs) e = absurd (refused≢done e)
+
+job_written : (h : Head) (ws bs : List ℕ) → InRange h → length ws ≡ h.tests → ((t : ℕ) → t < length ws → get_or ws t 0 < 2 ^ h.rig.curves)
+    → bs ≡ head_bytes (values_of h) ++ record_bytes ws → write_job h.method (job_of h.rig ws) (length bs) ≡ done bs
 unfolding write_job job_bytes
-job_written h ws us bs ok count known warm bytes =
-    done_both _ _ ((writing_exact h.method (job_of h.rig ws us)).1 (is_job, ok.method, rw count warm))
-    ∙ done_both _ _ (done_room (length bs) (length (job_bytes (request h.method (job_of h.rig ws us)))) (omega (arith, ap length same)))
+job_written h ws bs ok count known bytes =
+    done_both _ _ ((job_by_exact (job_of h.rig ws) h.method).1 (is_job, ok.method))
+    ∙ done_both _ _ (done_room (length bs) (length (job_bytes (request h.method (job_of h.rig ws)))) (omega (arith, ap length same)))
     ∙ ap done same
   where
-    is_job : IsJob (job_of h.rig ws us)
+    is_job : IsJob (job_of h.rig ws)
     is_job =
         record {
           places_bounds = ok.places;
@@ -141,38 +130,32 @@ job_written h ws us bs ok count known warm bytes =
     head : ◌≡◌ {A = Head} (record { rig = h.rig; tests = length ws; method = h.method }) h
     head i = record { rig = h.rig; tests = count i; method = h.method }
 
-    same : job_bytes (request h.method (job_of h.rig ws us)) ≡ bs
-    same = append_assoc (head_bytes (part_bit us) _) (record_bytes ws) (part_bytes us)
-        ∙ ap (λ (x : Head). head_bytes (part_bit us) (values_of x) ++ (record_bytes ws ++ part_bytes us)) head ∙ sym bytes
+    same : job_bytes (request h.method (job_of h.rig ws)) ≡ bs
+    same = ap (λ (x : Head). head_bytes (values_of x) ++ record_bytes ws) head ∙ sym bytes
 
--- what was read behind a head
-job_found : (h : Head) (bs rest : List ℕ) (d i : ℕ) (r w : Got (List ℕ)) → InRange h → upgraded bs ≡ head_bytes d (values_of h) ++ rest
-    → RecordsRead h.rig.curves h.tests [] rest r → IsRead d h.tests i r.rest w → w.rest ≡ []
-    → write_job h.method (job_of h.rig r.value w.value) (length bs) ≡ done (upgraded bs)
-job_found h bs rest d i r w ok bytes R W none =
-    rw (R.value, ← (upgraded_length bs))
-    (job_written h R.wants w.value (upgraded bs) ok R.count R.known W.known
-    (bytes ∙ ap (λ (l : List ℕ). head_bytes d (values_of h) ++ l) behind ∙ ap (λ (b : ℕ). head_bytes b (values_of h) ++ (record_bytes R.wants ++ pb)) (sym W.bit_is)))
-  where
-    pb : List ℕ
-    pb = part_bytes w.value
-
-    behind : rest ≡ record_bytes R.wants ++ pb
-    behind = R.bytes ∙ ap (λ (l : List ℕ). record_bytes R.wants ++ l) (W.same ∙ ap (λ (l : List ℕ). pb ++ l) none ∙ append-nil pb)
+job_found : (h : Head) (bs rest : List ℕ) (g : Got (List ℕ)) → InRange h → upgraded bs ≡ head_bytes (values_of h) ++ rest
+    → RecordsRead h.rig.curves h.tests [] rest g → g.rest ≡ []
+    → write_job h.method (job_of h.rig g.value) (length bs) ≡ done (upgraded bs)
+job_found h bs rest g ok bytes r none =
+    rw (r.value, ← (upgraded_length bs))
+    (job_written h r.wants (upgraded bs) ok r.count r.known
+    (bytes ∙ ap (λ (l : List ℕ). head_bytes (values_of h) ++ l)
+    (r.bytes ∙ ap (λ (l : List ℕ). record_bytes r.wants ++ l) none ∙ append-nil (record_bytes r.wants))))
 
 -- BYTES THAT READ AS A JOB are those that are written for it, with 1 in the place of a method byte 2
 pub job_read : (bs : List ℕ) (q : Request) → Bytes bs → read_bytes bs ≡ done q → write_job q.head.method (job_in q) (length bs) ≡ done (upgraded bs)
+unfolding read_bytes
 job_read bs q all e =
-    let p = parts bs q e in
-    let t = head_read bs p.head p.by_head in
+    let x = bind_done (read_head bs) _ q e in
+    let t = head_read bs x.0 x.1 in
     let H = t.exact all in
-    let h = p.head.value in
-    let d = bit5 bs in
-    let bytes : upgraded bs ≡ head_bytes d (values_of h) ++ p.head.rest =
-    ap upgraded H.0 ∙ head_upgraded d h t.method p.head.rest (method_le h t.method t.have)
-    ∙ ap (λ (m : ℕ). head_bytes d (standing h m) ++ p.head.rest) (sym t.read) in
-    let ok = head_range bs p.head p.by_head in
-    let R = records_read h.rig.curves h.tests p.head.next [] p.head.rest p.records H.1 p.by_records in
-    let W = part_read d h.tests p.records.next p.records.rest p.part p.by_part (omega arith) ok.tests R.tail in
-    subst (λ (q : Request). write_job q.head.method (job_in q) (length bs) ≡ done (upgraded bs)) p.all
-    (job_found h bs p.head.rest d p.records.next p.records p.part ok bytes R W p.ends)
+    let h = x.0.value in
+    let bytes : upgraded bs ≡ head_bytes (values_of h) ++ x.0.rest =
+    ap upgraded H.0 ∙ head_upgraded h t.method x.0.rest (method_le h t.method t.have)
+    ∙ ap (λ (m : ℕ). head_bytes (standing h m) ++ x.0.rest) (sym t.read) in
+    let y = bind_done (read_records h.rig.curves h.tests [] x.0.next x.0.rest) _ q x.2 in
+    let R : RecordsRead h.rig.curves h.tests [] x.0.rest y.0 =
+    records_read h.rig.curves h.tests x.0.next [] x.0.rest y.0 H.1 y.1 in
+    let z = both_done (at_end 6 y.0.next y.0.rest) (done (record { head = h; wants = y.0.value })) q y.2 in
+    subst (λ (q : Request). write_job q.head.method (job_in q) (length bs) ≡ done (upgraded bs)) (done_same z.1)
+    (job_found h bs x.0.rest y.0 (head_range bs x.0 x.1) bytes R (end_none 6 y.0.next y.0.rest z.0))

@@ -9,37 +9,41 @@ use lib.ListN.{length, get_or, drop, length-append, length-drop, drop_of_length-
 use lib.Seq.{sets, sets-eq, drop-cons}
 use borrow.Author.Tests.{eq-eqb, ne_eqb, le-leb, lt-leb}
 use Rattle.job.specs.Refusal.{Outcome, done, refused, ◌>>◌, mapped, demand, room, overwritten, leaves}
-use Rattle.job.specs.Calls.{writing_known}
+use Rattle.job.specs.Handed.{job_known_by}
 use Rattle.job_bytes.specs.declared.fields.Field.{Field}
-use Rattle.set_bytes.specs.SetBytes.{set_bytes}
-use Rattle.set_bytes.specs.Numbers.{number_bytes}
-use Rattle.set_bytes.proofs.NumberRoundTrip.{number_length}
-use Rattle.job_bytes.specs.JobBytes.{Request, request, fields, values_of, head_bytes, record_bytes, job_bytes, write_job, write_job_answer, write_job_buffer}
+use Rattle.job_bytes.specs.SetBytes.{set_bytes}
+use Rattle.job_bytes.specs.JobBytes.{Request, request, fields, values_of, number_bytes, head_bytes, record_bytes, job_bytes, write_job, write_job_answer}
+use Rattle.job_bytes.specs.JobBytes.{write_job_buffer}
 use Rattle.job.specs.Words.{Job}
-use Rattle.job_bytes.proofs.HeadMap.{fields_map, fields_bytes, head_bytes_lem, map_lt}
+use Rattle.job_bytes.proofs.HeadRoundTrip.{fields_map, fields_bytes, head_bytes_lem, map_lt}
 use Rattle.job_bytes.proofs.Heads.{rows}
-use Rattle.set_bytes.proofs.Encoding.{set_le, sets_append}
+use Rattle.job_bytes.proofs.Encoding.{set_le, sets_append}
 
 -- ---- the head: what the fields from the j-th on come to, of which f is the first
-abbrev pub map_from : ℕ → List ℕ → ℕ → ℕ
-map_from d vs j = fields_map d (drop j fields) (drop j vs)
+pub number_length : (w v : ℕ) → length (number_bytes w v) ≡ w
+unfolding number_bytes
+number_length zero v = refl
+number_length (suc w) v = ap suc (number_length w (v / 256))
+
+abbrev pub map_from : List ℕ → ℕ → ℕ
+map_from vs j = fields_map (drop j fields) (drop j vs)
 
 abbrev pub bytes_from : List ℕ → ℕ → List ℕ
 bytes_from vs j = fields_bytes (drop j fields) (drop j vs)
 
 module _ (vs : List ℕ) (j : ℕ) (f : Field) (row : drop j fields ≡ f ∷ drop (j + 1) fields) (more : j < length vs) where
-  pub absent_map : (d : ℕ) → get_or vs j 0 ≡ f.absent → map_from d vs j ≡ 2 * map_from d vs (j + 1)
+  pub absent_map : get_or vs j 0 ≡ f.absent → map_from vs j ≡ 2 * map_from vs (j + 1)
   unfolding fields_map zip_with
-  absent_map d e = rw (row, drop-cons vs j 0 more, add-one j, eq-eqb (get_or vs j 0) f.absent e) (omega arith)
+  absent_map e = rw (row, drop-cons vs j 0 more, add-one j, eq-eqb (get_or vs j 0) f.absent e) (omega arith)
 
   pub absent_bytes : get_or vs j 0 ≡ f.absent → bytes_from vs j ≡ bytes_from vs (j + 1)
   unfolding fields_bytes zip_with flatten
   absent_bytes e = rw (row, drop-cons vs j 0 more, add-one j, eq-eqb (get_or vs j 0) f.absent e) refl
 
   module _ (stands : get_or vs j 0 ≡ f.absent → ⊥) where
-    pub stands_map : (d : ℕ) → map_from d vs j ≡ 1 + 2 * map_from d vs (j + 1)
+    pub stands_map : map_from vs j ≡ 1 + 2 * map_from vs (j + 1)
     unfolding fields_map zip_with
-    stands_map d = rw (row, drop-cons vs j 0 more, add-one j, ne_eqb (get_or vs j 0) f.absent stands) refl
+    stands_map = rw (row, drop-cons vs j 0 more, add-one j, ne_eqb (get_or vs j 0) f.absent stands) refl
 
     pub stands_bytes : bytes_from vs j ≡ number_bytes f.width (get_or vs j 0) ++ bytes_from vs (j + 1)
     unfolding fields_bytes zip_with flatten
@@ -49,18 +53,18 @@ module _ (vs : List ℕ) (j : ℕ) (f : Field) (row : drop j fields ≡ f ∷ dr
     stands_long =
         ap length stands_bytes ∙ length-append (number_bytes f.width (get_or vs j 0)) (bytes_from vs (j + 1)) ∙ rw (number_length f.width (get_or vs j 0)) refl
 
-pub map_small : (d : ℕ) (vs : List ℕ) (j : ℕ) → d ≤ 1 → map_from d vs j < 128
-map_small d vs j l = omega (arith, map_lt d (drop j fields) (drop j vs) l, pow_mono less)
+pub map_small : (vs : List ℕ) (j : ℕ) → map_from vs j < 128
+map_small vs j = omega (arith, map_lt (drop j fields) (drop j vs), pow_mono less)
   where
-    less : suc (length (drop j fields)) ≤ 7
+    less : length (drop j fields) ≤ 7
     less = omega (arith, length-drop j fields, rows)
 
-pub none : (d : ℕ) (vs : List ℕ) (j : ℕ) → length fields ≤ j → (map_from d vs j ≡ d) × (bytes_from vs j ≡ [])
+pub none : (vs : List ℕ) (j : ℕ) → length fields ≤ j → (map_from vs j ≡ 0) × (bytes_from vs j ≡ [])
 unfolding fields_map fields_bytes zip_with flatten
-none d vs j h = let e : drop j fields ≡ [] = drop_of_length-le fields h in (rw e refl, rw e refl)
+none vs j h = let e : drop j fields ≡ [] = drop_of_length-le fields h in (rw e refl, rw e refl)
 
-pub head_length : (d : ℕ) (vs : List ℕ) → length (head_bytes d vs) ≡ 1 + length (bytes_from vs 0)
-head_length d vs = omega (arith, ap length (head_bytes_lem d vs))
+pub head_length : (vs : List ℕ) → length (head_bytes vs) ≡ 1 + length (bytes_from vs 0)
+head_length vs = omega (arith, ap length (head_bytes_lem vs))
 
 -- ---- the records
 module _ (ws : List ℕ) (t : ℕ) where
@@ -88,11 +92,11 @@ module _ (method : ℕ) (j : Job) (old : List ℕ) where
   abbrev bytes : List ℕ
   bytes = job_bytes (request method j)
 
-  pub job_unknown : (k f : ℕ) → writing_known method j ≡ refused k f → Wrote (refused k f) old
+  pub job_unknown : (k f : ℕ) → job_known_by method j ≡ refused k f → Wrote (refused k f) old
   unfolding write_job_answer write_job_buffer write_job ◌>>◌ mapped leaves
   job_unknown k f e = (rw e refl, rw e refl)
 
-  module _ (known : writing_known method j ≡ done tt) where
+  module _ (known : job_known_by method j ≡ done tt) where
     pub job_large : length old < length bytes → Wrote (refused 9 (length bytes)) old
     unfolding write_job_answer write_job_buffer write_job room demand ◌>>◌ mapped leaves
     job_large h = (rw (known, lt-leb (length bytes) (length old) h) refl, rw (known, lt-leb (length bytes) (length old) h) refl)
@@ -103,13 +107,16 @@ module _ (method : ℕ) (j : Job) (old : List ℕ) where
         let z : 0 + length bytes ≡ length bytes = omega arith in
         (rw (known, le-leb (length bytes) (length old) h) refl, rw (known, le-leb (length bytes) (length old) h) (rw z at (sets-eq bytes old 0 (omega arith))))
 
--- ---- the bytes one after the other
-
--- head and records are stored, and a zero byte behind them
-pub tests_sets : (d : ℕ) (vs ws out l₁ l₂ : List ℕ) (n : ℕ) → n ≡ length (head_bytes d vs) → l₁ ≡ sets out 0 (head_bytes d vs)
-    → l₂ ≡ sets l₁ n (record_bytes ws ++ (0 ∷ [])) → l₂ ≡ sets out 0 ((head_bytes d vs ++ record_bytes ws) ++ (0 ∷ []))
-tests_sets d vs ws out l₁ l₂ n e f g =
-    let hb = head_bytes d vs in
-    let rb = record_bytes ws in
+-- head and records, stored one after the other, and a zero byte behind them
+pub job_sets : (q : Request) (out l₁ l₂ : List ℕ) (n : ℕ) → n ≡ length (head_bytes (values_of q.head))
+    → l₁ ≡ sets out 0 (head_bytes (values_of q.head)) → l₂ ≡ sets l₁ n (record_bytes q.wants ++ (0 ∷ [])) → l₂ ≡ sets out 0 (job_bytes q ++ (0 ∷ []))
+unfolding job_bytes
+job_sets q out l₁ l₂ n e f g =
+    let hb = head_bytes (values_of q.head) in
+    let rb = record_bytes q.wants in
     let z : n ≡ 0 + length hb = omega arith in
     g ∙ rw (f, z, append_assoc hb rb (0 ∷ [])) (sym (sets_append hb out (rb ++ (0 ∷ [])) 0))
+
+pub job_length : (q : Request) → length (job_bytes q) ≡ length (head_bytes (values_of q.head)) + length (record_bytes q.wants)
+unfolding job_bytes
+job_length q = length-append (head_bytes (values_of q.head)) (record_bytes q.wants)

@@ -16,23 +16,26 @@ use Rattle.job.specs.declared.Head.{Head}
 use Rattle.job.specs.Refusal.{Outcome, done, refused, ◌>>=◌, ◌>>◌, demand}
 use Rattle.job.specs.Handed.{between}
 use Rattle.job_bytes.specs.declared.fields.Field.{Field}
-use Rattle.set_bytes.specs.SetBytes.{Bytes, Got, got, byte_at}
-use Rattle.set_bytes.specs.Numbers.{read_number, number_bytes}
-use Rattle.set_bytes.proofs.NumberRoundTrip.{number_length}
-use Rattle.job_bytes.specs.JobBytes.{Request, fields, method_read, head_of, read_field, read_fields, head_fields, read_head, bit5, read_bytes, head_bytes}
+use Rattle.job_bytes.specs.SetBytes.{Got, got, byte_at}
+use Rattle.job_bytes.specs.JobBytes.{Request, fields, method_read, head_of, read_number, read_field, read_fields, head_fields, read_head, read_bytes}
+use Rattle.job_bytes.specs.JobBytes.{read_records, at_end, number_bytes, head_bytes}
 use Rattle.job_bytes.specs.OldFiles.{method_at, old_method, upgraded}
-use Rattle.job.proofs.Laws.{both}
+use Rattle.job.proofs.Laws.{both, both_done, bind_done, done_same}
+use Rattle.job_bytes.proofs.SetRoundTrip.{Bytes}
 use Rattle.job_bytes.proofs.Alike.{Apart, apart_set, apart_first, Alike, value, fault, field_alike}
-use Rattle.job_bytes.proofs.HeadMap.{bit_of, bytes_of, fields_map, fields_bytes, head_bytes_lem, fields_append, map_behind, bit_behind, bit_le}
-use Rattle.job_bytes.proofs.HeadRoundTrip.{standing, method_le, head_read}
-use Rattle.job_bytes.proofs.Parts.{parts}
+use Rattle.job_bytes.proofs.JobWritten.{number_length}
+use Rattle.job_bytes.proofs.HeadRoundTrip.{bit_of, bytes_of, fields_map, fields_bytes, head_bytes_lem, fields_append, bit_le, standing, method_le, head_read}
 
 -- ---- where the method byte stands
 
--- how many bytes fields take by a map
+-- how many bytes fields take by a map, and the map of those behind them
 abbrev due : List Field → ℕ → ℕ
 due [] map = 0
 due (f ∷ fs) map = map % 2 * f.width + due fs (map / 2)
+
+abbrev map_behind : List Field → ℕ → ℕ
+map_behind [] map = map
+map_behind (f ∷ fs) map = map_behind fs (map / 2)
 
 -- behind the map and the first three fields ..
 at_method : (map : ℕ) → method_at map ≡ suc (due (take 3 fields) map)
@@ -45,7 +48,7 @@ at_method map = sum (bit_zero map) (bit_suc 0 map ∙ bit_zero (map / 2)) (bit_s
 -- .. if the bit behind theirs stands
 third_bit : (map : ℕ) → bit 3 map ≡ map_behind (take 3 fields) map % 2
 unfolding fields
-third_bit map = bit_behind (take 3 fields) map
+third_bit map = bit_suc 2 map ∙ bit_suc 1 (map / 2) ∙ bit_suc 0 (map / 2 / 2) ∙ bit_zero (map / 2 / 2 / 2)
 
 -- ---- read alike
 
@@ -96,7 +99,7 @@ three_alike map (a ∷ b ∷ c ∷ d ∷ us) i t e l = absurd (omega arith)
 head_alike : (map : ℕ) (r s : List ℕ) → bit 3 map ≡ 1 → Apart (due (take 3 fields) map) r s → head_fields (map ∷ r) ≡ head_fields (map ∷ s)
 unfolding head_fields head_from fields byte_at ◌>>=◌
 head_alike map r s e p =
-    ap (◌>>◌ (demand (ltb map (2 ^ suc (length fields))) 2 0))
+    ap (◌>>◌ (demand (ltb map (2 ^ length fields)) 2 0))
     (fields_alike (take 3 fields) (drop 3 fields) map [] 1 r s p
     (λ us i t l. three_alike (map_behind (take 3 fields) map) us i t (sym (third_bit map) ∙ e) l))
 
@@ -118,20 +121,10 @@ old_head (map ∷ bs) = go (old_method (map ∷ bs)) refl
         rw (at_method map) (head_alike map bs (set bs n 1) b.0 (apart_set bs n b.1))
     go false e = refl
 
--- the method byte is not the map
-old_map : (bs : List ℕ) → get_or (upgraded bs) 0 0 ≡ get_or bs 0 0
-unfolding upgraded
-old_map [] = unfold old_method in refl
-old_map (map ∷ bs) = go (old_method (map ∷ bs))
-  where
-    go : (t : Bool) → get_or (cond t (set (map ∷ bs) (method_at map) 1) (map ∷ bs)) 0 0 ≡ map
-    go true = rw (at_method map) refl
-    go false = refl
-
 -- EVERY LIST OF BYTES is read as the one with 1 in the place of a method byte 2
 pub old_read : (bs : List ℕ) → read_bytes bs ≡ read_bytes (upgraded bs)
 unfolding read_bytes read_head
-old_read bs = rw (← (old_head bs), old_map bs) refl
+old_read bs = rw (← (old_head bs)) refl
 
 -- ---- the bytes of a head, of which the method's value is v
 
@@ -170,24 +163,24 @@ own_length f v = go (eqb v f.absent)
     go true = omega arith
     go false = number_length f.width v ∙ omega arith
 
-fields_due : (d : ℕ) (fs gs : List Field) (vs ws : List ℕ) → length fs ≡ length vs → let map = fields_map d (fs ++ gs) (vs ++ ws) in
-    (due fs map ≡ length (fields_bytes fs vs)) × (map_behind fs map ≡ fields_map d gs ws)
+fields_due : (fs gs : List Field) (vs ws : List ℕ) → length fs ≡ length vs → let map = fields_map (fs ++ gs) (vs ++ ws) in
+    (due fs map ≡ length (fields_bytes fs vs)) × (map_behind fs map ≡ fields_map gs ws)
 unfolding fields_map fields_bytes zip_with flatten
-fields_due d [] gs [] ws l = (refl, refl)
-fields_due d [] gs (v ∷ vs) ws l = absurd (omega (arith, l))
-fields_due d (f ∷ fs) gs [] ws l = absurd (omega (arith, l))
-fields_due d (f ∷ fs) gs (v ∷ vs) ws l =
-    let map = fields_map d (fs ++ gs) (vs ++ ws) in
-    let r = fields_due d fs gs vs ws (omega (arith, l)) in
+fields_due [] gs [] ws l = (refl, refl)
+fields_due [] gs (v ∷ vs) ws l = absurd (omega (arith, l))
+fields_due (f ∷ fs) gs [] ws l = absurd (omega (arith, l))
+fields_due (f ∷ fs) gs (v ∷ vs) ws l =
+    let map = fields_map (fs ++ gs) (vs ++ ws) in
+    let r = fields_due fs gs vs ws (omega (arith, l)) in
     let b = bit_le (eqb v f.absent) in
-    let q : (bit_of f v + 2 * map) % 2 ≡ bit_of f v = omega arith in
+    let d : (bit_of f v + 2 * map) % 2 ≡ bit_of f v = omega arith in
     let e : (bit_of f v + 2 * map) / 2 ≡ map = omega arith in
-    (rw (q, e, length-append (bytes_of f v) (fields_bytes fs vs), own_length f v, r.0) refl, rw e r.1)
+    (rw (d, e, length-append (bytes_of f v) (fields_bytes fs vs), own_length f v, r.0) refl, rw e r.1)
 
-module _ (d : ℕ) (h : Head) where
+module _ (h : Head) where
   -- the map, and the bytes before the method's and behind it
   abbrev map_of : ℕ → ℕ
-  map_of m = fields_map d fields (standing h m)
+  map_of m = fields_map fields (standing h m)
 
   abbrev firsts : List ℕ
   firsts = h.rig.places ∷ h.rig.curves ∷ h.tests ∷ []
@@ -199,9 +192,9 @@ module _ (d : ℕ) (h : Head) where
   tail = fields_bytes (drop 4 fields) (h.rig.booked ∷ [])
 
   by_parts : (m : ℕ)
-      → (due (take 3 fields) (map_of m) ≡ length front) × (map_behind (take 3 fields) (map_of m) ≡ fields_map d (drop 3 fields) (m ∷ h.rig.booked ∷ []))
+      → (due (take 3 fields) (map_of m) ≡ length front) × (map_behind (take 3 fields) (map_of m) ≡ fields_map (drop 3 fields) (m ∷ h.rig.booked ∷ []))
   unfolding fields
-  by_parts m = fields_due d (take 3 fields) (drop 3 fields) firsts (m ∷ h.rig.booked ∷ []) refl
+  by_parts m = fields_due (take 3 fields) (drop 3 fields) firsts (m ∷ h.rig.booked ∷ []) refl
 
   at_front : (m : ℕ) → method_at (map_of m) ≡ suc (length front)
   at_front m = at_method (map_of m) ∙ ap suc (by_parts m).0
@@ -214,27 +207,27 @@ module _ (d : ℕ) (h : Head) where
       low x r l = omega arith
 
   head_parted : (m : ℕ) (rest : List ℕ)
-      → head_bytes d (standing h m) ++ rest ≡ (map_of m ∷ front) ++ (fields_bytes (drop 3 fields) (m ∷ h.rig.booked ∷ []) ++ rest)
+      → head_bytes (standing h m) ++ rest ≡ (map_of m ∷ front) ++ (fields_bytes (drop 3 fields) (m ∷ h.rig.booked ∷ []) ++ rest)
   unfolding fields
   head_parted m rest =
       let bs = fields_bytes (drop 3 fields) (m ∷ h.rig.booked ∷ []) in
       ap (λ (l : List ℕ). l ++ rest)
-      (head_bytes_lem d (standing h m) ∙ ap {B = List ℕ} (λ l. map_of m ∷ l) (fields_append (take 3 fields) (drop 3 fields) firsts (m ∷ h.rig.booked ∷ []) refl))
+      (head_bytes_lem (standing h m) ∙ ap {B = List ℕ} (λ l. map_of m ∷ l) (fields_append (take 3 fields) (drop 3 fields) firsts (m ∷ h.rig.booked ∷ []) refl))
       ∙ append_assoc (map_of m ∷ front) bs rest
 
-  head_at : (v : ℕ) (rest : List ℕ) → 0 < v → v < 256 → head_bytes d (standing h v) ++ rest ≡ (map_of v ∷ front) ++ v ∷ (tail ++ rest)
+  head_at : (v : ℕ) (rest : List ℕ) → 0 < v → v < 256 → head_bytes (standing h v) ++ rest ≡ (map_of v ∷ front) ++ v ∷ (tail ++ rest)
   unfolding fields fields_bytes zip_with flatten number_bytes
   head_at v rest some small = head_parted v rest ∙ rw (ne_eqb v 0 (λ e. omega arith), mod-eq_of_lt small) refl
 
   -- which of the bytes of a head are old: those with the value 2
-  pub head_old : (m : ℕ) (rest : List ℕ) → m ≤ 3 → old_method (head_bytes d (standing h m) ++ rest) ≡ eqb m 2
+  pub head_old : (m : ℕ) (rest : List ℕ) → m ≤ 3 → old_method (head_bytes (standing h m) ++ rest) ≡ eqb m 2
   head_old zero rest l = ap old_method (head_parted 0 rest) ∙ none_old (map_of 0) _ (stands 0)
   head_old (suc m) rest l =
       let one : bit 3 (map_of (suc m)) ≡ 1 = stands (suc m) ∙ rw (ne_eqb (suc m) 0 (λ e. omega arith)) refl in
       ap old_method (head_at (suc m) rest (omega arith) (omega arith)) ∙ old_at (map_of (suc m)) front (tail ++ rest) one (at_front (suc m)) (suc m)
 
   -- .. and what they become
-  pub head_upgraded : (m : ℕ) (rest : List ℕ) → m ≤ 3 → upgraded (head_bytes d (standing h m) ++ rest) ≡ head_bytes d (standing h (method_read m)) ++ rest
+  pub head_upgraded : (m : ℕ) (rest : List ℕ) → m ≤ 3 → upgraded (head_bytes (standing h m) ++ rest) ≡ head_bytes (standing h (method_read m)) ++ rest
   unfolding method_read fields fields_map zip_with
   head_upgraded zero rest l = upgraded_new _ (head_old 0 rest l)
   head_upgraded (suc zero) rest l = upgraded_new _ (head_old 1 rest l)
@@ -246,12 +239,13 @@ module _ (d : ℕ) (h : Head) where
 
 -- THE METHOD THAT IS READ of a method byte 2 is 1
 pub old_method_lem : (bs : List ℕ) (q : Request) → Bytes bs → read_bytes bs ≡ done q → old_method bs ≡ true → q.head.method ≡ 1
-unfolding method_read
+unfolding read_bytes method_read
 old_method_lem bs q all e old =
-    let p = parts bs q e in
-    let h = p.head.value in
-    let t = head_read bs p.head p.by_head in
+    let x = bind_done (read_head bs) _ q e in
+    let h = x.0.value in
+    let t = head_read bs x.0 x.1 in
     let m = t.method in
-    let same = head_old (bit5 bs) h m p.head.rest (method_le h m t.have) in
-    let two : m ≡ 2 = eqb-true m 2 (sym same ∙ ap old_method (sym (t.exact all).0) ∙ old) in
-    ap (λ (q : Request). q.head.method) (sym p.all) ∙ t.read ∙ ap method_read two
+    let two : m ≡ 2 = eqb-true m 2 (sym (head_old h m x.0.rest (method_le h m t.have)) ∙ ap old_method (sym (t.exact all).0) ∙ old) in
+    let y = bind_done (read_records h.rig.curves h.tests [] x.0.next x.0.rest) _ q x.2 in
+    let z = both_done (at_end 6 y.0.next y.0.rest) (done (record { head = h; wants = y.0.value })) q y.2 in
+    ap (λ (q : Request). q.head.method) (sym (done_same z.1)) ∙ t.read ∙ ap method_read two

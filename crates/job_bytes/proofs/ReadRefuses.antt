@@ -1,34 +1,29 @@
--- Reading job bytes refuses by 1 to 4, 6, 13 and 16 only.
+-- Reading job bytes refuses by 1 to 4, 6 and 13 only.
 use mathlib.Core.Path.{◌≡◌, refl}
 use mathlib.Core.Logic.{◌⊎◌, inl, inr}
 use mathlib.Core.List.{List, [], ◌∷◌, ◌++◌}
 use Prim.Native.Nat.{ℕ, zero, suc, ◌+◌, ◌-◌, ◌/◌, ◌%◌, ◌≤◌}
 use native.Mathlib.Omega.{arith}
 use Rattle.bitset.specs.Set.{◌∪◌, bit}
+use Rattle.job_bytes.specs.declared.fields.Field.{Field}
 use Rattle.job.specs.declared.Head.{Head}
-use Rattle.job.specs.Refusal.{◌>>=◌, ◌>>◌}
+use Rattle.job.specs.Refusal.{Outcome, done, ◌>>=◌, ◌>>◌}
+use Rattle.job_bytes.specs.SetBytes.{Got, byte_at, read_group, read_groups}
+use Rattle.job_bytes.specs.JobBytes.{fields, read_number, read_field, read_fields, head_fields, read_head, read_record, read_records, at_end}
+use Rattle.job_bytes.specs.JobBytes.{Request, read_bytes}
 use Rattle.job.specs.Handed.{booked_below}
 use Rattle.job.proofs.Refuses.{Refuses, refuses_more, refuses_demand, refuses_both, refuses_bind}
-use Rattle.set_bytes.specs.SetBytes.{Got, byte_at, read_group, read_groups}
-use Rattle.set_bytes.specs.Numbers.{read_number}
-use Rattle.warm_bytes.specs.WarmBytes.{read_part}
-use Rattle.warm_bytes.proofs.PartSpans.{part_refuses}
-use Rattle.job_bytes.specs.declared.fields.Field.{Field}
-use Rattle.job_bytes.specs.JobBytes.{fields, read_field, read_fields, head_fields, read_head, read_record, read_records, bit5, read_bytes}
-use Rattle.set_bytes.specs.SetBytes.{at_end}
-use Rattle.job_bytes.proofs.Parts.{behind_head}
 
--- all but 13 and 16
+-- all but 13
 abbrev pub ByByte : ℕ → ℕ → Type 0
 ByByte k i = (1 ≤ k) × (k ≤ 6) × (k ≡ 5 → ⊥)
 
 abbrev pub ByReading : ℕ → ℕ → Type 0
-ByReading k i = ByByte k i ⊎ (k ≡ 13) ⊎ (k ≡ 16)
+ByReading k i = ByByte k i ⊎ (k ≡ 13)
 
-pub number_between : (k i : ℕ) → ByReading k i → (1 ≤ k) × (k ≤ 16)
+pub number_between : (k i : ℕ) → ByReading k i → (1 ≤ k) × (k ≤ 13)
 number_between k i (inl n) = (n.0, omega (arith, n.1))
-number_between k i (inr (inl n)) = (omega (arith, n), omega (arith, n))
-number_between k i (inr (inr n)) = (omega (arith, n), omega (arith, n))
+number_between k i (inr n) = (omega (arith, n), omega (arith, n))
 
 abbrev P : ℕ → ℕ → Type 0
 P = ByByte
@@ -38,18 +33,18 @@ unfolding byte_at
 byte k i [] p = p
 byte k i (b ∷ bs) p = tt
 
-number : (w i : ℕ) (bs : List ℕ) → Refuses P (read_number 1 w i bs)
+number : (w i : ℕ) (bs : List ℕ) → Refuses P (read_number w i bs)
 unfolding read_number
 number zero i bs = tt
 number (suc w) i bs =
     refuses_bind P (byte_at 1 i bs) _ (byte 1 i bs (omega arith, omega arith, λ e. omega arith))
-    (λ b e. refuses_bind P (read_number 1 w b.next b.rest) _ (number w b.next b.rest) (λ r e. tt))
+    (λ b e. refuses_bind P (read_number w b.next b.rest) _ (number w b.next b.rest) (λ r e. tt))
 
 field : (f : Field) (d i : ℕ) (bs : List ℕ) → Refuses P (read_field f d i bs)
 unfolding read_field
 field f zero i bs = tt
 field f (suc d) i bs =
-    refuses_bind P (read_number 1 f.width i bs) _ (number f.width i bs) (λ v e. refuses_both P _ _ (refuses_demand P _ 2 i (omega arith, omega arith, λ e. omega arith)) tt)
+    refuses_bind P (read_number f.width i bs) _ (number f.width i bs) (λ v e. refuses_both P _ _ (refuses_demand P _ 2 i (omega arith, omega arith, λ e. omega arith)) tt)
 
 all_fields : (fs : List Field) (map : ℕ) (values : List ℕ) (i : ℕ) (bs : List ℕ) → Refuses P (read_fields fs map values i bs)
 unfolding read_fields
@@ -63,16 +58,6 @@ table bs =
     refuses_bind P (byte_at 1 0 bs) _ (byte 1 0 bs (omega arith, omega arith, λ e. omega arith))
     (λ m e. refuses_both P _ _ (refuses_demand P _ 2 0 (omega arith, omega arith, λ e. omega arith))
     (refuses_bind P _ _ (all_fields fields m.value [] m.next m.rest) (λ r e. tt)))
-
--- a head by these and by 13
-abbrev pub ByHead : ℕ → ℕ → Type 0
-ByHead k i = ByByte k i ⊎ (k ≡ 13)
-
-pub head : (bs : List ℕ) → Refuses ByHead (read_head bs)
-unfolding read_head booked_below
-head bs =
-    refuses_bind ByHead (head_fields bs) _ (refuses_more P ByHead (head_fields bs) (λ k i. inl) (table bs))
-    (λ h e. refuses_both ByHead _ _ (refuses_demand ByHead _ 13 (h.next - 1) (inr refl)) tt)
 
 module _ (curves : ℕ) where
   group : (d j i : ℕ) (bs : List ℕ) → Refuses P (read_group 1 3 4 curves d j i bs)
@@ -92,40 +77,32 @@ module _ (curves : ℕ) where
   unfolding read_record
   one_record i bs = refuses_bind P (byte_at 1 i bs) _ (byte 1 i bs (omega arith, omega arith, λ e. omega arith)) (λ m e. groups 8 0 m.value 0 m.next m.rest)
 
-  pub records : (k : ℕ) (wants : List ℕ) (i : ℕ) (bs : List ℕ) → Refuses P (read_records curves k wants i bs)
+  records : (k : ℕ) (wants : List ℕ) (i : ℕ) (bs : List ℕ) → Refuses P (read_records curves k wants i bs)
   unfolding read_records
   records zero wants i bs = tt
   records (suc k) wants i bs = refuses_bind P _ _ (one_record i bs) (λ r e. records k (wants ++ (r.value ∷ [])) r.next r.rest)
 
-pub end : (i : ℕ) (bs : List ℕ) → Refuses P (at_end 6 i bs)
+end : (i : ℕ) (bs : List ℕ) → Refuses P (at_end 6 i bs)
 unfolding at_end
 end i [] = tt
 end i (b ∷ bs) = (omega arith, omega arith, λ e. omega arith)
 
--- what comes behind a head refuses by these and by 16
-abbrev pub BehindHead : ℕ → ℕ → Type 0
-BehindHead k i = ByByte k i ⊎ (k ≡ 16)
+-- what comes behind a head
+abbrev pub behind_head : Got Head → Outcome Request
+behind_head h =
+    ◌>>=◌ (read_records h.value.rig.curves h.value.tests [] h.next h.rest)
+    (λ r. ◌>>◌ (at_end 6 r.next r.rest) (done (record { head = h.value; wants = r.value })))
 
-pub tests : (d : ℕ) (h : Got Head) → Refuses BehindHead (behind_head d h)
-tests d h =
-    let n = h.value.tests in
-    let rs = read_records h.value.rig.curves n [] h.next h.rest in
-    refuses_bind BehindHead rs _ (refuses_more P BehindHead rs (λ k i. inl) (records h.value.rig.curves n [] h.next h.rest))
-    (λ r e. refuses_bind BehindHead (read_part d n r.next r.rest) _
-    (refuses_more _ BehindHead (read_part d n r.next r.rest) (λ k i. inr) (part_refuses d n r.next r.rest))
-    (λ w e. refuses_both BehindHead _ _ (refuses_more P BehindHead (at_end 6 w.next w.rest) (λ k i. inl) (end w.next w.rest)) tt))
+pub tests : (h : Got Head) → Refuses P (behind_head h)
+tests h =
+    refuses_bind P _ _ (records h.value.rig.curves h.value.tests [] h.next h.rest)
+    (λ r e. refuses_both P _ _ (end r.next r.rest) tt)
 
--- READING REFUSES BY 1 TO 4, 6, 13 AND 16
+-- READING REFUSES BY 1 TO 4, 6 AND 13
 pub read_refuses : (bs : List ℕ) → Refuses ByReading (read_bytes bs)
-unfolding read_bytes
+unfolding read_bytes read_head booked_below
 read_refuses bs =
-    refuses_bind ByReading (read_head bs) _ (refuses_more ByHead ByReading (read_head bs) of_head (head bs))
-    (λ h e. refuses_more BehindHead ByReading (behind_head (bit5 bs) h) behind (tests (bit5 bs) h))
-  where
-    of_head : (k i : ℕ) → ByHead k i → ByReading k i
-    of_head k i (inl n) = inl n
-    of_head k i (inr n) = inr (inl n)
-
-    behind : (k i : ℕ) → BehindHead k i → ByReading k i
-    behind k i (inl n) = inl n
-    behind k i (inr n) = inr (inr n)
+    refuses_bind ByReading (read_head bs) _
+    (refuses_bind ByReading (head_fields bs) _ (refuses_more P ByReading (head_fields bs) (λ k i. inl) (table bs))
+    (λ h e. refuses_both ByReading _ _ (refuses_demand ByReading _ 13 (h.next - 1) (inr refl)) tt))
+    (λ h e. refuses_more P ByReading (behind_head h) (λ k i. inl) (tests h))

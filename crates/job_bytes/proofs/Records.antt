@@ -2,28 +2,22 @@
 use mathlib.Core.Path.{◌≡◌, refl, sym, ap, ◌∙◌, subst}
 use mathlib.Core.Logic.{◌⊎◌, ⊎_elim}
 use mathlib.Core.List.{List, [], ◌∷◌, ◌++◌}
-use Prim.Native.Nat.{ℕ, suc, ◌+◌, ◌-◌, ◌*◌, ◌≤◌, ◌<◌, min}
+use Prim.Native.Nat.{ℕ, suc, ◌+◌, ◌-◌, ◌*◌, ◌≤◌, ◌<◌}
 use native.Mathlib.Omega.{arith}
 use native.Mathlib.Numerals.{add-one}
 use lib.ListN.{length, get_or, take, drop, set, drop_of_length-le}
 use lib.Seq.{drop-drop, drop-cons, take-suc-set}
+use borrow.Author.Tests.{lt-leb, le-leb}
 use Rattle.job.specs.declared.Refusal.{Refusal}
 use Rattle.job.specs.declared.Head.{Head}
 use Rattle.job.specs.declared.Counted.{Counted}
 use Rattle.job.specs.declared.Examined.{Examined}
-use Rattle.job.specs.Refusal.{Outcome, done, refused, number, figure, count_outcome, ◌>>=◌, ◌>>◌, mapped}
-use Rattle.set_bytes.specs.SetBytes.{Got, got, byte_at, read_groups}
-use Rattle.warm_bytes.specs.declared.PartRead.{PartRead}
-use Rattle.warm_bytes.specs.WarmBytes.{read_part}
-use Rattle.warm_bytes.specs.ContractWords.{part_outcome}
-use Rattle.job_bytes.specs.JobBytes.{read_head, read_record, read_records, bit5, read_bytes}
-use Rattle.set_bytes.specs.SetBytes.{at_end}
+use Rattle.job.specs.Refusal.{Outcome, done, refused, number, figure, count_outcome, ◌>>=◌, ◌>>◌, mapped, demand, room, overwritten, leaves}
+use Rattle.job_bytes.specs.SetBytes.{Got, got, byte_at, read_groups}
+use Rattle.job_bytes.specs.JobBytes.{Request, read_head, read_record, read_records, at_end, read_bytes, read_job, read_job_answer, read_job_wants}
 use Rattle.job.proofs.Laws.{refused≢done, done_same, mapped_done, done_mapped, refused_mapped}
-use Rattle.set_bytes.proofs.Spans.{Spans, span_done, span_refused}
-use Rattle.warm_bytes.proofs.PartSpans.{part_span}
-use Rattle.job_bytes.proofs.JobSpans.{records_span}
-use Rattle.set_bytes.proofs.Turns.{byte_none}
-use Rattle.job_bytes.proofs.Turns.{record_next}
+use Rattle.job_bytes.proofs.Spans.{Spans, span_done, records_span}
+use Rattle.job_bytes.proofs.Turns.{byte_none, record_next}
 
 -- ---- one record of n; t are read, and the next begins at offset i of the job
 byte_first : (o i : ℕ) (bs : List ℕ) → 0 < length bs → byte_at o i bs ≡ done (got (get_or bs 0 0) (i + 1) (drop 1 bs))
@@ -98,23 +92,17 @@ module _ (bs : List ℕ) (h : Head) (n : ℕ) (head : read_head bs ≡ done (got
   whole_fault k f e = rw (head, e) refl
 
   module _ (ws : List ℕ) (e : ℕ) (records : read_records h.rig.curves h.tests [] n (drop n bs) ≡ done (got ws e (drop e bs))) where
-    -- of the warm-up part
-    pub whole_faulty : (k f : ℕ) → read_part (bit5 bs) h.tests e (drop e bs) ≡ refused k f → read_bytes bs ≡ refused k f
+    to_end : read_bytes bs ≡ ◌>>◌ (at_end 6 e (drop e bs)) (done (record { head = h; wants = ws }))
     unfolding read_bytes ◌>>=◌
-    whole_faulty k f p = rw (head, records, p) refl
+    to_end = rw (head, records) refl
 
-    module _ (us : List ℕ) (m : ℕ) (part : read_part (bit5 bs) h.tests e (drop e bs) ≡ done (got us m (drop m bs))) where
-      to_end : read_bytes bs ≡ ◌>>◌ (at_end 6 m (drop m bs)) (done (record { head = h; wants = ws; warm_ups = us }))
-      unfolding read_bytes ◌>>=◌
-      to_end = rw (head, records, part) refl
+    pub whole_more : e < length bs → read_bytes bs ≡ refused 6 e
+    unfolding at_end ◌>>◌
+    whole_more l = to_end ∙ rw (drop-cons bs e 0 l) refl
 
-      pub whole_more : m < length bs → read_bytes bs ≡ refused 6 m
-      unfolding at_end ◌>>◌
-      whole_more l = to_end ∙ rw (drop-cons bs m 0 l) refl
-
-      pub whole_read : length bs ≤ m → read_bytes bs ≡ done (record { head = h; wants = ws; warm_ups = us })
-      unfolding at_end ◌>>◌
-      whole_read l = to_end ∙ rw (drop_of_length-le bs l) refl
+    pub whole_read : length bs ≤ e → read_bytes bs ≡ done (record { head = h; wants = ws })
+    unfolding at_end ◌>>◌
+    whole_read l = to_end ∙ rw (drop_of_length-le bs l) refl
 
 -- what `read_records` promises gives the records' reading whole
 pub records_got : (bs : List ℕ) (curves k i e : ℕ) (sets : List ℕ) → i ≤ length bs
@@ -130,25 +118,20 @@ records_got bs curves k i e sets l p f =
     let g : x.0 ≡ got sets e (drop e bs) = λ j. record { value = sym v j; next = n j; rest = r j } in
     x.1 ∙ ap done g
 
--- .. which ends within the bytes
-pub records_within : (bs : List ℕ) (curves k i e : ℕ) (sets : List ℕ) → i ≤ length bs
-    → read_records curves k [] i (drop i bs) ≡ done (got sets e (drop e bs)) → e ≤ length bs
-records_within bs curves k i e sets l r = (span_done (subst (Spans (9 * k) i bs) r (records_span bs curves k [] i l))).within
+-- ---- the answer, and what the lent list of wants holds
+abbrev pub Answered : List ℕ → List ℕ → Outcome Head → List ℕ → Type 0
+Answered bs old o new = (o ≡ read_job_answer bs old) × (new ≡ read_job_wants bs old)
 
--- ---- the warm-up part of n tests, from offset i on: what `read_part` promises gives its reading whole
-module _ (bs rest : List ℕ) (d b n i : ℕ) (part : rest ≡ drop i bs) (few : n ≤ 256) (warm : List ℕ) (answer : PartRead)
-    (promise : (i : ℕ) → part_outcome i rest (take (min n 256) warm) answer ≡ read_part b (min n 256) i rest) (same : b ≡ d) where
-  read_is : part_outcome i (drop i bs) (take n warm) answer ≡ read_part d n i (drop i bs)
-  read_is = let e : min n 256 ≡ n = omega arith in rw (e, part, same) at (promise i)
+module _ (bs old : List ℕ) where
+  pub job_refused : (k f : ℕ) → read_bytes bs ≡ refused k f → Answered bs old (refused k f) old
+  unfolding read_job_answer read_job_wants read_job ◌>>=◌ mapped leaves
+  job_refused k f e = (rw e refl, rw e refl)
 
-  pub part_faulty : (m : ℕ) → answer ≡ PartRead.Faulty m → read_part d n i (drop i bs) ≡ refused 16 (i + m)
-  unfolding part_outcome
-  part_faulty m e = sym read_is ∙ rw e refl
+  module _ (j : Request) (read : read_bytes bs ≡ done j) where
+    pub job_short : length old < j.head.tests → Answered bs old (refused 9 j.head.tests) old
+    unfolding read_job_answer read_job_wants read_job room demand ◌>>=◌ ◌>>◌ mapped leaves
+    job_short h = (rw (read, lt-leb j.head.tests (length old) h) refl, rw (read, lt-leb j.head.tests (length old) h) refl)
 
-  pub part_got : (m : ℕ) → answer ≡ PartRead.Part m → read_part d n i (drop i bs) ≡ done (got (take n warm) (i + m) (drop (i + m) bs))
-  unfolding part_outcome
-  part_got m e = sym read_is ∙ rw (e, drop-drop m i bs) refl
-
--- its fault is within the bytes
-pub faulty_within : (bs : List ℕ) (d n i : ℕ) → n ≤ 256 → i ≤ length bs → (k f : ℕ) → read_part d n i (drop i bs) ≡ refused k f → f ≤ length bs
-faulty_within bs d n i few within k f e = (span_refused (subst (Spans 287 i bs) e (part_span bs d n i few within))).1
+    pub job_fits : j.head.tests ≤ length old → Answered bs old (done j.head) (j.wants ++ drop (length j.wants) old)
+    unfolding read_job_answer read_job_wants read_job room demand ◌>>=◌ ◌>>◌ mapped leaves overwritten
+    job_fits h = (rw (read, le-leb j.head.tests (length old) h) refl, rw (read, le-leb j.head.tests (length old) h) refl)

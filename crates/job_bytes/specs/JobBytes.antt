@@ -1,32 +1,25 @@
--- "Job bytes": the first byte is a bit map; then only the fields whose bit stands, in bit order; then one record for each test; then, 02, wish 10, the warm-up
--- part if bit 5 stands.
-use Rattle.std.specs.Prelude.{cond, not, ◌&&◌, ℕ, zero, suc, ◌+◌, ◌-◌, ◌*◌, ◌/◌, ◌%◌, ◌^◌, min, length, get_or, ltb, eqb}
+-- "Job bytes": the first byte is a bit map; then only the fields whose bit stands, in bit order; then one record for each test.
+use Rattle.std.specs.Prelude.{cond, not, ◌&&◌, ℕ, zero, suc, ◌+◌, ◌-◌, ◌*◌, ◌/◌, ◌%◌, ◌^◌, length, get_or, ltb, eqb}
 use mathlib.Core.List.{List, [], ◌∷◌, ◌++◌, foldr, zip_with, flatten}
 use Rattle.job.specs.declared.Head.{Head}
 use Rattle.job.specs.Refusal.{Outcome, done, refused, ◌>>=◌, ◌>>◌, mapped, demand, room, fitting, leaves}
 use Rattle.job.specs.Words.{Job, job_of}
-use Rattle.job.specs.Handed.{between, booked_below}
-use Rattle.job.specs.Calls.{writing_known}
-use Rattle.bitset.specs.Set.{bit}
+use Rattle.job.specs.Handed.{between, booked_below, job_known_by}
 use Rattle.job_bytes.specs.declared.fields.Field.{Field}
-use Rattle.set_bytes.specs.SetBytes.{set_bytes, Got, got, byte_at, at_end, read_groups}
-use Rattle.set_bytes.specs.Numbers.{read_number, number_bytes}
-use Rattle.warm_bytes.specs.WarmBytes.{read_part, part_bit, part_bytes}
+use Rattle.job_bytes.specs.SetBytes.{set_bytes, Got, got, byte_at, read_groups}
 
--- what job bytes hold: the numbers of the head, and the wants and the warm-up of each test
+-- what job bytes hold: the numbers of the head, and the wants of each test
 pub record Request : Type 0 where
   pub head : Head
   pub wants : List ℕ
-  pub warm_ups : List ℕ
 
 -- the job in it, and the request for the job to be ordered by a method
 abbrev pub job_in : Request → Job
-job_in q = job_of q.head.rig q.wants q.warm_ups
+job_in q = job_of q.head.rig q.wants
 
 -- a job and a method, as they stand in job bytes
 abbrev pub request : ℕ → Job → Request
-request method j =
-    record { head = record { rig = j.rig; tests = length j.wants; method = method }; wants = j.wants; warm_ups = j.warm_ups }
+request method j = record { head = record { rig = j.rig; tests = length j.wants; method = method }; wants = j.wants }
 
 -- a field of the head: its bytes, its range, and its value when absent
 abbrev field : (width low high absent : ℕ) → Field
@@ -39,11 +32,19 @@ fields = field 1 1 64 8 ∷ field 1 1 64 64 ∷ field 2 1 256 0 ∷ field 1 1 3 
 
 -- ---- read
 
+-- "Two-byte numbers have the low byte first": a number of w bytes
+unfoldable pub read_number : ℕ → ℕ → List ℕ → Outcome (Got ℕ)
+read_number zero i bs = done (got 0 i bs)
+read_number (suc w) i bs = do
+  b ← byte_at 1 i bs
+  r ← read_number w b.next b.rest
+  done (got (b.value + 256 * r.value) r.next r.rest)
+
 -- a field, if its bit d stands: "cut before value"; "A field never holds its absent value"
 unfoldable pub read_field : Field → ℕ → ℕ → List ℕ → Outcome (Got ℕ)
 read_field f zero i bs = done (got f.absent i bs)
 read_field f (suc d) i bs = do
-  v ← read_number 1 f.width i bs
+  v ← read_number f.width i bs
   demand (between f.low f.high v.value && not (eqb v.value f.absent)) 2 i
   done v
 
@@ -66,12 +67,11 @@ head_of vs = record { rig = record { places = get_or vs 0 0; booked = get_or vs 
 abbrev pub values_of : Head → List ℕ
 values_of h = h.rig.places ∷ h.rig.curves ∷ h.tests ∷ h.method ∷ h.rig.booked ∷ []
 
--- "The first byte is a bit map"; behind the fields' bits stands that of the warm-up part, wish 10: "Head bit 5 says that, behind the test records, a bit map
--- follows"; those bits are zero that are of neither: 6 and 7
+-- "The first byte is a bit map"; those bits are zero that are of no field: 5 to 7
 unfoldable pub head_fields : List ℕ → Outcome (Got Head)
 head_fields bs = do
   map ← byte_at 1 0 bs
-  demand (ltb map.value (2 ^ suc (length fields))) 2 0
+  demand (ltb map.value (2 ^ length fields)) 2 0
   r ← read_fields fields map.value [] map.next map.rest
   done (got (head_of r.value) r.next r.rest)
 
@@ -96,50 +96,45 @@ read_records curves (suc k) wants i bs = do
   r ← read_record curves i bs
   read_records curves k (wants ++ (r.value ∷ [])) r.next r.rest
 
--- "Head bit 5": 1 where it stands in the map, the first byte
-abbrev pub bit5 : List ℕ → ℕ
-bit5 bs = bit (length fields) (get_or bs 0 0)
+-- "bytes behind the last record"
+unfoldable pub at_end : ℕ → ℕ → List ℕ → Outcome (Unit {0})
+at_end k i [] = done tt
+at_end k i (b ∷ bs) = refused k i
 
--- "Job bytes: head map, each field, .. records in byte order, 6", with 13 behind the fields, and 16 "after the records and before 6"; 02, wish 3: "A job with
--- no tests now reads"
+-- "Job bytes: head map, each field, .. records in byte order, 6", with 13 behind the fields; 02, wish 3: "A job with no tests now reads"
 unfoldable pub read_bytes : List ℕ → Outcome Request
 read_bytes bs = do
   h ← read_head bs
   r ← read_records h.value.rig.curves h.value.tests [] h.next h.rest
-  w ← read_part (bit5 bs) h.value.tests r.next r.rest
-  at_end 6 w.next w.rest
-  done (record { head = h.value; wants = r.value; warm_ups = w.value })
+  at_end 6 r.next r.rest
+  done (record { head = h.value; wants = r.value })
 
--- "then 9", of lists of which the shorter has so many entries
+-- "then 9"
 unfoldable pub read_job : List ℕ → ℕ → Outcome Request
 read_job bs lent = do
   j ← read_bytes bs
   room lent j.head.tests
   done j
 
-module _ (bs wants warm_ups : List ℕ) where
-  -- reading into lent lists of wants and of warm_ups_lem
-  abbrev pub job_read : Outcome Request
-  job_read = read_job bs (min (length wants) (length warm_ups))
+-- what reading answers, and what the lent list of wants holds afterwards
+unfoldable pub read_job_answer : List ℕ → List ℕ → Outcome Head
+read_job_answer bs old = mapped (λ j. j.head) (read_job bs (length old))
 
-  -- what reading answers
-  unfoldable pub read_job_answer : Outcome Head
-  read_job_answer = mapped (λ j. j.head) job_read
-
-  -- what the lent wants hold afterwards
-  unfoldable pub read_job_wants : List ℕ
-  read_job_wants = leaves (mapped (λ j. j.wants) job_read) wants
-
-  -- what the lent warm_ups_lem hold afterwards
-  unfoldable pub read_job_warm_ups : List ℕ
-  read_job_warm_ups = leaves (mapped (λ j. j.warm_ups) job_read) warm_ups
+-- what the lent wants hold afterwards
+unfoldable pub read_job_wants : List ℕ → List ℕ → List ℕ
+read_job_wants bs old = leaves (mapped (λ j. j.wants) (read_job bs (length old))) old
 
 -- ---- written
 
--- of the fields' values: a field's bit and its bytes stand unless it holds its absent value; d is the bit of the warm-up part
-unfoldable pub head_bytes : ℕ → List ℕ → List ℕ
-head_bytes d vs =
-    foldr (λ b map. b + 2 * map) d (zip_with (λ f v. cond (eqb v f.absent) 0 1) fields vs)
+-- so many bytes of a number: "Two-byte numbers have the low byte first"
+unfoldable pub number_bytes : ℕ → ℕ → List ℕ
+number_bytes zero v = []
+number_bytes (suc w) v = v % 256 ∷ number_bytes w (v / 256)
+
+-- of the fields' values: a field's bit and its bytes stand unless it holds its absent value
+unfoldable pub head_bytes : List ℕ → List ℕ
+head_bytes vs =
+    foldr (λ b map. b + 2 * map) 0 (zip_with (λ f v. cond (eqb v f.absent) 0 1) fields vs)
     ∷ flatten (zip_with (λ f v. cond (eqb v f.absent) [] (number_bytes f.width v)) fields vs)
 
 -- one record for each test
@@ -147,14 +142,14 @@ unfoldable pub record_bytes : List ℕ → List ℕ
 record_bytes [] = []
 record_bytes (w ∷ ws) = set_bytes w ++ record_bytes ws
 
--- the head's bytes, then the records, then the warm-up part
+-- the head's bytes, then the records
 unfoldable pub job_bytes : Request → List ℕ
-job_bytes q = head_bytes (part_bit q.warm_ups) (values_of q.head) ++ record_bytes q.wants ++ part_bytes q.warm_ups
+job_bytes q = head_bytes (values_of q.head) ++ record_bytes q.wants
 
--- "writing a job 9", after 10, 13 and 16
+-- "writing a job 9", after 10 and 13
 unfoldable pub write_job : ℕ → Job → ℕ → Outcome (List ℕ)
 write_job method j lent = do
-  writing_known method j
+  job_known_by method j
   fitting (job_bytes (request method j)) lent
 
 -- what writing answers: the count of bytes

@@ -11,10 +11,10 @@ pub struct Field {
     pub absent: usize,
 }
 
-// How many there are, and how many maps a head can have: one bit for each field, and behind them that of the warm-up part (02, wish 10).
+// How many there are, and how many maps they have: one bit each.
 pub const FIELDS: usize = 5;
 
-pub const MAPS: usize = 1 << (FIELDS + 1);
+pub const MAPS: usize = 1 << FIELDS;
 
 const TABLE: [Field; FIELDS] = [
     // 0: places

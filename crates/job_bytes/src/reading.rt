@@ -1,22 +1,20 @@
-// Job bytes, read: the head, then one record for each test, then the warm-up part.
-ghost use Rattle.std.specs.Prelude.{◌≡◌, not, ◌&&◌, List, [], ◌++◌, ℕ, ◌+◌, ◌*◌, ◌≤◌, min, length, take, drop, eqb};
+// Job bytes, read: the head, then one record for each test.
+ghost use Rattle.std.specs.Prelude.{◌≡◌, not, ◌&&◌, List, [], ◌++◌, ℕ, ◌+◌, ◌*◌, ◌≤◌, length, take, drop, eqb};
 ghost use Rattle.lists.specs.Lent.{was, after};
 ghost use Rattle.job.specs.Handed.{between};
-ghost use Rattle.job.specs.Refusal.{done, mapped, room, leaves, read_outcome, examined_outcome, count_outcome};
-ghost use Rattle.set_bytes.specs.SetBytes.{Got, got};
-ghost use Rattle.set_bytes.specs.Numbers.{read_number};
-ghost use Rattle.job_bytes.specs.JobBytes.{fields, read_field, method_read, head_of, head_fields, read_head, read_records, bit5};
-ghost use Rattle.job_bytes.specs.JobBytes.{read_job_answer, read_job_wants, read_job_warm_ups};
+ghost use Rattle.job.specs.Refusal.{done, mapped, read_outcome, count_outcome};
+ghost use Rattle.job_bytes.specs.SetBytes.{Got, got};
+ghost use Rattle.job_bytes.specs.JobBytes.{fields, read_number, read_field, method_read, head_of, head_fields, read_head, read_records};
+ghost use Rattle.job_bytes.specs.JobBytes.{read_job_answer, read_job_wants};
 
 use crate::fields::{FIELDS, Field, MAPS, row};
+use crate::set_bytes::{GroupRead, read_due};
 use job::{Counted, Examined, Head, JobRead, Refusal, Rig, examine_capacity};
-use set_bytes::{GroupRead, read_due};
-use warm_bytes::{PartRead, read_part};
 
 // "Two-byte numbers have the low byte first": the number of so many bytes at a position.
 fn number_at(job: &[u8], at: usize, width: usize) -> usize
     requires { (width ≤ 8) × (at + width ≤ length job.now) }
-    ensures { read_number 1 width at (drop at (was job)) ≡ done (got result (at + width) (drop (at + width) (was job))) }
+    ensures { read_number width at (drop at (was job)) ≡ done (got result (at + width) (drop (at + width) (was job))) }
 {
     let mut value: usize = 0;
     let mut k = width;
@@ -169,7 +167,7 @@ fn read_records(job: &[u8], start: usize, tests: usize, curves: usize, list: &mu
     }
 }
 
-// The first n wants of `from` go to the front of `to`.
+// The first n numbers of `from` go to the front of `to`.
 fn copy_front(to: &mut [u64], from: &[u64], n: usize)
     requires { (n ≤ length from.now) × (n ≤ length to.old) }
     ensures { after to ≡ take n (was from) ++ drop n (was to) }
@@ -181,90 +179,33 @@ fn copy_front(to: &mut [u64], from: &[u64], n: usize)
     }
 }
 
-// The same of warm_ups_lem.
-fn copy_warm_ups(to: &mut [u16], from: &[u16], n: usize)
-    requires { (n ≤ length from.now) × (n ≤ length to.old) }
-    ensures { after to ≡ take n (was from) ++ drop n (was to) }
-{
-    let mut i = 0;
-    while i < n {
-        to[i] = from[i];
-        i += 1;
-    }
-}
-
-// Both lists of so many tests go to the lent lists, where neither of these is too short: 9.
-fn copy_tests(
-    tests: usize,
-    sets: &[u64],
-    firsts: &[u16],
-    wants: &mut [u64],
-    warm: &mut [u16],
-) -> Examined
-    requires { (tests ≤ length sets.now) × (tests ≤ length firsts.now) }
-    ensures answer { examined_outcome result ≡ room (min (length (was wants)) (length (was warm))) tests }
-    ensures wants { after wants
-        ≡ leaves (mapped (λ _. take tests (was sets)) (room (min (length (was wants)) (length (was warm))) tests)) (was wants) }
-    ensures warm { after warm
-        ≡ leaves (mapped (λ _. take tests (was firsts)) (room (min (length (was wants)) (length (was warm))) tests)) (was warm) }
-{
-    if wants.len() < tests {
-        return Examined::Refused(Refusal::BufferTooSmall(tests));
-    }
-    if warm.len() < tests {
-        return Examined::Refused(Refusal::BufferTooSmall(tests));
-    }
-    copy_front(wants, sets, tests);
-    copy_warm_ups(warm, firsts, tests);
-    Examined::Passed
-}
-
-// "Head bit 5": 1 where it stands in the map.
-fn bit5(job: &[u8]) -> usize
-    ensures { result ≡ bit5 (was job) }
-{
-    if job.len() == 0 {
-        return 0;
-    }
-    ((job[0] >> FIELDS) % 2) as usize
-}
-
-// The tests behind a head that was read, from `start` on: the records, 16, 6, 9.
-fn read_tests(job: &[u8], head: Head, start: usize, wants: &mut [u64], warm: &mut [u16]) -> JobRead
+// The tests behind a head that was read, from `start` on: the records, 6, 9.
+fn read_tests(job: &[u8], head: Head, start: usize, wants: &mut [u64]) -> JobRead
     requires { read_head job.now ≡ done (got head start (drop start job.now)) }
-    ensures answer { read_outcome result ≡ read_job_answer (was job) (was wants) (was warm) }
-    ensures wants { after wants ≡ read_job_wants (was job) (was wants) (was warm) }
-    ensures warm { after warm ≡ read_job_warm_ups (was job) (was wants) (was warm) }
+    ensures answer { read_outcome result ≡ read_job_answer (was job) (was wants) }
+    ensures lent { after wants ≡ read_job_wants (was job) (was wants) }
 {
     let tests = head.tests;
-    let mut sets = [0u64; job::MOST_TESTS];
-    match read_records(job, start, tests, head.rig.curves, &mut sets) {
+    let mut list = [0u64; job::MOST_TESTS];
+    match read_records(job, start, tests, head.rig.curves, &mut list) {
         Counted::Refused(r) => JobRead::Refused(r),
-        Counted::Count(behind) => {
-            let rest = &job[behind..];
-            let part = read_part(bit5(job), tests, rest);
-            let answer = part.answer;
-            match answer {
-                PartRead::Faulty(at) => JobRead::Refused(Refusal::BadWarmUp(behind + at)),
-                PartRead::Part(bytes) => {
-                    if bytes < rest.len() {
-                        return JobRead::Refused(Refusal::TrailingBytes(behind + bytes));
-                    }
-                    match copy_tests(tests, &sets, &part.warm, wants, warm) {
-                        Examined::Refused(r) => JobRead::Refused(r),
-                        Examined::Passed => JobRead::Read(head),
-                    }
-                }
+        Counted::Count(end) => {
+            if end < job.len() {
+                return JobRead::Refused(Refusal::TrailingBytes(end));
             }
+            if wants.len() < tests {
+                return JobRead::Refused(Refusal::BufferTooSmall(tests));
+            }
+            copy_front(wants, &list, tests);
+            JobRead::Read(head)
         }
     }
 }
 
-// Reads job bytes; on success the wants of the tests stand at the front of `wants`, and their warm_ups_lem at the front of `warm`.
-pub fn read_job(job: &[u8], wants: &mut [u64], warm: &mut [u16]) -> JobRead
-    ensures answer { read_outcome result ≡ read_job_answer (was job) (was wants) (was warm) }
-    ensures wants { after wants ≡ read_job_wants (was job) (was wants) (was warm) }
-    ensures warm { after warm ≡ read_job_warm_ups (was job) (was wants) (was warm) }
+// Reads job bytes; on success the wants of the tests stand at the front of `wants`.
+pub fn read_job(job: &[u8], wants: &mut [u64]) -> JobRead
+    ensures answer { read_outcome result ≡ read_job_answer (was job) (was wants) }
+    ensures lent { after wants ≡ read_job_wants (was job) (was wants) }
 {
     let mut values = [0usize; FIELDS];
     match read_fields(job, &mut values) {
@@ -275,7 +216,7 @@ pub fn read_job(job: &[u8], wants: &mut [u64], warm: &mut [u16]) -> JobRead
             if let Examined::Refused(r) = examine_capacity(head.rig, start - 1) {
                 return JobRead::Refused(r);
             }
-            read_tests(job, head, start, wants, warm)
+            read_tests(job, head, start, wants)
         }
     }
 }

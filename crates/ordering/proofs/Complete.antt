@@ -89,7 +89,7 @@ module _ (n : ℕ) (next : List ℕ → Found ℕ) (fresh : (ts : List ℕ) → 
   grown_part zero ts p e = whole_part n ts p (omega arith)
   grown_part (suc k) ts p e = let a = appended_part k ts (next ts) (fresh ts) p e in grown_part k (appended ts (next ts)) a.0 a.1
 
-  pub grown_order : IsOrder n (grown next n [])
+  grown_order : IsOrder n (grown next n [])
   grown_order = grown_part n [] (part_none n) (omega arith)
 
 -- ---- 0

@@ -1,4 +1,4 @@
--- Each method's order names each test exactly once, and drawn out it keeps the warm_ups_lem; and what the proofs of the code lean on.
+-- Each method's order names each test exactly once; and what the proofs of the code lean on.
 --     Filter        those of a list that pass a test
 --     Window        a part of a list that was lent
 --     Complete      each method's order names each test exactly once
@@ -7,8 +7,6 @@
 --     Ranks         sorting by rank
 --     CuthillMcKee  the walk of method 1
 --     Arrays        the walk as the code keeps it
---     Drawn         02, wish 10: an order drawn out
---     Turns         the same as the code does it
 --     Ordered       the methods by their numbers, and ordering by its examinations
 pub mod Filter
 pub mod Window
@@ -18,6 +16,4 @@ pub mod Unlisted
 pub mod Ranks
 pub mod CuthillMcKee
 pub mod Arrays
-pub mod Drawn
-pub mod Turns
 pub mod Ordered

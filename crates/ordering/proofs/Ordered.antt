@@ -5,17 +5,16 @@ use Prim.Native.Nat.{ℕ, zero, suc, ◌≤◌, ◌<◌}
 use lib.ListN.{length}
 use borrow.Author.Tests.{lt-leb}
 use Rattle.job.specs.Refusal.{done, refused, ◌>>=◌, demand, room}
-use Rattle.job.specs.Words.{Job, IsJob, IsMethod, WarmUps}
-use Rattle.job.specs.Calls.{writing_known, ordering_known}
-use Rattle.job.proofs.Laws.{both_done, done_both, done_room}
-use Rattle.job.proofs.WarmExact.{writing_exact}
+use Rattle.job.specs.Words.{Job, capacity}
+use Rattle.job.specs.Calls.{ordering_known}
+use Rattle.job.proofs.Laws.{done_both, done_room}
 use Rattle.job.proofs.Examination.{refused_both}
 use Rattle.job.proofs.Orders.{order_length}
 use Rattle.packages.specs.Tests.{up_to}
 use Rattle.packages.specs.Packages.{packages}
 use Rattle.ordering.specs.Methods.{reverse_cuthill_mckee, order_by}
-use Rattle.ordering.specs.Ordering.{job_order, ordering}
-use Rattle.ordering.proofs.Drawn.{job_order_lem}
+use Rattle.ordering.specs.Ordering.{ordering}
+use Rattle.ordering.proofs.Complete.{order_complete}
 
 -- ---- the methods by their numbers
 module _ (places : ℕ) (wants : List ℕ) where
@@ -44,16 +43,10 @@ module _ (method : ℕ) (j : Job) (lent : ℕ) where
     unfolding ordering room demand ◌>>=◌
     no_room h = done_both _ _ known ∙ rw (lt-leb (length j.wants) lent h) refl
 
-    pub ordered : length j.wants ≤ lent → ordering method j lent ≡ done (job_order method j)
+    pub ordered : length j.wants ≤ lent → ordering method j lent ≡ done (order_by method (capacity j.rig) j.wants)
     unfolding ordering ◌>>=◌
     ordered h = done_both _ _ known ∙ rw (done_room lent (length j.wants) h) refl
 
-module _ (method : ℕ) (j : Job) where
-  -- what ordering asks of a job and a method before 7
-  pub known_job : ordering_known method j ≡ done tt → IsJob j × IsMethod method × WarmUps (length j.wants) j.warm_ups
-  unfolding ordering_known
-  known_job e = (writing_exact method j).0 (both_done (writing_known method j) _ tt e).0
-
-  -- an order has an entry for each test
-  pub order_entries : WarmUps (length j.wants) j.warm_ups → length (job_order method j) ≡ length j.wants
-  order_entries known = order_length (length j.wants) (job_order method j) (job_order_lem method j known).0
+-- an order has an entry for each test
+pub order_entries : (method places : ℕ) (wants : List ℕ) → length (order_by method places wants) ≡ length wants
+order_entries method places wants = order_length (length wants) (order_by method places wants) (order_complete method places wants)

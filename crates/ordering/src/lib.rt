@@ -8,7 +8,6 @@ ghost use Rattle.ordering.specs.Ordering.{order_answer, order_list};
 
 use job::{Counted, Examined, Refusal, Rig};
 
-mod drawing; // drawing.rt: an order drawn out, so that it keeps the warm_ups_lem
 mod growing;
 
 // The order of the method.
@@ -27,19 +26,13 @@ fn write_order(capacity: usize, method: usize, wants: &[u64], order: &mut [u16])
     packages::package_order(capacity, wants, order);
 }
 
-// Orders the tests: "10 in its own order, then for ordering 7, 9", with 13 and 16 after 10. Answers the number of tests, which are in the first entries of the
-// lent list; nothing lent changes under a refusal. 02, wish 10: "Every method's order is then drawn out".
-pub fn order_tests(
-    rig: Rig,
-    method: usize,
-    wants: &[u64],
-    warm: &[u16],
-    order: &mut [u16],
-) -> Counted
-    ensures answer { count_outcome result ≡ order_answer method (job_of rig (was wants) (was warm)) (was order) }
-    ensures list { after order ≡ order_list method (job_of rig (was wants) (was warm)) (was order) }
+// Orders the tests: "10 in its own order, then for ordering 7, 9". Answers the number of tests, which are in the first entries of the lent list; nothing
+// lent changes under a refusal.
+pub fn order_tests(rig: Rig, method: usize, wants: &[u64], order: &mut [u16]) -> Counted
+    ensures answer { count_outcome result ≡ order_answer method (job_of rig (was wants)) (was order) }
+    ensures list { after order ≡ order_list method (job_of rig (was wants)) (was order) }
 {
-    if let Examined::Refused(r) = job::examine_ordering(rig, method, wants, warm) {
+    if let Examined::Refused(r) = job::examine_ordering(rig, method, wants) {
         return Counted::Refused(r);
     }
     let n = wants.len();
@@ -47,8 +40,6 @@ pub fn order_tests(
         return Counted::Refused(Refusal::BufferTooSmall(n));
     }
     let capacity = job::capacity(rig);
-    let mut finished = [0u16; job::MOST_TESTS];
-    write_order(capacity, method, wants, &mut finished);
-    drawing::draw_out(warm, &finished[..n], order);
+    write_order(capacity, method, wants, order);
     Counted::Count(n)
 }

@@ -9,7 +9,7 @@ use Rattle.bitset.specs.Set.{◌∪◌, bit, inside}
 use Rattle.job.specs.Refusal.{Outcome, done, refused, demand}
 use Rattle.lists.specs.Choice.{nobody, found}
 use Rattle.job.specs.Handed.{between, all_curves, counts_known}
-use Rattle.set_bytes.specs.SetBytes.{Got, got, byte_at, read_group, read_groups}
+use Rattle.job_bytes.specs.SetBytes.{Got, got, byte_at, read_group, read_groups}
 use Rattle.job.proofs.Laws.{done_same, refused≢done, both_done, bind_done}
 use Rattle.plan_bytes.specs.declared.StepRead.{StepRead}
 use Rattle.plan_bytes.specs.declared.StepPart.{StepPart}

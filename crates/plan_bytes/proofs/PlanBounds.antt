@@ -12,10 +12,10 @@ use Rattle.job.specs.Refusal.{Outcome, done, refused, ◌>>=◌, ◌>>◌, deman
 use Rattle.job.proofs.Laws.{refused≢done, refused_same}
 use Rattle.bitset.specs.Set.{◌∪◌, bit}
 use Rattle.job.proofs.Refuses.{Refuses, refuses_demand, refuses_both, refuses_bind}
-use Rattle.set_bytes.specs.SetBytes.{Got, byte_at, read_group, read_groups}
-use Rattle.set_bytes.specs.SetBytes.{at_end}
-use Rattle.set_bytes.proofs.Spans.{Spans, span_done, span_refused, span_bind, span_test, span_stop, span_longer, byte_span, groups_span}
-use Rattle.set_bytes.proofs.Behind.{Same, value, fault, same_then, same_test, byte_same, groups_same}
+use Rattle.job_bytes.specs.SetBytes.{Got, byte_at, read_group, read_groups}
+use Rattle.job_bytes.specs.JobBytes.{at_end}
+use Rattle.job_bytes.proofs.Spans.{Spans, span_done, span_refused, span_bind, span_test, span_stop, span_longer, byte_span, groups_span}
+use Rattle.job_bytes.proofs.Behind.{Same, value, fault, same_then, same_test, byte_same, groups_same}
 use Rattle.plan_bytes.specs.PlanBytes.{Placed, Contents, read_set, read_step, read_steps, read_end, read_plan_bytes, plan_steps}
 use Rattle.plan_bytes.proofs.Reading.{no_end, end_other_map, end_set}
 

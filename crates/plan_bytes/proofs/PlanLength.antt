@@ -9,8 +9,8 @@ use Rattle.job.specs.Refusal.{done, ◌>>=◌, room}
 use Rattle.job.proofs.Laws.{done_same, refused≢done, both_done, bind_done}
 use Rattle.job.proofs.Orders.{order_length}
 use Rattle.job.proofs.Examination.{counts_bounds}
-use Rattle.set_bytes.specs.SetBytes.{byte_at}
-use Rattle.set_bytes.proofs.SetRoundTrip.{Bytes}
+use Rattle.job_bytes.specs.SetBytes.{byte_at}
+use Rattle.job_bytes.proofs.SetRoundTrip.{Bytes}
 use Rattle.job.specs.Handed.{counts_known}
 use Rattle.job.specs.Words.{Job}
 use Rattle.drive.specs.Steps.{held_after, sets_of, moves}

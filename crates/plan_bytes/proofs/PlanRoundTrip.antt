@@ -12,11 +12,11 @@ use Rattle.bitset.specs.Set.{bit}
 use Rattle.bitset.proofs.Bits.{bit_zero, bit_suc}
 use Rattle.job.specs.Refusal.{done, ◌>>=◌, ◌>>◌, demand, room}
 use Rattle.job.specs.Handed.{between, all_curves, counts_known}
-use Rattle.set_bytes.specs.SetBytes.{stands, group_map, group_bytes, set_bytes, Got, got, byte_at, read_groups}
-use Rattle.set_bytes.specs.SetBytes.{at_end}
+use Rattle.job_bytes.specs.SetBytes.{stands, group_map, group_bytes, set_bytes, Got, got, byte_at, read_groups}
+use Rattle.job_bytes.specs.JobBytes.{at_end}
 use Rattle.job.proofs.Laws.{both, done_same, refused≢done, demand_true, both_done, done_both, bind_done, done_room}
-use Rattle.set_bytes.proofs.SetRoundTrip.{set_back, Bytes, SetRead, set_read}
-use Rattle.set_bytes.proofs.Turns.{end_none}
+use Rattle.job_bytes.proofs.SetRoundTrip.{set_back, Bytes, SetRead, set_read}
+use Rattle.job_bytes.proofs.JobRoundTrip.{end_none}
 use native.Mathlib.Decide.{dec_le}
 use Rattle.bitset.proofs.Parts.{◌≼◌, ≼-inside, in_range as set-in-range}
 use Rattle.job.proofs.JobExact.{inside_below, job_counts}
@@ -29,7 +29,7 @@ use Rattle.planning.specs.Planning.{plan_sets, checking}
 use Rattle.planning.proofs.CheckExact.{Passes, passed}
 use Rattle.plan_bytes.specs.PlanBytes.{set_field, step_bytes, steps_bytes, end_bytes, plan_bytes, Placed, Contents, tests_of, plan_in, read_set, read_step}
 use Rattle.plan_bytes.specs.PlanBytes.{read_steps, read_end, read_plan_bytes, plan_steps, write_plan}
-use Rattle.set_bytes.proofs.Encoding.{stands_le}
+use Rattle.job_bytes.proofs.Encoding.{stands_le}
 use Rattle.plan_bytes.proofs.Writing.{one, list_bytes}
 use Rattle.plan_bytes.proofs.Steps.{bytes_read}
 

@@ -6,7 +6,7 @@ use native.Mathlib.Omega.{arith}
 use lib.ListN.{length, length-append}
 use borrow.Author.Tests.{lt-leb}
 use Rattle.job.specs.Refusal.{Outcome, done, refused, ◌>>=◌, ◌>>◌, mapped, demand, room, leaves}
-use Rattle.set_bytes.specs.SetBytes.{Got, got}
+use Rattle.job_bytes.specs.SetBytes.{Got, got}
 use Rattle.job.specs.Handed.{counts_known}
 use Rattle.job.proofs.Laws.{done_same, both_done, bind_done, done_both, done_room, mapped_done, mapped_refused}
 use Rattle.plan_bytes.specs.PlanBytes.{Placed, Contents, tests_of, plan_in, read_step, read_steps, read_plan_bytes, plan_steps, read_plan, plan_read}

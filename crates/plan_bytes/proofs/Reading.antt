@@ -10,15 +10,15 @@ use lib.Seq.{drop-cons}
 use borrow.Author.Tests.{lt-ltb, le-ltb, le-leb, lt-leb, eq-eqb, ne_eqb}
 use Rattle.bitset.specs.Set.{◌∪◌, bit}
 use Rattle.bitset.proofs.Bits.{bit_zero}
-use Rattle.set_bytes.specs.declared.GroupRead.{GroupRead}
-use Rattle.set_bytes.specs.declared.GroupRead.TheVariants.{Curves, Owed, Empty, Unknown}
+use Rattle.job_bytes.specs.declared.set_bytes.GroupRead.{GroupRead}
+use Rattle.job_bytes.specs.declared.set_bytes.GroupRead.TheVariants.{Curves, Owed, Empty, Unknown}
 use Rattle.job.specs.declared.Refusal.{Refusal}
 use Rattle.job.specs.Refusal.{Outcome, done, refused, number, figure, ◌>>=◌, ◌>>◌, demand}
 use Rattle.job.specs.Handed.{between}
-use Rattle.set_bytes.specs.SetBytes.{Got, got, byte_at, read_groups}
-use Rattle.set_bytes.specs.SetBytes.{at_end}
-use Rattle.set_bytes.proofs.Turns.{byte_here, byte_owed}
-use Rattle.set_bytes.proofs.GroupByte.{Answers, answer_owed, answer_empty, answer_unknown, answer_curves}
+use Rattle.job_bytes.specs.SetBytes.{Got, got, byte_at, read_groups}
+use Rattle.job_bytes.specs.JobBytes.{at_end}
+use Rattle.job_bytes.proofs.Turns.{byte_here, byte_owed}
+use Rattle.job_bytes.proofs.GroupByte.{Answers, answer_owed, answer_empty, answer_unknown, answer_curves}
 use Rattle.plan_bytes.specs.declared.SetRead.{SetRead}
 use Rattle.plan_bytes.specs.declared.StepRead.{StepRead}
 use Rattle.plan_bytes.specs.declared.EndRead.{EndRead}

@@ -10,10 +10,10 @@ use lib.Seq.{drop-drop, drop_at, take_at}
 use Rattle.bitset.specs.Set.{bit}
 use Rattle.job.specs.Refusal.{done, demand}
 use Rattle.job.specs.Handed.{between, counts_known}
-use Rattle.set_bytes.specs.SetBytes.{Got, got, byte_at}
+use Rattle.job_bytes.specs.SetBytes.{Got, got, byte_at}
 use Rattle.job.proofs.Laws.{done_same, both_done, bind_done}
-use Rattle.set_bytes.proofs.SetRoundTrip.{Bytes}
-use Rattle.set_bytes.proofs.Encoding.{rest_is}
+use Rattle.job_bytes.proofs.SetRoundTrip.{Bytes}
+use Rattle.job_bytes.proofs.Encoding.{rest_is}
 use Rattle.planning.specs.Plan.{steps}
 use Rattle.plan_bytes.specs.PlanBytes.{Placed, Contents, step_bytes, steps_bytes, end_bytes, read_set, read_step, read_steps, read_plan_bytes, plan_steps}
 use Rattle.plan_bytes.specs.PlanBytes.{test_part, end_parts, parts_of, part_at, fetched, or_empty, step_part, in_part, step_at}

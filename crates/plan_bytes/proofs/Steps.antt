@@ -7,7 +7,7 @@ use native.Mathlib.Omega.{arith}
 use lib.ListN.{length, get_or, drop, set, length-set, length-map, length-append}
 use lib.Seq.{drop-cons, set_at}
 use Rattle.job.specs.Refusal.{Outcome, done, refused, ◌>>=◌, ◌>>◌, mapped, leaves, overwritten}
-use Rattle.set_bytes.specs.SetBytes.{got}
+use Rattle.job_bytes.specs.SetBytes.{got}
 use Rattle.job.specs.Handed.{counts_known}
 use Rattle.job.proofs.Laws.{refused≢done, done_same, mapped_done, bind_done, done_both}
 use Rattle.job.proofs.Examination.{refused_both}

@@ -7,10 +7,10 @@ use native.Mathlib.Numerals.{add-one}
 use lib.ListN.{length, get_or, drop, set, length-append, drop_of_length-le}
 use lib.Seq.{sets, drop-cons}
 use Rattle.job.specs.Refusal.{Outcome, done, refused, ◌>>=◌, ◌>>◌, fitting}
-use Rattle.set_bytes.specs.SetBytes.{stands, set_bytes}
+use Rattle.job_bytes.specs.SetBytes.{stands, set_bytes}
 use Rattle.job.proofs.Laws.{both_done, done_both}
 use Rattle.job.proofs.Examination.{refused_both, few_tests, tests_few}
-use Rattle.set_bytes.proofs.Encoding.{set_le, next_over}
+use Rattle.job_bytes.proofs.Encoding.{set_le, next_over}
 use Rattle.job.specs.Words.{Job}
 use Rattle.job.specs.Handed.{tests_known}
 use Rattle.job.specs.Calls.{order_alone_known}

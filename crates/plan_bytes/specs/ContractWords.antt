@@ -3,7 +3,7 @@
 use Rattle.std.specs.Prelude.{List, ℕ, length, drop}
 use Rattle.job.specs.Refusal.{Outcome, done, refused, number, figure, ◌>>◌, mapped, fitting, leaves}
 use Rattle.job.specs.Calls.{order_alone_known}
-use Rattle.set_bytes.specs.SetBytes.{Got, got}
+use Rattle.job_bytes.specs.SetBytes.{Got, got}
 use Rattle.planning.specs.Plan.{Plan}
 use Rattle.planning.specs.Planning.{sets_known}
 use Rattle.plan_bytes.specs.declared.SetRead.{SetRead}

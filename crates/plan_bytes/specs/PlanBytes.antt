@@ -6,8 +6,8 @@ use Rattle.job.specs.Refusal.{Outcome, done, refused, ◌>>=◌, ◌>>◌, mappe
 use Rattle.lists.specs.Choice.{Found, nobody, found}
 use Rattle.job.specs.Words.{Job}
 use Rattle.job.specs.Handed.{between, counts_known}
-use Rattle.set_bytes.specs.SetBytes.{stands, set_bytes, Got, got, byte_at, read_groups}
-use Rattle.set_bytes.specs.SetBytes.{at_end}
+use Rattle.job_bytes.specs.SetBytes.{stands, set_bytes, Got, got, byte_at, read_groups}
+use Rattle.job_bytes.specs.JobBytes.{at_end}
 use Rattle.planning.specs.Plan.{Plan, plan_of, SetLists, entries, leaves_plan, CountEnd, Step, steps}
 use Rattle.planning.specs.Planning.{checking}
 use Rattle.plan_bytes.specs.declared.StepPart.{StepPart}

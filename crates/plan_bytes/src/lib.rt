@@ -2,7 +2,7 @@
 ghost use Rattle.std.specs.Prelude.{◌≡◌, [], ◌∷◌, ◌++◌, ℕ, ◌+◌, ◌-◌, ◌*◌, ◌≤◌, ◌<◌, length, get_or, drop};
 ghost use Rattle.std.proofs.lemmas.List.Edits.{sets};
 ghost use Rattle.lists.specs.Lent.{was, after};
-ghost use Rattle.set_bytes.specs.SetBytes.{stands, read_groups};
+ghost use Rattle.job_bytes.specs.SetBytes.{stands, read_groups};
 ghost use Rattle.job.specs.Refusal.{done, mapped, count_outcome, fitting, leaves};
 ghost use Rattle.job.specs.Words.{job_of};
 ghost use Rattle.planning.specs.Plan.{plan_of, set_lists, plan_outcome, steps};
@@ -12,8 +12,8 @@ ghost use Rattle.plan_bytes.specs.PlanBytes.{read_plan_answer, read_plan_order, 
 ghost use Rattle.plan_bytes.specs.ContractWords.{set_outcome, step_outcome, end_outcome, write_steps_answer, write_steps_buffer};
 
 use job::{Counted, Examined, Refusal, Rig, examine_counts, examine_order_alone};
+use job_bytes::set_bytes::{GroupRead, put_front, put_set_at, read_due};
 use planning::{PlanCounted, check_plan, examine_sets};
-use set_bytes::{GroupRead, put_front, put_set_at, read_due};
 
 // What stands where a set is due.
 #[derive(Drop)]
@@ -423,7 +423,6 @@ fn write_fitting(order: &[u16], drops: &[u64], loads: &[u64], end: u64, out: &mu
 pub fn write_plan(
     rig: Rig,
     wants: &[u64],
-    warm: &[u16],
     held: u64,
     order: &[u16],
     drops: &[u64],
@@ -431,11 +430,10 @@ pub fn write_plan(
     end: u64,
     out: &mut [u8],
 ) -> Counted
-    ensures answer { count_outcome result
-        ≡ write_plan_answer (job_of rig (was wants) (was warm)) held (was order) (plan_of (was drops) (was loads) end) (was out) }
-    ensures bytes { after out ≡ write_plan_buffer (job_of rig (was wants) (was warm)) held (was order) (plan_of (was drops) (was loads) end) (was out) }
+    ensures answer { count_outcome result ≡ write_plan_answer (job_of rig (was wants)) held (was order) (plan_of (was drops) (was loads) end) (was out) }
+    ensures bytes { after out ≡ write_plan_buffer (job_of rig (was wants)) held (was order) (plan_of (was drops) (was loads) end) (was out) }
 {
-    if let Counted::Refused(r) = check_plan(rig, wants, warm, held, order, drops, loads, end) {
+    if let Counted::Refused(r) = check_plan(rig, wants, held, order, drops, loads, end) {
         return Counted::Refused(r);
     }
     write_fitting(order, drops, loads, end, out)

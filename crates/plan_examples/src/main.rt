@@ -10,7 +10,6 @@ fn furthest_use() -> bool
     ensures { result ≡ true }
 {
     let wants = [1u64, 2, 4, 1];
-    let warm = [256u16; 4];
     let order = [0u16, 1, 2, 3];
     let mut drops = [0u64; 4];
     let mut loads = [0u64; 4];
@@ -21,7 +20,6 @@ fn furthest_use() -> bool
             curves: 64,
         },
         &wants,
-        &warm,
         0,
         &order,
         &mut drops,
@@ -37,7 +35,6 @@ fn nothing_dropped() -> bool
     ensures { result ≡ true }
 {
     let wants = [3u64, 5, 5];
-    let warm = [256u16; 3];
     let order = [0u16, 1, 2];
     let mut drops = [9u64; 3];
     let mut loads = [9u64; 3];
@@ -48,7 +45,6 @@ fn nothing_dropped() -> bool
             curves: 64,
         },
         &wants,
-        &warm,
         0,
         &order,
         &mut drops,
@@ -64,7 +60,6 @@ fn just_fits() -> bool
     ensures { result ≡ true }
 {
     let wants = [7u64];
-    let warm = [256u16; 1];
     let order = [0u16];
     let mut drops = [0u64; 1];
     let mut loads = [0u64; 1];
@@ -75,7 +70,6 @@ fn just_fits() -> bool
             curves: 64,
         },
         &wants,
-        &warm,
         0,
         &order,
         &mut drops,
@@ -91,7 +85,6 @@ fn too_large() -> bool
     ensures { result ≡ true }
 {
     let wants = [7u64];
-    let warm = [256u16; 1];
     let order = [0u16];
     let mut drops = [0u64; 1];
     let mut loads = [0u64; 1];
@@ -102,7 +95,6 @@ fn too_large() -> bool
             curves: 64,
         },
         &wants,
-        &warm,
         0,
         &order,
         &mut drops,
@@ -118,7 +110,6 @@ fn repeated_test() -> bool
     ensures { result ≡ true }
 {
     let wants = [1u64, 2, 4];
-    let warm = [256u16; 3];
     let order = [0u16, 1, 1];
     let mut drops = [0u64; 3];
     let mut loads = [0u64; 3];
@@ -129,7 +120,6 @@ fn repeated_test() -> bool
             curves: 64,
         },
         &wants,
-        &warm,
         0,
         &order,
         &mut drops,
@@ -145,7 +135,6 @@ fn missing_test() -> bool
     ensures { result ≡ true }
 {
     let wants = [1u64, 2, 4];
-    let warm = [256u16; 3];
     let order = [0u16, 1];
     let mut drops = [0u64; 3];
     let mut loads = [0u64; 3];
@@ -156,7 +145,6 @@ fn missing_test() -> bool
             curves: 64,
         },
         &wants,
-        &warm,
         0,
         &order,
         &mut drops,
@@ -167,13 +155,11 @@ fn missing_test() -> bool
     }
 }
 
-// 02, wish 6: the rest {3} {0,4} {3,4}, with 0 1 2 3 held and two of four places booked: step 0 drops 1 and 2; 2 loads. Its test 1 must follow its test 0; the
-// warm-up of its test 2 has run already (wish 10).
+// 02, wish 6: the rest {3} {0,4} {3,4}, with 0 1 2 3 held and two of four places booked: step 0 drops 1 and 2; 2 loads.
 fn from_halfway() -> bool
     ensures { result ≡ true }
 {
     let wants = [8u64, 17, 24];
-    let warm = [256u16, 0, 256];
     let order = [0u16, 1, 2];
     let mut drops = [0u64; 3];
     let mut loads = [0u64; 3];
@@ -184,7 +170,6 @@ fn from_halfway() -> bool
             curves: 6,
         },
         &wants,
-        &warm,
         15,
         &order,
         &mut drops,
@@ -200,7 +185,6 @@ fn look_behind_commit() -> bool
     ensures { result ≡ true }
 {
     let wants = [3u64, 6, 3, 8];
-    let warm = [256u16; 4];
     let order = [0u16, 1, 2, 3];
     let made = stepping::make_state(
         Rig {
@@ -209,7 +193,6 @@ fn look_behind_commit() -> bool
             curves: 4,
         },
         &wants,
-        &warm,
         0,
         &order,
     );

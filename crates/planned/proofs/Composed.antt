@@ -6,25 +6,25 @@ use native.Mathlib.Omega.{arith}
 use lib.Pow.{pow_pos}
 use lib.ListN.{length}
 use Rattle.job.specs.Refusal.{Outcome, done, refused, ◌>>=◌, ◌>>◌}
-use Rattle.job.specs.Words.{capacity, WarmUps}
+use Rattle.job.specs.Words.{capacity}
 use Rattle.job.specs.Handed.{wants_fit}
 use Rattle.job.specs.Calls.{ordering_known, planning_known}
 use Rattle.job_bytes.specs.JobBytes.{Request, job_in, read_bytes}
 use Rattle.job_bytes.specs.OldFiles.{upgraded}
 use Rattle.job.proofs.Laws.{done_both}
-use Rattle.job.proofs.WarmExact.{writing_exact, checking_exact}
+use Rattle.job.proofs.JobExact.{job_by_exact}
 use Rattle.job.proofs.Orders.{no_order}
-use Rattle.set_bytes.proofs.SetRoundTrip.{Bytes}
+use Rattle.job_bytes.proofs.SetRoundTrip.{Bytes}
 use Rattle.job_bytes.proofs.OldFiles.{old_read}
 use Rattle.job_bytes.proofs.ReadExact.{ReadJob, read_exact}
-use Rattle.ordering.specs.Ordering.{job_order}
-use Rattle.ordering.proofs.Drawn.{job_order_lem}
+use Rattle.ordering.specs.Methods.{order_by}
+use Rattle.ordering.proofs.Complete.{order_complete}
 use Rattle.ordering.proofs.Ordered.{not_known, ordered}
 use Rattle.drive.specs.declared.Sets.{Sets}
 use Rattle.drive.specs.Steps.{load_count}
 use Rattle.planning.specs.Plan.{handed}
 use Rattle.planning.specs.Planning.{our_plan, planning, checking}
-use Rattle.planning.proofs.Sequence.{planning_known_lem, plan_done}
+use Rattle.planning.proofs.Sequence.{exact_known, planning_known_lem, plan_done}
 use Rattle.planning.proofs.Demand3.{our_check}
 use Rattle.planning.proofs.WithoutTests.{no_steps}
 use Rattle.planned.specs.Planned.{order_request, plan_in_order, order_and_plan, plan_job}
@@ -36,15 +36,15 @@ old_planned bs = rw (← (old_read bs)) refl
 
 -- the order and the plan of a job
 abbrev pub order_of : Request → List ℕ
-order_of q = job_order q.head.method (job_in q)
+order_of q = order_by q.head.method (capacity q.head.rig) q.wants
 
 abbrev pub sets_of : Request → List Sets
 sets_of q = our_plan (job_in q) 0 (order_of q)
 
 -- 02, wish 3: "A job with no tests .. empty order": and so an empty plan
-module _ (q : Request) (none : q.wants ≡ []) (warm : WarmUps (length q.wants) q.warm_ups) where
+module _ (q : Request) (none : q.wants ≡ []) where
   pub order_empty : order_of q ≡ []
-  order_empty = no_order _ (order_of q) (ap length none) (job_order_lem q.head.method (job_in q) warm).0
+  order_empty = no_order _ (order_of q) (ap length none) (order_complete q.head.method (capacity q.head.rig) q.wants)
 
   pub plan_empty : sets_of q ≡ []
   plan_empty = ap (our_plan (job_in q) 0) order_empty ∙ no_steps (job_in q) 0
@@ -53,16 +53,15 @@ module _ (q : Request) (r : ReadJob q) where
   abbrev fits : Outcome (Unit {0})
   fits = wants_fit (capacity q.head.rig) q.wants
 
-  -- ordering and planning ask for sizes only: each method's order, drawn out, passes the examination of orders and keeps the warm_ups_lem, so planning never answers
-  -- 8 or 17 after ordering
+  -- ordering and planning ask for sizes only: each method's order passes the examination of orders, so planning never answers 8 after ordering
   ordering_fits : ordering_known q.head.method (job_in q) ≡ fits
   unfolding ordering_known
-  ordering_fits = done_both _ _ ((writing_exact q.head.method (job_in q)).1 (r.is_job, r.method, r.warm))
+  ordering_fits = done_both _ _ ((job_by_exact (job_in q) q.head.method).1 (r.is_job, r.method))
 
   planning_fits : planning_known (job_in q) 0 (order_of q) ≡ fits
   planning_fits =
-      let o = job_order_lem q.head.method (job_in q) r.warm in
-      planning_known_lem (job_in q) 0 (order_of q) ((checking_exact (job_in q) 0 (order_of q)).1 (r.is_job, pow_pos q.head.rig.curves, r.warm, o.0, o.1))
+      planning_known_lem (job_in q) 0 (order_of q) (exact_known (job_in q) 0 (order_of q) r.is_job (pow_pos q.head.rig.curves)
+      (order_complete q.head.method (capacity q.head.rig) q.wants))
 
   order_done : fits ≡ done tt → order_request q ≡ done (order_of q)
   unfolding order_request

@@ -10,7 +10,7 @@ use Rattle.job.specs.Refusal.{Outcome, done, refused, number, figure, ◌>>=◌,
 use Rattle.job.specs.Words.{capacity}
 use Rattle.job.proofs.Laws.{done_same, bind_done, mapped_done, mapped_refused, leaves_done, done_room}
 use Rattle.job_bytes.specs.JobBytes.{Request, job_in, read_bytes}
-use Rattle.set_bytes.proofs.SetRoundTrip.{Bytes}
+use Rattle.job_bytes.proofs.SetRoundTrip.{Bytes}
 use Rattle.job_bytes.proofs.ReadExact.{ReadJob, read_exact}
 use Rattle.drive.specs.declared.Sets.{Sets}
 use Rattle.drive.specs.Steps.{drops_of, loads_of, curve_count}

@@ -9,21 +9,23 @@ use borrow.Author.Tests.{lt-leb}
 use Rattle.job.specs.declared.Head.{Head}
 use Rattle.job.specs.declared.Refusal.{Refusal}
 use Rattle.job.specs.Refusal.{Outcome, done, refused, ◌>>=◌, ◌>>◌, mapped, demand, room, leaves}
-use Rattle.job.specs.Words.{Job, IsOrder, Keeps}
-use Rattle.job.specs.Calls.{writing_known, ordering_known, planning_known}
+use Rattle.job.specs.Words.{Job, capacity}
+use Rattle.job.specs.Handed.{job_known_by}
+use Rattle.job.specs.Calls.{ordering_known, planning_known}
 use Rattle.job.proofs.Laws.{both_done, done_room, mapped_done, mapped_refused, done_mapped, refused_mapped, refused≢done, done_same}
-use Rattle.job.proofs.Orders.{order_length}
-use Rattle.job.proofs.WarmExact.{writing_exact, checking_exact}
+use Rattle.job.proofs.JobExact.{job_by_exact}
 use Rattle.job_bytes.specs.JobBytes.{Request, job_in, read_bytes}
 use Rattle.lists.proofs.Overwritten.{front}
-use Rattle.ordering.specs.Ordering.{job_order, ordering, order_answer, order_list}
-use Rattle.ordering.proofs.Drawn.{job_order_lem}
+use Rattle.ordering.specs.Methods.{order_by}
+use Rattle.ordering.specs.Ordering.{ordering, order_answer, order_list}
+use Rattle.ordering.proofs.Complete.{order_complete}
+use Rattle.ordering.proofs.Ordered.{order_entries}
 use Rattle.drive.specs.declared.Sets.{Sets}
 use Rattle.planning.specs.declared.PlanCounted.{PlanCounted}
 use Rattle.planning.specs.Plan.{handed, SetLists, entries, leaves_plan, CountEnd, plan_outcome}
 use Rattle.planning.specs.Planning.{planning, plan_answer, plan_lists}
 use Rattle.planning.proofs.Planned.{plan_made, plan_not_made}
-use Rattle.planning.proofs.Sequence.{planning_known_lem}
+use Rattle.planning.proofs.Sequence.{exact_known, planning_known_lem}
 use Rattle.planned.specs.declared.JobPlanned.{JobPlanned}
 use Rattle.planned.specs.Planned.{Planned, order_request, plan_in_order, order_and_plan, plan_job}
 use Rattle.planned.specs.ContractWords.{counted, Told, told, planned_outcome}
@@ -55,7 +57,7 @@ module _ (q : Request) (tests : length q.wants ≡ q.head.tests) where
   -- ---- ordering
 
   abbrev order : List ℕ
-  order = job_order q.head.method j
+  order = order_by q.head.method (capacity j.rig) q.wants
 
   -- what ordering gives is the method's order, behind its examinations
   by_method : (os : List ℕ) → order_request q ≡ done os → (ordering_known q.head.method j ≡ done tt) × (order ≡ os)
@@ -66,26 +68,18 @@ module _ (q : Request) (tests : length q.wants ≡ q.head.tests) where
       go (done tt) e = done_same e
       go (refused k i) e = absurd (refused≢done e)
 
-  -- behind them it is an order of the tests that keeps the warm_ups_lem
-  is_order : ordering_known q.head.method j ≡ done tt → IsOrder (length q.wants) order × Keeps q.warm_ups order
-  unfolding ordering_known
-  is_order e =
-      let b = both_done (writing_known q.head.method j) _ tt e in
-      job_order_lem q.head.method j ((writing_exact q.head.method j).0 b.0).2
-
   -- it has an entry for each test
   pub order_long : (os : List ℕ) → order_request q ≡ done os → length os ≡ n
-  order_long os e = let g = by_method os e in ap length (sym g.1) ∙ order_length _ order (is_order g.0).0 ∙ tests
+  order_long os e = ap length (sym (by_method os e).1) ∙ order_entries q.head.method (capacity j.rig) q.wants ∙ tests
 
   -- and nothing is left that planning could refuse
   pub order_known_lem : (os : List ℕ) → order_request q ≡ done os → planning_known j 0 os ≡ done tt
   unfolding ordering_known
   order_known_lem os e =
       let g = by_method os e in
-      let o = is_order g.0 in
-      let b = both_done (writing_known q.head.method j) _ tt g.0 in
-      let is = (writing_exact q.head.method j).0 b.0 in
-      let k = (checking_exact j 0 order).1 (is.0, pow_pos j.rig.curves, is.2, o.0, o.1) in
+      let b = both_done (job_known_by q.head.method j) _ tt g.0 in
+      let is = (job_by_exact j q.head.method).0 b.0 in
+      let k = exact_known j 0 order is.0 (pow_pos j.rig.curves) (order_complete q.head.method (capacity j.rig) q.wants) in
       rw (sym g.1) (planning_known_lem j 0 order k ∙ b.1)
 
   module _ (O : List ℕ) (long : n ≤ length O) where

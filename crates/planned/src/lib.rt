@@ -21,24 +21,22 @@ pub enum JobPlanned {
 fn order_and_plan(
     head: Head,
     wants: &[u64],
-    warm: &[u16],
     order: &mut [u16],
     drops: &mut [u64],
     loads: &mut [u64],
 ) -> PlanCounted
     requires tests { (head.tests ≤ 256) × (length wants.now ≡ head.tests) }
     requires lists { (256 ≤ length order.old) × (256 ≤ length drops.old) × (256 ≤ length loads.old) }
-    ensures count { plan_outcome result ≡ mapped counted (order_and_plan (record { head = head; wants = was wants; warm_ups = was warm })) }
-    ensures order { after order ≡ leaves (order_request (record { head = head; wants = was wants; warm_ups = was warm })) (was order) }
+    ensures count { plan_outcome result ≡ mapped counted (order_and_plan (record { head = head; wants = was wants })) }
+    ensures order { after order ≡ leaves (order_request (record { head = head; wants = was wants })) (was order) }
     ensures plan { set_lists (after drops) (after loads)
-        ≡ leaves_plan (λ p. p.plan) (order_and_plan (record { head = head; wants = was wants; warm_ups = was warm })) (set_lists (was drops) (was loads)) }
+        ≡ leaves_plan (λ p. p.plan) (order_and_plan (record { head = head; wants = was wants })) (set_lists (was drops) (was loads)) }
 {
     let n = head.tests;
-    if let Counted::Refused(r) = ordering::order_tests(head.rig, head.method, wants, warm, order) {
+    if let Counted::Refused(r) = ordering::order_tests(head.rig, head.method, wants, order) {
         return PlanCounted::Refused(r);
     }
-    // "planning 8, 7", with 16 and 17: nothing of it is left, since ordering has asked for 10, 16 and 7, and its order names each test once and keeps the
-    // warm_ups_lem. "The drive is empty before step 0."
+    // "planning 8, 7": nothing of it is left, since ordering has asked for 10 and 7, and its order names each test once. "The drive is empty before step 0."
     let capacity = job::capacity(head.rig);
     planning::plan_tests(capacity, wants, 0, &order[..n], drops, loads)
 }
@@ -56,12 +54,11 @@ fn read_and_plan(
     ensures lists { lists_of (after wants) (after order) (set_lists (after drops) (after loads))
         ≡ leaves_lists (was job) (lists_of (was wants) (was order) (set_lists (was drops) (was loads))) }
 {
-    let mut warm = [0u16; MOST_TESTS];
-    match job_bytes::read_job(job, wants, &mut warm) {
+    match job_bytes::read_job(job, wants) {
         JobRead::Refused(r) => JobPlanned::Refused(r),
         JobRead::Read(head) => {
             let n = head.tests;
-            match order_and_plan(head, &wants[..n], &warm[..n], order, drops, loads) {
+            match order_and_plan(head, &wants[..n], order, drops, loads) {
                 PlanCounted::Refused(r) => JobPlanned::Refused(r),
                 PlanCounted::Count(count, end) => JobPlanned::Planned(head, count, end),
             }

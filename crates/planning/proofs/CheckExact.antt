@@ -9,10 +9,9 @@ use borrow.Author.Tests.{eqb-true}
 use Rattle.bitset.specs.Set.{◌∖◌, size}
 use Rattle.bitset.proofs.Laws.{⊆-∪-r, size_mono}
 use Rattle.job.specs.Refusal.{done}
-use Rattle.job.specs.Words.{Job, capacity, IsJob, IsHolding, IsOrder, WarmUps, Keeps}
+use Rattle.job.specs.Words.{Job, capacity, IsJob, IsHolding, IsOrder}
 use Rattle.job.specs.Handed.{all_curves}
 use Rattle.job.specs.Calls.{checking_known}
-use Rattle.job.proofs.WarmExact.{checking_exact}
 use Rattle.job.proofs.Laws.{done_same, refused≢done, demand_true, both_done}
 use Rattle.drive.specs.declared.Checked.{Checked}
 use Rattle.drive.specs.declared.Checked.TheVariants.{Ends, Breaks}
@@ -22,17 +21,14 @@ use Rattle.drive.proofs.Balance.{balance}
 use Rattle.drive.proofs.Moves.{length_moves, drops_of_lem, loads_of_lem}
 use Rattle.planning.specs.Plan.{Plan, in_order}
 use Rattle.planning.specs.Planning.{sets_known, checked_outcome, plan_moves, plan_sets, end_known, checking}
-use Rattle.planning.proofs.Sequence.{steps_length, sets_known_lem, sets_long, steps_checked, check_ended}
+use Rattle.planning.proofs.Sequence.{known_exact, exact_known, steps_length, sets_known_lem, sets_long, steps_checked, check_ended}
 
 -- "A plan passes the check exactly if the steps' tests are each test once, every drop is held, .."
 pub record Passes (j : Job) (held : ℕ) (order : List ℕ) (p : Plan) : Type 0 where
   pub is_job : IsJob j
   -- 02, wish 6: "a holding names only curves of its job"
   pub is_holding : IsHolding j held
-  -- wish 10: warm_ups_lem of its tests, and an order that keeps them
-  pub is_warm : WarmUps (length j.wants) j.warm_ups
   pub is_order : IsOrder (length j.wants) order
-  pub keeps : Keeps j.warm_ups order
   pub drop_sets : length p.drops ≡ length j.wants
   pub load_sets : length p.loads ≡ length j.wants
   -- each step keeps the rules (`Kept`: every drop is held, no load is held after the drops, every load is a curve of the job, and after the loads the wants are
@@ -40,10 +36,6 @@ pub record Passes (j : Job) (held : ℕ) (order : List ℕ) (p : Plan) : Type 0 
   pub steps : AllKept (capacity j.rig) (all_curves j.rig.curves) held (plan_moves j order p)
   -- 02, wish 1: the end set is what is held
   pub ends : p.end ≡ held_after held (plan_sets j order p)
-
--- what is asked before the plan is passed
-pub passes_known : (j : Job) (held : ℕ) (order : List ℕ) (p : Plan) → Passes j held order p → checking_known j held order ≡ done tt
-passes_known j held order p ok = (checking_exact j held order).1 (ok.is_job, ok.is_holding, ok.is_warm, ok.is_order, ok.keeps)
 
 -- steps that end
 pub steps_ended : (c : Checked) → checked_outcome c ≡ done tt → (e : ℕ) × (c ≡ Ends e)
@@ -70,14 +62,12 @@ module _ (j : Job) (held : ℕ) (order : List ℕ) (p : Plan) where
       let d = both_done (checked_outcome (steps_checked j held order p)) _ m c.1 in
       let f = both_done (end_known j held order p) _ m d.1 in
       let s = steps_ended (steps_checked j held order p) d.0 in
-      let k = (checking_exact j held order).0 a.0 in
+      let k = known_exact j held order a.0 in
       let l = sets_long n (length p.drops) (length p.loads) c.0 in
       record {
         is_job = k.0;
         is_holding = k.1;
-        is_warm = k.2;
-        is_order = k.3;
-        keeps = k.4;
+        is_order = k.2;
         drop_sets = l.0;
         load_sets = l.1;
         steps = (check_held (capacity j.rig) (all_curves j.rig.curves) 0 held (plan_moves j order p) s.0 s.1).1;
@@ -86,7 +76,7 @@ module _ (j : Job) (held : ℕ) (order : List ℕ) (p : Plan) where
 
   passing : Passes j held order p → checking j held order p ≡ done (curve_count p.loads)
   passing ok =
-      check_ended j held order p (passes_known j held order p ok)
+      check_ended j held order p (exact_known j held order ok.is_job ok.is_holding ok.is_order)
       (sets_known_lem n (length p.drops) (length p.loads) ok.drop_sets ok.load_sets) _
       ((steps-exact (capacity j.rig) (all_curves j.rig.curves) 0 held (plan_moves j order p)).1 ok.steps) ok.ends
 
@@ -104,7 +94,7 @@ module _ (j : Job) (held : ℕ) (order : List ℕ) (p : Plan) where
     ws = in_order j.wants order
 
     long : length ws ≡ n
-    long = steps_length j held order (passes_known j held order p ok)
+    long = steps_length j held order (exact_known j held order ok.is_job ok.is_holding ok.is_order)
 
     all_drops : curve_count (drops_of (sets_of (plan_moves j order p))) ≡ curve_count p.drops
     all_drops = ap curve_count (drops_of_lem ws p.drops p.loads (ok.drop_sets ∙ sym long))

@@ -1,4 +1,4 @@
--- DEMAND 3, proved: of planning and the plan check, for every job, every holding of its curves, all warm_ups_lem of its tests and every order that keeps them.
+-- DEMAND 3, proved: of planning and the plan check, for every job, every holding of its curves and every order of its tests.
 use mathlib.Core.Path.{◌≡◌, refl, sym, ap, ◌∙◌}
 use mathlib.Core.List.{List, [], ◌∷◌}
 use Prim.Native.Nat.{ℕ, ◌+◌, ◌≤◌, ◌<◌}
@@ -11,13 +11,11 @@ use Rattle.bitset.specs.Set.{size}
 use Rattle.bitset.proofs.Bits.{bit_empty, size_empty}
 use Rattle.bitset.proofs.Parts.{◌≼◌, inside-≼, in_range}
 use Rattle.job.specs.Refusal.{Outcome, done, refused, ◌>>=◌, ◌>>◌, mapped, room, leaves}
-use Rattle.job.specs.declared.Rig.{Rig}
-use Rattle.job.specs.Words.{Job, job_of, capacity, IsJob}
+use Rattle.job.specs.Words.{Job, capacity, IsJob}
 use Rattle.job.specs.Handed.{all_curves, each, wants_fit}
 use Rattle.job.specs.Calls.{checking_known, planning_known}
 use Rattle.job.proofs.Laws.{refused≢done, both_done, each_true, mapped_done, mapped_refused, leaves_done, leaves_refused}
 use Rattle.job.proofs.JobExact.{below_inside}
-use Rattle.job.proofs.WarmExact.{checking_exact}
 use Rattle.job.proofs.Faults.{Examines, faultless, faulty, Fails, each_examines}
 use Rattle.lists.proofs.Overwritten.{front}
 use Rattle.drive.specs.declared.Sets.{Sets}
@@ -29,9 +27,9 @@ use Rattle.drive.proofs.Best.{furthest_passes, furthest_is_fewest}
 use Rattle.planning.specs.Plan.{Plan, handed, SetLists, first, entries, CountEnd, count_end, in_order}
 use Rattle.planning.specs.Planning.{our_plan, planning, plan_answer, plan_lists, checking}
 use Rattle.planning.specs.Demand3.{Demand3}
-use Rattle.planning.proofs.Sequence.{known_exact, planning_parts, planning_known_lem, steps_length, sets_known_lem, check_ended, plan_refused}
+use Rattle.planning.proofs.Sequence.{known_exact, exact_known, planning_parts, planning_known_lem, steps_length, sets_known_lem, check_ended, plan_refused}
 use Rattle.planning.proofs.Sequence.{plan_done}
-use Rattle.planning.proofs.CheckExact.{passed, passes_known, check_balanced}
+use Rattle.planning.proofs.CheckExact.{passed, check_balanced}
 
 module _ (j : Job) (held : ℕ) (order : List ℕ) where
   abbrev n : ℕ
@@ -99,7 +97,7 @@ module _ (j : Job) (held : ℕ) (order : List ℕ) where
   unfolding our_plan
   our_least other m e =
       let p = passed j held order other m e in
-      let long = p.load_sets ∙ sym (steps_length j held order (passes_known j held order other p)) in
+      let long = p.load_sets ∙ sym (steps_length j held order (exact_known j held order p.is_job p.is_holding p.is_order)) in
       let f = furthest_is_fewest j.rig.curves cap held (in_range j.rig.curves held p.is_holding) p.steps in
       rw (
         wants_of_lem steps other.drops other.loads,
@@ -169,16 +167,8 @@ module _ (j : Job) (held : ℕ) (order : List ℕ) where
               ap (λ (a : CountEnd). a.count) g.total ∙ ap (λ (p : Plan). curve_count p.loads) (sym g.lists);
           least = λ m e other k c. omega (arith, ap (λ (a : CountEnd). a.count) (ours m e).total, our_least other k c);
           balanced = λ other k c. check_balanced j held order other k c;
-          missing = λ is own warm ord keeps long.
-              let known = (checking_exact j held order).1 (is, own, warm, ord, keeps) in (
-                (λ x. too_large x.0 x.1 known long x.2),
-                (λ x. missing_too_large known x.0 x.1 x.2),
-              );
+          missing = λ is own ord long. (
+            (λ x. too_large x.0 x.1 (exact_known j held order is own ord) long x.2),
+            (λ x. missing_too_large (exact_known j held order is own ord) x.0 x.1 x.2),
+          );
         }
-
--- THE PLAN KNOWS NOTHING OF WARM-UPS: an order that is planned with these and with those has one plan
-pub warm_ups_unplanned : (rig : Rig) (wants these those : List ℕ) (held : ℕ) (order : List ℕ) (lent : ℕ) (plan again : List Sets)
-    → planning (job_of rig wants these) held order lent ≡ done plan → planning (job_of rig wants those) held order lent ≡ done again → again ≡ plan
-unfolding our_plan
-warm_ups_unplanned rig wants these those held order lent plan again e f =
-    sym (given (job_of rig wants those) held order lent again f).is ∙ (given (job_of rig wants these) held order lent plan e).is

@@ -8,21 +8,21 @@ use native.Mathlib.Omega.{arith}
 use native.Mathlib.Decide.{ℕ_discrete}
 use lib.ListN.{length}
 use Rattle.job.specs.Refusal.{Outcome, done, refused, ◌>>◌}
-use Rattle.job.specs.Words.{Job, capacity, IsJob, IsHolding, IsOrder, WarmUps, Keeps}
+use Rattle.job.specs.Words.{Job, capacity, IsJob, IsHolding, IsOrder}
 use Rattle.job.specs.Handed.{all_curves, held_known, job_known}
-use Rattle.job.specs.Calls.{warm_order_known, checking_known}
+use Rattle.job.specs.Order.{order_known}
+use Rattle.job.specs.Calls.{checking_known}
 use Rattle.job.proofs.Laws.{refused≢done, refused_same, refused_split}
 use Rattle.job.proofs.Faults.{First}
 use Rattle.job.proofs.Refuses.{Refuses, refuses, refuses_more, refuses_both, HandedRefusal, job_by_refuses, HeldRefusal, held_refuses}
-use Rattle.job.proofs.WarmRefuses.{OrderRefusal, warm_order_refuses}
-use Rattle.job.proofs.WarmExact.{checking_exact}
+use Rattle.job.proofs.OrderExact.{order_refuses}
 use Rattle.drive.specs.declared.Checked.{Checked}
 use Rattle.drive.specs.declared.Checked.TheVariants.{Ends, Breaks}
 use Rattle.drive.specs.Steps.{Move, held_after, curve_count}
 use Rattle.drive.proofs.CheckExact.{AllKept, FirstFault, check_exact, check_held, fault_exact}
 use Rattle.planning.specs.Plan.{Plan}
 use Rattle.planning.specs.Planning.{sets_known, checked_outcome, plan_moves, plan_sets, end_known, checking}
-use Rattle.planning.proofs.Sequence.{steps_checked, end_known_lem, end_other, check_sets, check_broken, check_other_end}
+use Rattle.planning.proofs.Sequence.{known_exact, exact_known, steps_checked, end_known_lem, end_other, check_sets, check_broken, check_other_end}
 use Rattle.planning.proofs.CheckExact.{steps_ended}
 use Rattle.planning.proofs.EntryFault.{EntryFault, sets_exact, entries_exact}
 
@@ -30,9 +30,7 @@ use Rattle.planning.proofs.EntryFault.{EntryFault, sets_exact, entries_exact}
 pub record Rejected (j : Job) (held : ℕ) (order : List ℕ) (p : Plan) (i : ℕ) : Type 0 where
   pub is_job : IsJob j
   pub is_holding : IsHolding j held
-  pub is_warm : WarmUps (length j.wants) j.warm_ups
   pub is_order : IsOrder (length j.wants) order
-  pub keeps : Keeps j.warm_ups order
   -- "first step breaking a rule; before that, first missing or surplus position of the drops or loads, the smaller"; 02, wish 1: "a plan whose end set is not
   -- what is held, with the number of tests as its step"
   pub fault : First (EntryFault (length j.wants) (length p.drops) (length p.loads)) i
@@ -98,13 +96,8 @@ module _ (j : Job) (held : ℕ) (order : List ℕ) (p : Plan) (i : ℕ) where
       refuses_both Other _ _ (refuses_more HandedRefusal Other (job_known j) by_job (job_by_refuses 0 j))
       (refuses_both Other _ _
       (refuses_more HeldRefusal Other (held_known j.rig.curves held) (λ k i h e. omega (arith, h.0)) (held_refuses j.rig.curves held))
-      (refuses_more OrderRefusal Other (warm_order_known n j.warm_ups order) by_order (warm_order_refuses n j.warm_ups order)))
+      (refuses_more (λ k i. k ≡ 8) Other (order_known n order) (λ k i h e. omega arith) (order_refuses n [] order)))
     where
-      by_order : (k i : ℕ) → OrderRefusal k i → Other k i
-      by_order k i (inl h) e = omega arith
-      by_order k i (inr (inl h)) e = omega arith
-      by_order k i (inr (inr h)) e = omega arith
-
       by_job : (k i : ℕ) → HandedRefusal k i → Other k i
       by_job k i (inl h) e = omega (arith, h.0)
       by_job k i (inr h) e = omega (arith, h.0)
@@ -140,14 +133,14 @@ module _ (j : Job) (held : ℕ) (order : List ℕ) (p : Plan) (i : ℕ) where
           → Rejected j held order p i
       by_known (inl e) = absurd (refuses Other _ 12 i known_refuses e refl)
       by_known (inr x) =
-          let k = (checking_exact j held order).0 x.1 in
-          record { is_job = k.0; is_holding = k.1; is_warm = k.2; is_order = k.3; keeps = k.4; fault = by_sets (refused_split (sets_known n d l) step_check 12 i x.2) }
+          let k = known_exact j held order x.1 in
+          record { is_job = k.0; is_holding = k.1; is_order = k.2; fault = by_sets (refused_split (sets_known n d l) step_check 12 i x.2) }
 
   rejecting : Rejected j held order p i → checking j held order p ≡ refused 12 i
   rejecting r = go r.fault
     where
       known : checking_known j held order ≡ done tt
-      known = (checking_exact j held order).1 (r.is_job, r.is_holding, r.is_warm, r.is_order, r.keeps)
+      known = exact_known j held order r.is_job r.is_holding r.is_order
 
       go : First (EntryFault n d l) i ⊎ ((d ≡ n) × (l ≡ n) × StepFault) → checking j held order p ≡ refused 12 i
       go (inl f) = check_sets j held order p known 12 i ((sets_exact n d l i).1 f)

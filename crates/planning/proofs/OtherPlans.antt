@@ -11,8 +11,7 @@ use Rattle.job.specs.Words.{Job, job_of}
 use Rattle.job.specs.Handed.{between, listed, each, places_known, curves_known, tests_known, is_method, method_known, wants_known, wants_fit, numbers_known}
 use Rattle.job.specs.Handed.{booked_below, booked_known, held_known, job_known_by}
 use Rattle.job.specs.Order.{order_from}
-use Rattle.job.specs.WarmUps.{warm_ups_from, ready, keeps_from}
-use Rattle.job.specs.Calls.{warm_order_known, checking_known, planning_known}
+use Rattle.job.specs.Calls.{checking_known, planning_known}
 use Rattle.drive.specs.Steps.{held_after, drops_of, loads_of, moves, curve_count}
 use Rattle.drive.specs.Check.{or_breaks, keeps, check_from}
 use Rattle.drive.specs.Uses.{later, use_by, next_use, further}
@@ -21,7 +20,7 @@ use Rattle.planning.specs.Plan.{plan_of, set_lists, in_order}
 use Rattle.planning.specs.Planning.{our_plan, planning, plan_answer, sets_known, checked_outcome, end_known, checking}
 
 abbrev job : Job
-job = job_of (record { places = 2; booked = 0; curves = 3 }) (1 ∷ 2 ∷ 1 ∷ []) (256 ∷ 256 ∷ 256 ∷ [])
+job = job_of (record { places = 2; booked = 0; curves = 3 }) (1 ∷ 2 ∷ 1 ∷ [])
 
 abbrev as_listed : List ℕ
 as_listed = 0 ∷ 1 ∷ 2 ∷ []
@@ -63,8 +62,7 @@ pub record OtherPlans : Type 0 where
 
 pub other_plans : OtherPlans
 unfolding ones inside ◌>>=◌ ◌>>◌ mapped demand room keep choose best_of between listed each places_known curves_known tests_known is_method method_known wants_known
-    wants_fit numbers_known booked_below booked_known held_known job_known_by order_from warm_ups_from ready keeps_from warm_order_known checking_known planning_known in_order held_after
-    moves curve_count or_breaks keeps
+    wants_fit numbers_known booked_below booked_known held_known job_known_by order_from checking_known planning_known in_order held_after moves curve_count or_breaks keeps
     check_from later use_by next_use further chosen_by furthest and_then victims drops_for plan_from our_plan planning plan_answer sets_known checked_outcome end_known checking
 other_plans =
     record {

@@ -9,12 +9,13 @@ use lib.Seq.{sets}
 use borrow.Author.Tests.{eqb-true, eq-eqb, ne_eqb}
 use Rattle.job.specs.Refusal.{done, refused, ◌>>=◌, ◌>>◌, demand}
 use Rattle.job.specs.Words.{Job, capacity, IsJob, IsHolding, IsOrder}
-use Rattle.job.specs.Handed.{all_curves, wants_fit}
+use Rattle.job.specs.Handed.{all_curves, held_known, wants_fit, job_known}
 use Rattle.job.specs.Calls.{checking_known, planning_known}
 use Rattle.job.proofs.Laws.{both, demand_true, demand_done, demand_refused, both_done, done_both, done_room}
 use Rattle.job.proofs.Examination.{refused_both}
-use Rattle.job.proofs.WarmExact.{checking_exact}
-use Rattle.job.proofs.OrderExact.{own_tests}
+use Rattle.job.proofs.JobExact.{job_exact}
+use Rattle.job.proofs.HeldExact.{held_exact}
+use Rattle.job.proofs.OrderExact.{order_exact, own_tests}
 use Rattle.job.proofs.Orders.{order_length}
 use Rattle.lists.proofs.Overwritten.{sets_front}
 use Rattle.drive.specs.declared.Checked.{Checked}
@@ -31,7 +32,16 @@ use Rattle.planning.proofs.Turns.{length_in_order, wants_at}
 module _ (j : Job) (held : ℕ) (order : List ℕ) where
   -- the job is one, only curves of it are held, and the order is one of its tests
   pub known_exact : checking_known j held order ≡ done tt → IsJob j × IsHolding j held × IsOrder (length j.wants) order
-  known_exact e = let x = (checking_exact j held order).0 e in (x.0, x.1, x.3)
+  unfolding checking_known
+  known_exact e =
+      let a = both_done (job_known j) _ tt e in
+      let b = both_done (held_known j.rig.curves held) _ tt a.1 in
+      ((job_exact j).0 a.0, (held_exact j.rig.curves held).0 b.0, (order_exact (length j.wants) order).0 b.1)
+
+  pub exact_known : IsJob j → IsHolding j held → IsOrder (length j.wants) order → checking_known j held order ≡ done tt
+  unfolding checking_known
+  exact_known is own ord =
+      done_both _ _ ((job_exact j).1 is) ∙ done_both _ _ ((held_exact j.rig.curves held).1 own) ∙ (order_exact (length j.wants) order).1 ord
 
   -- planning asks for sizes besides
   pub planning_parts : planning_known j held order ≡ done tt → (checking_known j held order ≡ done tt) × (wants_fit (capacity j.rig) j.wants ≡ done tt)

@@ -7,17 +7,16 @@ use Prim.Native.Nat.{ℕ}
 use native.Mathlib.Omega.{arith}
 use lib.ListN.{length, drop_of_length-le}
 use Rattle.job.specs.Refusal.{done, mapped, overwritten, leaves}
-use Rattle.job.specs.Words.{Job, capacity, IsJob, IsHolding, IsOrder, WarmUps, Keeps}
+use Rattle.job.specs.Words.{Job, capacity, IsJob, IsHolding, IsOrder}
 use Rattle.job.specs.Calls.{planning_known}
 use Rattle.job.proofs.Orders.{no_order, order_none}
 use Rattle.job.proofs.Faults.{none_too_large}
-use Rattle.job.proofs.WarmExact.{checking_exact}
 use Rattle.drive.specs.Steps.{held_after, moves, curve_count}
 use Rattle.drive.specs.Plan.{plan_from}
 use Rattle.drive.proofs.CheckExact.{AllKept}
 use Rattle.planning.specs.Plan.{Plan, plan_of, SetLists, entries, in_order}
 use Rattle.planning.specs.Planning.{our_plan, planning, plan_answer, plan_lists, checking}
-use Rattle.planning.proofs.Sequence.{planning_known_lem, plan_done}
+use Rattle.planning.proofs.Sequence.{exact_known, planning_known_lem, plan_done}
 use Rattle.planning.proofs.CheckExact.{Passes, passed, check_exact, check_count}
 
 -- our plan for no steps
@@ -25,18 +24,12 @@ pub no_steps : (j : Job) (held : ℕ) → our_plan j held [] ≡ []
 unfolding our_plan plan_from in_order
 no_steps j held = refl
 
-module _ (j : Job) (held : ℕ) (is : IsJob j) (own : IsHolding j held) (none : j.wants ≡ []) (warm : j.warm_ups ≡ []) where
+module _ (j : Job) (held : ℕ) (is : IsJob j) (own : IsHolding j held) (none : j.wants ≡ []) where
   order : IsOrder (length j.wants) []
   order = order_none _ (ap length none)
 
-  no_warm_ups_lem : WarmUps (length j.wants) j.warm_ups
-  no_warm_ups_lem = record { long = ap length warm ∙ sym (ap length none); lower = λ t h. absurd (omega (arith, ap length none)) }
-
-  kept : Keeps j.warm_ups []
-  kept i h = absurd (omega arith)
-
   known : planning_known j held [] ≡ done tt
-  known = planning_known_lem j held [] ((checking_exact j held []).1 (is, own, no_warm_ups_lem, order, kept)) ∙ none_too_large (capacity j.rig) j.wants none
+  known = planning_known_lem j held [] (exact_known j held [] is own order) ∙ none_too_large (capacity j.rig) j.wants none
 
   planned : (lent : ℕ) → planning j held [] lent ≡ done []
   planned lent = plan_done j held [] lent known (omega (arith, ap length none)) ∙ ap done (no_steps j held)
@@ -52,9 +45,7 @@ module _ (j : Job) (held : ℕ) (is : IsJob j) (own : IsHolding j held) (none : 
       record {
         is_job = is;
         is_holding = own;
-        is_warm = no_warm_ups_lem;
         is_order = order;
-        keeps = kept;
         drop_sets = sym (ap length none);
         load_sets = sym (ap length none);
         steps = AllKept.none;

@@ -1,11 +1,10 @@
 -- DEMAND 3, the statement, with the end sets of 02, wish 1, the booked places of wish 5: "The plans compared for fewest loads all fit the reduced figure, and
 -- a job in demand 3 has fewer booked than places" (`checking` and `IsJob`), and the holdings of wish 6: "Plans from an empty drive are the case of nothing
--- held; in demand 3 a holding names only curves of its job" (`IsHolding`). Wish 10: "The best-plan statement, together with when a plan is missing, covers all
--- warm_ups_lem that refusal 16 lets pass and each order that keeps them" (`WarmUps`, `Keeps`).
+-- held; in demand 3 a holding names only curves of its job" (`IsHolding`).
 use Rattle.std.specs.Prelude.{◌≡◌, ◌↔◌, List, ℕ, ◌+◌, ◌≤◌, ◌<◌, length, get_or}
 use Rattle.bitset.specs.Set.{size}
 use Rattle.job.specs.Refusal.{Outcome, done, refused}
-use Rattle.job.specs.Words.{Job, capacity, IsJob, IsHolding, IsOrder, WarmUps, Keeps}
+use Rattle.job.specs.Words.{Job, capacity, IsJob, IsHolding, IsOrder}
 use Rattle.drive.specs.Steps.{curve_count}
 use Rattle.planning.specs.Plan.{Plan, handed, SetLists, first, entries, CountEnd}
 use Rattle.planning.specs.Planning.{our_plan, checking}
@@ -27,9 +26,8 @@ pub record Demand3 (j : Job) (held : ℕ) (order : List ℕ) (answer : Outcome C
   -- as the drops and the end set
   pub balanced : (other : Plan) (m : ℕ) → checking j held order other ≡ done m
       → size held + curve_count other.loads ≡ curve_count other.drops + size other.end
-  -- for every job, every holding of its curves, all warm_ups_lem of its tests and every order of it that keeps them, with lists long enough, a plan is missing
-  -- exactly where some test wants more curves than there are places less booked; neither what is held nor a warm-up makes one missing
-  pub missing : IsJob j → IsHolding j held → WarmUps (length j.wants) j.warm_ups → IsOrder (length j.wants) order → Keeps j.warm_ups order
-      → length j.wants ≤ entries lists
+  -- for every job, every holding of its curves and every order of it, with lists long enough, a plan is missing exactly where some test wants more curves than
+  -- there are places less booked; what is held makes none missing
+  pub missing : IsJob j → IsHolding j held → IsOrder (length j.wants) order → length j.wants ≤ entries lists
       → ((number : ℕ) × (figure : ℕ) × (answer ≡ refused number figure)) ↔
       ((t : ℕ) × (t < length j.wants) × (capacity j.rig < size (get_or j.wants t 0)))

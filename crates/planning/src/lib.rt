@@ -64,21 +64,20 @@ fn count_curves(sets: &[u64]) -> usize
     count
 }
 
-// Whether a plan from anywhere keeps the rules, with so much held before its first step: its load count, or the first fault. "checking 8, 12", after 10, 13, 14
-// and 16, with 17 behind 8; 02, wish 1: "The check fails a plan whose end set is not what is held, with the number of tests as its step."
+// Whether a plan from anywhere keeps the rules, with so much held before its first step: its load count, or the first fault. "checking 8, 12", after 10, 13 and
+// 14; 02, wish 1: "The check fails a plan whose end set is not what is held, with the number of tests as its step."
 pub fn check_plan(
     rig: Rig,
     wants: &[u64],
-    warm: &[u16],
     held: u64,
     order: &[u16],
     drops: &[u64],
     loads: &[u64],
     end: u64,
 ) -> Counted
-    ensures { count_outcome result ≡ checking (job_of rig (was wants) (was warm)) held (was order) (plan_of (was drops) (was loads) end) }
+    ensures { count_outcome result ≡ checking (job_of rig (was wants)) held (was order) (plan_of (was drops) (was loads) end) }
 {
-    if let Examined::Refused(r) = job::examine_checking(rig, wants, warm, held, order) {
+    if let Examined::Refused(r) = job::examine_checking(rig, wants, held, order) {
         return Counted::Refused(r);
     }
     let tests = wants.len();
@@ -130,22 +129,20 @@ pub fn plan_tests(
     PlanCounted::Count(count_curves(&loads[..tests]), end)
 }
 
-// Our plan for one job and one order of its tests, from the curves now held. "planning 8, 7, 9", after 10, 13, 14 and 16, with 17 behind 8.
+// Our plan for one job and one order of its tests, from the curves now held. "planning 8, 7, 9", after 10, 13 and 14.
 pub fn plan(
     rig: Rig,
     wants: &[u64],
-    warm: &[u16],
     held: u64,
     order: &[u16],
     drops: &mut [u64],
     loads: &mut [u64],
 ) -> PlanCounted
-    ensures answer { plan_outcome result ≡ plan_answer (job_of rig (was wants) (was warm)) held (was order) (set_lists (was drops) (was loads)) }
-    ensures lists { set_lists (after drops) (after loads)
-        ≡ plan_lists (job_of rig (was wants) (was warm)) held (was order) (set_lists (was drops) (was loads)) }
-    ensures demand3 { Demand3 (job_of rig (was wants) (was warm)) held (was order) (plan_outcome result) (set_lists (after drops) (after loads)) }
+    ensures answer { plan_outcome result ≡ plan_answer (job_of rig (was wants)) held (was order) (set_lists (was drops) (was loads)) }
+    ensures lists { set_lists (after drops) (after loads) ≡ plan_lists (job_of rig (was wants)) held (was order) (set_lists (was drops) (was loads)) }
+    ensures demand3 { Demand3 (job_of rig (was wants)) held (was order) (plan_outcome result) (set_lists (after drops) (after loads)) }
 {
-    if let Examined::Refused(r) = job::examine_planning(rig, wants, warm, held, order) {
+    if let Examined::Refused(r) = job::examine_planning(rig, wants, held, order) {
         return PlanCounted::Refused(r);
     }
     let capacity = job::capacity(rig);

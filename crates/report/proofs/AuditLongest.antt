@@ -9,17 +9,16 @@ use lib.ListN.{length, length-append, length-map}
 use Rattle.job.specs.Refusal.{Outcome, done, refused, ◌>>=◌, ◌>>◌}
 use Rattle.job.specs.Handed.{job_known, held_known, counts_known, all_curves}
 use Rattle.job.proofs.Laws.{done_both, done_room, both_done, mapped_done}
-use Rattle.job.proofs.Refuses.{Refuses, refuses, refuses_more, refuses_demand, refuses_both, refuses_bind, refuses_mapped}
+use Rattle.job.proofs.Refuses.{Refuses, refuses, refuses_demand, refuses_both, refuses_bind, refuses_mapped}
 use Rattle.job.proofs.JobExact.{job_exact, job_counts}
 use Rattle.job.proofs.HeldExact.{held_exact}
 use Rattle.job.specs.Words.{capacity}
 use Rattle.job.specs.Order.{order_from, order_known}
-use Rattle.job.specs.WarmUps.{warm_ups_known, warm_ups_kept}
-use Rattle.job.specs.Calls.{warm_order_known, checking_known}
+use Rattle.job.specs.Calls.{checking_known}
 use Rattle.job_bytes.specs.JobBytes.{Request, job_in, read_bytes}
 use Rattle.job_bytes.proofs.JobBounds.{figure_short}
 use Rattle.job_bytes.proofs.ReadExact.{ReadJob, read_exact}
-use Rattle.set_bytes.proofs.SetRoundTrip.{Bytes}
+use Rattle.job_bytes.proofs.SetRoundTrip.{Bytes}
 use Rattle.drive.specs.declared.Checked.{Checked}
 use Rattle.drive.specs.declared.Checked.TheVariants.{Ends, Breaks}
 use Rattle.drive.specs.Steps.{Move}
@@ -28,8 +27,6 @@ use Rattle.drive.proofs.CheckExact.{fault_within}
 use Rattle.drive.proofs.Moves.{length_moves}
 use Rattle.planning.specs.Plan.{Plan, in_order}
 use Rattle.planning.specs.Planning.{sets_known, checked_outcome, plan_moves, end_known, checking}
-use Rattle.job.proofs.WarmRefuses.{EarlyRefusal, keeps_refuses}
-use Rattle.job.proofs.WarmFault.{warm_ups_exact}
 use Rattle.planning.proofs.CheckExact.{check_few}
 use Rattle.planning.proofs.Turns.{length_in_order}
 use Rattle.plan_bytes.specs.PlanBytes.{Contents, tests_of, plan_in, read_plan_bytes, plan_steps}
@@ -47,11 +44,11 @@ use Rattle.report.proofs.Fewest.{passed_planned, audit_says, audit_fewer}
 
 -- of the job: what reading refuses by, with an offset or the input length
 abbrev pub OfJob : ℕ → ℕ → Type 0
-OfJob k i = ByReading k i × (i ≤ 2598)
+OfJob k i = ByReading k i × (i ≤ 2311)
 
--- of the plan: 8 and 17 with a position, 11 with an offset or the input length, 12 with a step
+-- of the plan: 8 with a position, 11 with an offset or the input length, 12 with a step
 abbrev pub OfPlan : ℕ → ℕ → Type 0
-OfPlan k i = ((k ≡ 8) × (i ≤ 256)) ⊎ ((k ≡ 11) × (i ≤ 5130)) ⊎ ((k ≡ 12) × (i ≤ 256)) ⊎ ((k ≡ 17) × (i ≤ 256))
+OfPlan k i = ((k ≡ 8) × (i ≤ 256)) ⊎ ((k ≡ 11) × (i ≤ 5130)) ⊎ ((k ≡ 12) × (i ≤ 256))
 
 at_position : (i : ℕ) → i ≤ 256 → OfPlan 8 i
 at_position i l = inl (refl, l)
@@ -60,7 +57,7 @@ at_offset : (i : ℕ) → i ≤ 5130 → OfPlan 11 i
 at_offset i l = inr (inl (refl, l))
 
 at_step : (i : ℕ) → i ≤ 256 → OfPlan 12 i
-at_step i l = inr (inr (inl (refl, l)))
+at_step i l = inr (inr (refl, l))
 
 order_small : (n : ℕ) (before rest : List ℕ) → length before + length rest ≤ 256 → Refuses OfPlan (order_from n before rest)
 unfolding order_from
@@ -68,15 +65,6 @@ order_small n before [] l = refuses_demand OfPlan _ 8 (length before) (at_positi
 order_small n before (t ∷ ts) l =
     refuses_both OfPlan _ _ (refuses_demand OfPlan _ 8 (length before) (at_position (length before) (omega arith)))
     (order_small n (before ++ (t ∷ [])) ts (omega (arith, length-append before (t ∷ []))))
-
--- behind warm_ups_lem that pass
-warm_small : (n : ℕ) (w order : List ℕ) → warm_ups_known n w ≡ done tt → length order ≤ 256 → Refuses OfPlan (warm_order_known n w order)
-unfolding warm_order_known
-warm_small n w order e l =
-    rw (done_both (warm_ups_known n w) (◌>>◌ (order_known n order) (warm_ups_kept w order)) e)
-    (refuses_both OfPlan (order_known n order) (warm_ups_kept w order) (order_small n [] order (omega arith))
-    (refuses_more (EarlyRefusal (length order)) OfPlan (warm_ups_kept w order) (λ k i x. inr (inr (inr (x.0, omega (arith, x.1)))))
-    (keeps_refuses w [] order (length order) (omega arith))))
 
 steps_small : (places all : ℕ) (ms : List Move) → length ms ≤ 256 → Refuses OfPlan (checked_outcome (check_from places all 0 0 ms))
 unfolding checked_outcome
@@ -116,11 +104,10 @@ module _ (j : Request) (r : ReadJob j) where
   check_small order p m =
       let n = length j.wants in
       let l : n ≤ 256 = r.is_job.tests_bound in
-      let w = j.warm_ups in
       refuses_both OfPlan _ _ (rw (
-        done_both (job_known (job_in j)) (◌>>◌ (held_known c 0) (warm_order_known n w order)) ((job_exact (job_in j)).1 r.is_job),
-        done_both (held_known c 0) (warm_order_known n w order) ((held_exact c 0).1 (pow_pos c)),
-      ) (warm_small n w order ((warm_ups_exact n w).1 r.warm) m))
+        done_both (job_known (job_in j)) (◌>>◌ (held_known c 0) (order_known n order)) ((job_exact (job_in j)).1 r.is_job),
+        done_both (held_known c 0) (order_known n order) ((held_exact c 0).1 (pow_pos c)),
+      ) (order_small n [] order (omega arith)))
       (refuses_both OfPlan _ _ (refuses_demand OfPlan _ 12 (min (min (length p.drops) (length p.loads)) n) (at_step _ (omega arith)))
       (refuses_both OfPlan _ _ (steps_small (capacity j.head.rig) (all_curves c) (plan_moves (job_in j) order p)
       (omega (arith, length_moves (in_order j.wants order) p.drops p.loads, length_in_order j.wants order)))
@@ -136,7 +123,7 @@ module _ (j : Request) (r : ReadJob j) where
       (arith, steps_count c t plan ss e, length-map ss.steps (λ s. s.step.test), r.tests, r.is_job.tests_bound)))
       (λ m f. rw (passed_planned (job_in j) 0 (tests_of ss) (plan_in ss) m f t (omega (arith, r.tests))) tt))
 
--- A REFUSED JOB has a number from 1 to 4, 6, 13 or 16 ..
+-- A REFUSED JOB has a number from 1 to 4, 6 or 13 ..
 pub audit_job_refuses : (job plan : List ℕ) → Refuses OfJob (audit job plan)
 unfolding audit
 audit_job_refuses job plan = refuses_mapped OfJob (λ j. audit_plan j plan) (read_bytes job) (go (read_bytes job) refl)
@@ -145,7 +132,7 @@ audit_job_refuses job plan = refuses_mapped OfJob (λ j. audit_plan j plan) (rea
     go (done j) e = tt
     go (refused k i) e = (refuses ByReading (read_bytes job) k i (read_refuses job) e, (figure_short job k i e).0)
 
--- .. AND A REFUSED PLAN has 8, 11, 12 or 17
+-- .. AND A REFUSED PLAN has 8, 11 or 12
 pub audit_plan_refuses : (job plan : List ℕ) (o : Outcome Audit) → Bytes job → audit job plan ≡ done o → Refuses OfPlan o
 unfolding audit
 audit_plan_refuses job plan o all e =
@@ -165,8 +152,7 @@ plan_short k i r = omega (arith, length-append (text "plan ") (printed (refused 
     go : OfPlan k i → length (printed (refused k i)) ≤ 20
     go (inl (e, l)) = refusal_short k i (omega arith) (omega arith)
     go (inr (inl (e, l))) = refusal_short k i (omega arith) (omega arith)
-    go (inr (inr (inl (e, l)))) = refusal_short k i (omega arith) (omega arith)
-    go (inr (inr (inr (e, l)))) = refusal_short k i (omega arith) (omega arith)
+    go (inr (inr (e, l))) = refusal_short k i (omega arith) (omega arith)
 
 counts_short : (l f : ℕ) → l < 100000 → f ≤ l → length (audit_text (done (done (record { loads = l; fewest = f })))) ≤ 128
 unfolding text

@@ -17,14 +17,14 @@ use Rattle.job.specs.Calls.{planning_known}
 use Rattle.job_bytes.specs.JobBytes.{Request, job_in, read_bytes}
 use Rattle.job.proofs.Laws.{bind_done, mapped_done, true_each, done_same, refused≢done}
 use Rattle.job_bytes.proofs.ReadExact.{read_exact}
-use Rattle.set_bytes.proofs.SetRoundTrip.{Bytes}
+use Rattle.job_bytes.proofs.SetRoundTrip.{Bytes}
 use Rattle.drive.specs.Steps.{Move, moved, wants_of, load_count}
 use Rattle.drive.proofs.CheckExact.{AllKept}
 use Rattle.drive.proofs.Moves.{wants_of_lem}
 use Rattle.planning.specs.Plan.{Plan, handed, in_order}
 use Rattle.planning.specs.Planning.{our_plan, planning, checking}
-use Rattle.planning.proofs.CheckExact.{passed, passes_known, check_count}
-use Rattle.planning.proofs.Sequence.{planning_known_lem, plan_done}
+use Rattle.planning.proofs.CheckExact.{passed, check_count}
+use Rattle.planning.proofs.Sequence.{exact_known, planning_known_lem, plan_done}
 use Rattle.planning.proofs.Demand3.{our_check, our_least}
 use Rattle.plan_bytes.specs.PlanBytes.{Contents, tests_of, plan_in, plan_steps}
 use Rattle.report.specs.Audit.{Audit, audit_steps, audit_plan, audit}
@@ -62,7 +62,7 @@ module _ (j : Job) (held : ℕ) (order : List ℕ) (p : Plan) (m : ℕ) (e : che
   passed_known : planning_known j held order ≡ done tt
   passed_known =
       let ok = passed j held order p m e in
-      planning_known_lem j held order (passes_known j held order p ok) ∙ passed_fits
+      planning_known_lem j held order (exact_known j held order ok.is_job ok.is_holding ok.is_order) ∙ passed_fits
 
   -- so planning the same order is done
   pub passed_planned : (n : ℕ) → length j.wants ≤ n → planning j held order n ≡ done (our_plan j held order)

@@ -1,4 +1,4 @@
--- What can matter of an input: the 2,598 first bytes of a job and the 5,131 first of a plan. So a buffer of at least as many bytes takes enough of every one.
+-- What can matter of an input: the 2,311 first bytes of a job and the 5,131 first of a plan. So a buffer of at least as many bytes takes enough of every one.
 use mathlib.Core.Path.{◌≡◌, refl, sym, ap, ◌∙◌, subst}
 use mathlib.Core.List.{List}
 use Prim.Native.Nat.{ℕ, ◌≤◌}
@@ -23,21 +23,21 @@ few bs j e = of (subst (Bounded bs) e (read_bounded bs))
     of : {j : Request} → Bounded bs (done j) → j.head.tests ≤ 256
     of (read j l t) = t
 
-job_prefix : (n : ℕ) (bs : List ℕ) → 2599 ≤ n → read_bytes (take n bs) ≡ read_bytes bs
-job_prefix n bs l = sym (prefix_reads (take n bs)) ∙ ap read_bytes (take-take 2599 n bs l) ∙ prefix_reads bs
+job_prefix : (n : ℕ) (bs : List ℕ) → 2312 ≤ n → read_bytes (take n bs) ≡ read_bytes bs
+job_prefix n bs l = sym (prefix_reads (take n bs)) ∙ ap read_bytes (take-take 2312 n bs l) ∙ prefix_reads bs
 
--- BYTES BEHIND THE JOB'S 2,599TH never change a sheet, ..
-pub sheet_prefix : (n : ℕ) (bs : List ℕ) → 2599 ≤ n → sheet (take n bs) ≡ sheet bs
+-- BYTES BEHIND THE JOB'S 2,312TH never change a sheet, ..
+pub sheet_prefix : (n : ℕ) (bs : List ℕ) → 2312 ≤ n → sheet (take n bs) ≡ sheet bs
 unfolding sheet plan_job
 sheet_prefix n bs l = rw (job_prefix n bs l) refl
 
 -- .. a table of drive sizes, ..
-pub table_prefix : (n : ℕ) (bs : List ℕ) (wanted : Found ℕ) → 2599 ≤ n → size_table (take n bs) wanted ≡ size_table bs wanted
+pub table_prefix : (n : ℕ) (bs : List ℕ) (wanted : Found ℕ) → 2312 ≤ n → size_table (take n bs) wanted ≡ size_table bs wanted
 unfolding size_table size_job
 table_prefix n bs wanted l = rw (job_prefix n bs l) refl
 
 -- .. nor an audit
-pub audit_job_prefix : (n : ℕ) (job plan : List ℕ) → 2599 ≤ n → audit (take n job) plan ≡ audit job plan
+pub audit_job_prefix : (n : ℕ) (job plan : List ℕ) → 2312 ≤ n → audit (take n job) plan ≡ audit job plan
 unfolding audit
 audit_job_prefix n job plan l = rw (job_prefix n job l) refl
 
@@ -50,8 +50,8 @@ audit_plan_prefix n job plan l = go (read_bytes job) refl
     go (refused k i) e = unfold mapped in refl
     go (done j) e = unfold mapped audit_plan in rw (prefix_plan j.head.rig.curves j.head.tests n plan (omega (arith, few job j e))) refl
 
-pub audit_prefix : (job plan : List ℕ) → audit (take 2599 job) (take 5131 plan) ≡ audit job plan
-audit_prefix job plan = audit_job_prefix 2599 job (take 5131 plan) (omega arith) ∙ audit_plan_prefix 5131 job plan (omega arith)
+pub audit_prefix : (job plan : List ℕ) → audit (take 2312 job) (take 5131 plan) ≡ audit job plan
+audit_prefix job plan = audit_job_prefix 2312 job (take 5131 plan) (omega arith) ∙ audit_plan_prefix 5131 job plan (omega arith)
 
 -- a buffer takes enough for f where no byte behind it changes f
 pub enough : {A : Type 0} (f : List ℕ → A) (n : ℕ) (buffer : List ℕ) → ((whole : List ℕ) → f (take (length buffer) whole) ≡ f whole) → Enough f n buffer

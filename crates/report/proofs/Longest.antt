@@ -18,8 +18,8 @@ use Rattle.job.proofs.OrderExact.{own_tests}
 use Rattle.job_bytes.proofs.JobBounds.{figure_short}
 use Rattle.job_bytes.proofs.ReadExact.{ReadJob, read_exact}
 use Rattle.job_bytes.proofs.ReadRefuses.{ByReading, number_between, read_refuses}
-use Rattle.set_bytes.proofs.SetRoundTrip.{Bytes}
-use Rattle.ordering.proofs.Drawn.{job_order_lem}
+use Rattle.job_bytes.proofs.SetRoundTrip.{Bytes}
+use Rattle.ordering.proofs.Complete.{order_complete}
 use Rattle.drive.specs.Steps.{curve_count}
 use Rattle.planning.specs.Plan.{handed}
 use Rattle.planning.proofs.CheckExact.{check_few}
@@ -63,7 +63,7 @@ bound h order drops loads end t p m n o c =
 planned_bound : (q : Request) → ReadJob q → wants_fit (capacity q.head.rig) q.wants ≡ done tt
     → length (plan_text (shown q.head (order_of q) (handed 0 (sets_of q)).drops (handed 0 (sets_of q)).loads (handed 0 (sets_of q)).end)) ≤ 105000
 planned_bound q r f =
-    let whole = (job_order_lem q.head.method (job_in q) r.warm).0 in
+    let whole = order_complete q.head.method (capacity q.head.rig) q.wants in
     let long = order_length (length q.wants) (order_of q) whole in
     let tests = r.is_job.tests_bound in
     bound q.head (order_of q) (handed 0 (sets_of q)).drops (handed 0 (sets_of q)).loads (handed 0 (sets_of q)).end

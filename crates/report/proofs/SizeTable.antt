@@ -170,7 +170,7 @@ pub record Rows (counts : List ℕ) (p : ℕ) : Type 0 where
   -- .. and "more places: no fewer loads"
   pub no_fewer : (q : ℕ) → p ≤ q → q ≤ 64 → entry_for counts q ≡ entry_for counts p
 
-module _ (curves : ℕ) (wants warm_ups order counts : List ℕ) (every : EverySize curves wants warm_ups order counts) where
+module _ (curves : ℕ) (wants order counts : List ℕ) (every : EverySize curves wants order counts) where
   abbrev least : ℕ
   least = entry_for counts 64
 
@@ -215,5 +215,4 @@ module _ (curves : ℕ) (wants warm_ups order counts : List ℕ) (every : EveryS
 pub table_rows : (bs : List ℕ) (s : Sized) → size_job bs ≡ done s → (p : ℕ) × Rows s.counts p
 table_rows bs s e =
     let b = sized_by bs s e in
-    rows b.request.head.rig.curves b.request.wants b.request.warm_ups b.order s.counts
-    (sizes_exact _ _ _ _ s.counts b.made)
+    rows b.request.head.rig.curves b.request.wants b.order s.counts (sizes_exact _ _ _ s.counts b.made)

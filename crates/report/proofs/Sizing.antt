@@ -51,7 +51,7 @@ module _ (q : Request) where
 
   module _ (order : List ℕ) (ordered : order_request q ≡ done order) where
     abbrev made : Outcome (List ℕ)
-    made = sizing q.head.rig.curves q.wants q.warm_ups order
+    made = sizing q.head.rig.curves q.wants order
 
     not_sized : (k i : ℕ) → made ≡ refused k i → size_request q ≡ refused k i
     unfolding size_request ◌>>=◌
@@ -90,7 +90,7 @@ pub record SizedBy (bs : List ℕ) (s : Sized) : Type 0 where
   pub order : List ℕ
   pub read : read_bytes bs ≡ done request
   pub ordered : order_request request ≡ done order
-  pub made : sizing request.head.rig.curves request.wants request.warm_ups order ≡ done s.counts
+  pub made : sizing request.head.rig.curves request.wants order ≡ done s.counts
   pub head : s.head ≡ request.head
 
 pub sized_by : (bs : List ℕ) (s : Sized) → size_job bs ≡ done s → SizedBy bs s
@@ -98,7 +98,7 @@ unfolding size_job size_request
 sized_by bs s e =
     let a = bind_done (read_bytes bs) _ s e in
     let b = bind_done (order_request a.0) _ s a.2 in
-    let d = bind_done (sizing a.0.head.rig.curves a.0.wants a.0.warm_ups b.0) _ s b.2 in
+    let d = bind_done (sizing a.0.head.rig.curves a.0.wants b.0) _ s b.2 in
     let h = done_same d.2 in
     record {
       request = a.0;

@@ -13,13 +13,12 @@ use Rattle.job.proofs.Laws.{refused≢done, done_same, both_done, done_both, don
 use Rattle.job.proofs.SizingExact.{sizing_exact}
 use Rattle.job_bytes.specs.JobBytes.{Request, job_in, read_bytes}
 use Rattle.job_bytes.proofs.ReadExact.{ReadJob, read_exact}
-use Rattle.set_bytes.proofs.SetRoundTrip.{Bytes}
+use Rattle.job_bytes.proofs.SetRoundTrip.{Bytes}
 use Rattle.every_size.specs.Sizes.{mark, count_for, all_sizes}
 use Rattle.every_size.proofs.LoadCounts.{entry_is, unreached, length_sizes, size_at}
 use Rattle.planning.specs.Plan.{in_order, handed}
 use Rattle.planning.specs.Planning.{our_plan, planning}
-use Rattle.job.proofs.WarmExact.{checking_exact}
-use Rattle.planning.proofs.Sequence.{planning_parts, plan_done}
+use Rattle.planning.proofs.Sequence.{known_exact, planning_parts, plan_done}
 use Rattle.planned.specs.Planned.{Planned, order_request, plan_in_order, plan_job}
 use Rattle.planned.proofs.Stages.{order_known_lem, unread}
 use Rattle.planned.proofs.Stages as plans
@@ -35,11 +34,11 @@ use Rattle.report.proofs.TableLines.{Word, Entries, table_short}
 
 -- a list that was ordered is sized: nothing is left that the walk could refuse
 ordered_sized : (q : Request) (order : List ℕ) → ReadJob q → order_request q ≡ done order
-    → sizing q.head.rig.curves q.wants q.warm_ups order ≡ done (all_sizes q.head.rig.curves (in_order q.wants order))
+    → sizing q.head.rig.curves q.wants order ≡ done (all_sizes q.head.rig.curves (in_order q.wants order))
 unfolding sizing
 ordered_sized q order r e =
-    let k = (checking_exact (job_in q) 0 order).0 (planning_parts (job_in q) 0 order (order_known_lem q r.tests order e)).0 in
-    let is : IsJob (record { rig = record { places = 64; booked = 0; curves = q.head.rig.curves }; wants = q.wants; warm_ups = q.warm_ups }) =
+    let k = known_exact (job_in q) 0 order (planning_parts (job_in q) 0 order (order_known_lem q r.tests order e)).0 in
+    let is : IsJob (record { rig = record { places = 64; booked = 0; curves = q.head.rig.curves }; wants = q.wants }) =
     record {
       places_bounds = (omega arith, omega arith);
       booked_bound = omega arith;
@@ -47,7 +46,7 @@ ordered_sized q order r e =
       tests_bound = k.0.tests_bound;
       own_curves = k.0.own_curves;
     } in
-    done_both _ _ ((sizing_exact 64 q.head.rig.curves q.wants q.warm_ups order (omega arith) (omega arith)).1 (is, k.2, k.3, k.4))
+    done_both _ _ ((sizing_exact 64 q.head.rig.curves q.wants order (omega arith) (omega arith)).1 (is, k.2))
 
 -- .. and planned
 ordered_planned : (q : Request) (order : List ℕ) → ReadJob q → order_request q ≡ done order
@@ -92,20 +91,20 @@ refused_alike (refused l j) (refused m n) k i s e =
 -- ---- the entries
 
 -- the counts that were made take two bytes each
-entries : (curves : ℕ) (wants warm_ups order counts : List ℕ) → sizing curves wants warm_ups order ≡ done counts → Entries counts
+entries : (curves : ℕ) (wants order counts : List ℕ) → sizing curves wants order ≡ done counts → Entries counts
 unfolding sizing
-entries curves wants warm_ups order counts e =
-    let a = both_done (sizing_known curves wants warm_ups order) _ counts e in
+entries curves wants order counts e =
+    let a = both_done (sizing_known curves wants order) _ counts e in
     rw (← (done_same a.1)) (of a.0)
   where
     steps : List ℕ
     steps = in_order wants order
 
-    of : sizing_known curves wants warm_ups order ≡ done tt → Entries (all_sizes curves steps)
+    of : sizing_known curves wants order ≡ done tt → Entries (all_sizes curves steps)
     of known =
         let most : (p : ℕ) → count_for curves steps p ≤ mark =
-        λ p. ⊎_elim (λ x. omega (arith, x.1, unreached curves steps (own curves wants warm_ups order known) (few curves wants warm_ups order known) (short curves wants warm_ups order known) p))
-        (λ x. omega (arith, x.1)) (entry_is curves steps (own curves wants warm_ups order known) p) in
+        λ p. ⊎_elim (λ x. omega (arith, x.1, unreached curves steps (own curves wants order known) (few curves wants order known) (short curves wants order known) p))
+        (λ x. omega (arith, x.1)) (entry_is curves steps (own curves wants order known) p) in
         record {
           sizes = length_sizes curves steps;
           small = λ j l.
@@ -124,7 +123,7 @@ table_longest bs w all v = go (size_job bs) refl
     go (done s) e =
         let b = sized_by bs s e in
         let r = read_exact bs b.request all b.read in
-        let c = entries b.request.head.rig.curves b.request.wants b.request.warm_ups b.order s.counts b.made in
+        let c = entries b.request.head.rig.curves b.request.wants b.order s.counts b.made in
         rw b.head (table_short w b.request.head s.counts v (omega (arith, r.tests, r.is_job.tests_bound)) (omega (arith, r.method.0)) c)
     go (refused k i) e =
         let f = refused_few bs all k i (refused_alike (size_job bs) (plan_job bs) k i (table_as_sheet bs all) e) in

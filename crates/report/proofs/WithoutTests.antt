@@ -9,7 +9,7 @@ use Rattle.job.specs.Words.{capacity}
 use Rattle.job.proofs.Faults.{none_too_large}
 use Rattle.job_bytes.specs.JobBytes.{Request, read_bytes}
 use Rattle.job_bytes.proofs.ReadExact.{read_exact}
-use Rattle.set_bytes.proofs.SetRoundTrip.{Bytes}
+use Rattle.job_bytes.proofs.SetRoundTrip.{Bytes}
 use Rattle.drive.specs.Steps.{held_after, curve_count}
 use Rattle.planning.specs.Plan.{steps}
 use Rattle.planned.proofs.Composed.{order_empty, plan_empty, job_planned}
@@ -33,7 +33,6 @@ pub sheet_none : (bs : List ℕ) (q : Request) → Bytes bs → read_bytes bs �
     → sheet bs ≡ text "0 tests, " ++ decimal (capacity q.head.rig) ++ text " places, method " ++ decimal q.head.method ++ text "\nloads 0\n"
 unfolding sheet printed plan_text head_text steps steps_text end_text held_after curve_count
 sheet_none bs q all read none =
-    let w = (read_exact bs q all read).warm in
     let n : q.head.tests ≡ 0 = omega (arith, (read_exact bs q all read).tests, ap length none) in
-    rw (job_planned bs q all read (none_too_large (capacity q.head.rig) q.wants none), plan_empty q none w, order_empty q none w, n)
+    rw (job_planned bs q all read (none_too_large (capacity q.head.rig) q.wants none), plan_empty q none, order_empty q none, n)
     (two_lines (decimal (capacity q.head.rig)) (decimal q.head.method))

@@ -5,7 +5,7 @@ use Prim.Native.Nat.{ℕ, ◌+◌, ◌<◌}
 use native.Mathlib.Omega.{arith}
 use lib.ListN.{length, length-append}
 use lib.Seq.{sets, length-sets}
-use Rattle.set_bytes.proofs.Encoding.{sets_append}
+use Rattle.job_bytes.proofs.Encoding.{sets_append}
 use Rattle.report.specs.ContractWords.{Wrote}
 
 pub wrote_nil : (old : List ℕ) (at : ℕ) → Wrote old at [] old at

@@ -14,7 +14,7 @@ pub record Audit : Type 0 where
   pub loads : ℕ
   pub fewest : ℕ
 
--- the steps of a plan for a job, from an empty drive: 8, 17, 12, then planning the same order (which refuses nothing then: `Fewest`)
+-- the steps of a plan for a job, from an empty drive: 8, 12, then planning the same order (which refuses nothing then: `Fewest`)
 unfoldable pub audit_steps : Request → List ℕ → Plan → Outcome Audit
 audit_steps q order p = do
   count ← checking (job_in q) 0 order p
@@ -27,8 +27,8 @@ audit_plan q plan = do
   c ← plan_steps q.head.rig.curves q.head.tests plan
   audit_steps q (tests_of c) (plan_in c)
 
--- a job's bytes and a plan's bytes: what comes of reading the job, 1 to 6, 13 and 16, and within it what comes of the plan, so that a refusal tells which of the
--- two it is of
+-- a job's bytes and a plan's bytes: what comes of reading the job, 1 to 6, and within it what comes of the plan, so that a refusal tells which of the two it
+-- is of
 unfoldable pub audit : List ℕ → List ℕ → Outcome (Outcome Audit)
 audit job plan = mapped (λ q. audit_plan q plan) (read_bytes job)
 

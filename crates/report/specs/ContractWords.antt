@@ -13,9 +13,9 @@ pub record Wrote (old : List ℕ) (at : ℕ) (text new : List ℕ) (next : ℕ) 
   pub behind : next ≡ at + length text
   pub written : new ≡ sets old at text
 
--- a plan of which the sheet is printed: it shows no wants and no warm_ups_lem
+-- a plan of which the sheet is printed: it shows no wants
 abbrev pub shown : Head → List ℕ → List ℕ → List ℕ → ℕ → Planned
-shown head order drops loads end = record { request = record { head = head; wants = []; warm_ups = [] }; order = order; plan = plan_of drops loads end }
+shown head order drops loads end = record { request = record { head = head; wants = [] }; order = order; plan = plan_of drops loads end }
 
 -- a lent buffer is filled with a text: the count of its bytes is answered and the buffer holds them, or 9 where it is too short
 pub record Filled (text old : List ℕ) (answer : Outcome ℕ) (new : List ℕ) : Type 0 where

@@ -22,7 +22,7 @@ pub record Sized : Type 0 where
 unfoldable pub size_request : Request → Outcome Sized
 size_request q = do
   order ← order_request q
-  counts ← sizing q.head.rig.curves q.wants q.warm_ups order
+  counts ← sizing q.head.rig.curves q.wants order
   done (record { head = q.head; counts = counts })
 
 -- of a job's bytes

@@ -25,15 +25,14 @@ pub enum Audited {
 }
 
 // A load count beside that of our plan for the same order.
-fn beside_fewest(head: Head, wants: &[u64], warm: &[u16], order: &[u16], count: usize) -> Audited
+fn beside_fewest(head: Head, wants: &[u64], order: &[u16], count: usize) -> Audited
     requires { (length wants.now ≡ head.tests) × (head.tests ≤ 256) }
     ensures { audited_outcome result
-        ≡ done (mapped (λ p. record { loads = count; fewest = load_count p })
-        (planning (job_of head.rig (was wants) (was warm)) 0 (was order) head.tests)) }
+        ≡ done (mapped (λ p. record { loads = count; fewest = load_count p }) (planning (job_of head.rig (was wants)) 0 (was order) head.tests)) }
 {
     let mut drops = [0u64; MOST_TESTS];
     let mut loads = [0u64; MOST_TESTS];
-    match planning::plan(head.rig, wants, warm, 0, order, &mut drops, &mut loads) {
+    match planning::plan(head.rig, wants, 0, order, &mut drops, &mut loads) {
         PlanCounted::Refused(r) => Audited::PlanRefused(r),
         PlanCounted::Count(fewest, _) => Audited::Counts(count, fewest),
     }
@@ -43,26 +42,24 @@ fn beside_fewest(head: Head, wants: &[u64], warm: &[u16], order: &[u16], count: 
 fn audit_steps(
     head: Head,
     wants: &[u64],
-    warm: &[u16],
     order: &[u16],
     drops: &[u64],
     loads: &[u64],
     end: u64,
 ) -> Audited
     requires { (length wants.now ≡ head.tests) × (head.tests ≤ 256) }
-    ensures { audited_outcome result
-        ≡ done (audit_steps (record { head = head; wants = was wants; warm_ups = was warm }) (was order) (plan_of (was drops) (was loads) end)) }
+    ensures { audited_outcome result ≡ done (audit_steps (record { head = head; wants = was wants }) (was order) (plan_of (was drops) (was loads) end)) }
 {
-    match planning::check_plan(head.rig, wants, warm, 0, order, drops, loads, end) {
+    match planning::check_plan(head.rig, wants, 0, order, drops, loads, end) {
         Counted::Refused(r) => Audited::PlanRefused(r),
-        Counted::Count(count) => beside_fewest(head, wants, warm, order, count),
+        Counted::Count(count) => beside_fewest(head, wants, order, count),
     }
 }
 
 // A plan's bytes for a job that was read.
-fn audit_plan(head: Head, wants: &[u64], warm: &[u16], plan: &[u8]) -> Audited
+fn audit_plan(head: Head, wants: &[u64], plan: &[u8]) -> Audited
     requires { (length wants.now ≡ head.tests) × (head.tests ≤ 256) }
-    ensures { audited_outcome result ≡ done (audit_plan (record { head = head; wants = was wants; warm_ups = was warm }) (was plan)) }
+    ensures { audited_outcome result ≡ done (audit_plan (record { head = head; wants = was wants }) (was plan)) }
 {
     let n = head.tests;
     let mut order = [0u16; MOST_TESTS];
@@ -71,15 +68,7 @@ fn audit_plan(head: Head, wants: &[u64], warm: &[u16], plan: &[u8]) -> Audited
     match plan_bytes::read_plan(head.rig.curves, n, plan, &mut order, &mut drops, &mut loads) {
         PlanCounted::Refused(r) => Audited::PlanRefused(r),
         PlanCounted::Count(_, end) => {
-            audit_steps(
-                head,
-                wants,
-                warm,
-                &order[..n],
-                &drops[..n],
-                &loads[..n],
-                end,
-            )
+            audit_steps(head, wants, &order[..n], &drops[..n], &loads[..n], end)
         }
     }
 }
@@ -89,12 +78,11 @@ fn audit(job: &[u8], plan: &[u8]) -> Audited
     ensures { audited_outcome result ≡ audit (was job) (was plan) }
 {
     let mut wants = [0u64; MOST_TESTS];
-    let mut warm = [0u16; MOST_TESTS];
-    match job_bytes::read_job(job, &mut wants, &mut warm) {
+    match job_bytes::read_job(job, &mut wants) {
         JobRead::Refused(r) => Audited::JobRefused(r),
         JobRead::Read(head) => {
             let n = head.tests;
-            audit_plan(head, &wants[..n], &warm[..n], plan)
+            audit_plan(head, &wants[..n], plan)
         }
     }
 }

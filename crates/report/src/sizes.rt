@@ -35,25 +35,19 @@ struct JobSized {
 // ---- the counts
 
 // Ordering, and the counts of the list in that order.
-fn size_list(head: Head, wants: &[u64], warm: &[u16]) -> JobSized
+fn size_list(head: Head, wants: &[u64]) -> JobSized
     requires { (length wants.now ≡ head.tests) × (head.tests ≤ 256) }
-    ensures { SizedAs (size_request (record { head = head; wants = was wants; warm_ups = was warm })) (read_outcome result.answer) result.counts }
+    ensures { SizedAs (size_request (record { head = head; wants = was wants })) (read_outcome result.answer) result.counts }
 {
     let n = head.tests;
     let mut order = [0u16; MOST_TESTS];
-    if let Counted::Refused(r) = ordering::order_tests(
-        head.rig,
-        head.method,
-        wants,
-        warm,
-        &mut order,
-    ) {
+    if let Counted::Refused(r) = ordering::order_tests(head.rig, head.method, wants, &mut order) {
         return JobSized {
             answer: JobRead::Refused(r),
             counts: [MARK; 64],
         };
     }
-    let sizes = sizing::all_sizes(head.rig.curves, wants, warm, &order[..n]);
+    let sizes = sizing::all_sizes(head.rig.curves, wants, &order[..n]);
     let answer = sizes.answer;
     let counts = sizes.counts;
     match answer {
@@ -73,15 +67,14 @@ fn size_job(job: &[u8]) -> JobSized
     ensures { SizedAs (size_job (was job)) (read_outcome result.answer) result.counts }
 {
     let mut wants = [0u64; MOST_TESTS];
-    let mut warm = [0u16; MOST_TESTS];
-    match job_bytes::read_job(job, &mut wants, &mut warm) {
+    match job_bytes::read_job(job, &mut wants) {
         JobRead::Refused(r) => JobSized {
             answer: JobRead::Refused(r),
             counts: [MARK; 64],
         },
         JobRead::Read(head) => {
             let n = head.tests;
-            size_list(head, &wants[..n], &warm[..n])
+            size_list(head, &wants[..n])
         }
     }
 }

@@ -9,8 +9,8 @@ ghost use Rattle.report.specs.Input.{Enough};
 use libc::{STDIN_FILENO, STDOUT_FILENO};
 use report::sizes::Wanted;
 
-// How many bytes of a job can matter: one that reads has at most 2,598, and the next byte tells that there are more.
-const JOB_INPUT: usize = 2_599;
+// How many bytes of a job can matter: one that reads has at most 2,311, and the next byte tells that there are more.
+const JOB_INPUT: usize = 2_312;
 
 // Reads standard input, as much as can matter: whatever the whole of it is, and whatever count is asked for, its table is that of the bytes read.
 fn read_input(job: &mut [u8; JOB_INPUT]) -> usize

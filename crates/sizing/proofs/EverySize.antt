@@ -31,15 +31,15 @@ use Rattle.sizing.proofs.Reordered.{each_step, same_together, same_largest}
 use Rattle.sizing.specs.Sizing.{sizing}
 use Rattle.sizing.specs.EverySize.{in_drive, entry_for, EverySize}
 
-module _ (curves : ℕ) (wants warm_ups order : List ℕ) (known : sizing_known curves wants warm_ups order ≡ done tt) where
+module _ (curves : ℕ) (wants order : List ℕ) (known : sizing_known curves wants order ≡ done tt) where
   abbrev steps : List ℕ
   steps = in_order wants order
 
   abbrev counts : List ℕ
   counts = all_sizes curves steps
 
-  pub exact : IsJob (in_drive 64 curves wants warm_ups) × IsOrder (length wants) order
-  exact = let x = (sizing_exact 64 curves wants warm_ups order (omega arith) (omega arith)).0 known in (x.0, x.2)
+  pub exact : IsJob (in_drive 64 curves wants) × IsOrder (length wants) order
+  exact = (sizing_exact 64 curves wants order (omega arith) (omega arith)).0 known
 
   -- ---- the steps: sets of at most 64 curves, at most 256 of them
 
@@ -59,7 +59,7 @@ module _ (curves : ℕ) (wants warm_ups order : List ℕ) (known : sizing_known 
   together_same = same_together wants order exact.1
 
   -- ---- beside planning
-  module _ (p : ℕ) (lent : SetLists) (a : CountEnd) (e : plan_answer (in_drive p curves wants warm_ups) 0 order lent ≡ done a) where
+  module _ (p : ℕ) (lent : SetLists) (a : CountEnd) (e : plan_answer (in_drive p curves wants) 0 order lent ≡ done a) where
     abbrev plan_count : ℕ
     plan_count = load_count (plan_from (furthest curves) p 0 steps)
 
@@ -67,7 +67,7 @@ module _ (curves : ℕ) (wants warm_ups order : List ℕ) (known : sizing_known 
     as_planned : (largest steps ≤ p) × (a.count ≡ plan_count)
     unfolding plan_answer our_plan wants_fit
     as_planned =
-        let j = in_drive p curves wants warm_ups in
+        let j = in_drive p curves wants in
         let z : p - 0 ≡ p = omega arith in
         let d = mapped_done (count_end 0) (planning j 0 order (entries lent)) a e in
         let g = given j 0 order (entries lent) d.0 d.1 in
@@ -84,7 +84,7 @@ module _ (curves : ℕ) (wants warm_ups order : List ℕ) (known : sizing_known 
     too_large : entry_for counts p ≡ 65535 ↔ ((t : ℕ) × (t < length wants) × (p < size (get_or wants t 0)))
     too_large = rw entry (Iff.trans (marked curves steps own few short p) (rw (same_largest wants order exact.1) (too_small wants p)))
 
-    single : (lent : SetLists) (a : CountEnd) → plan_answer (in_drive p curves wants warm_ups) 0 order lent ≡ done a → entry_for counts p ≡ a.count
+    single : (lent : SetLists) (a : CountEnd) → plan_answer (in_drive p curves wants) 0 order lent ≡ done a → entry_for counts p ≡ a.count
     single lent a e = let c = as_planned p lent a e in entry ∙ counted curves steps own p c.0 ∙ sym c.1
 
     -- a size that is not marked is planned
@@ -93,20 +93,20 @@ module _ (curves : ℕ) (wants warm_ups order : List ℕ) (known : sizing_known 
       fits t l (yes h) = h
       fits t l (no h) = absurd (unmarked (too_large.1 (t, l, omega arith)))
 
-      asked : planning_known (in_drive p curves wants warm_ups) 0 order ≡ done tt
+      asked : planning_known (in_drive p curves wants) 0 order ≡ done tt
       unfolding wants_fit
       asked =
-          sizing_as_planning p curves wants warm_ups order some most ∙ done_both _ _ known
+          sizing_as_planning p curves wants order some most ∙ done_both _ _ known
           ∙ true_each (λ w. leb (size w) p) 7 0 wants (λ t l. le-leb _ p (fits t l (dec_le _ p)))
 
-      planned : (a : CountEnd) × (plan_answer (in_drive p curves wants warm_ups) 0 order lent ≡ done a) × (a.count ≡ entry_for counts p)
+      planned : (a : CountEnd) × (plan_answer (in_drive p curves wants) 0 order lent ≡ done a) × (a.count ≡ entry_for counts p)
       unfolding plan_answer mapped
       planned =
-          let j = in_drive p curves wants warm_ups in
+          let j = in_drive p curves wants in
           let e : plan_answer j 0 order lent ≡ done (count_end 0 (our_plan j 0 order)) = ap (mapped (count_end 0)) (plan_done j 0 order (entries lent) asked room) in
           (count_end 0 (our_plan j 0 order), e, sym (single lent _ e))
 
-  pub every_size : EverySize curves wants warm_ups order counts
+  pub every_size : EverySize curves wants order counts
   every_size =
       record {
         sizes = length_sizes curves steps;
@@ -128,8 +128,8 @@ module _ (curves : ℕ) (wants warm_ups order : List ℕ) (known : sizing_known 
       }
 
 -- EVERY DRIVE SIZE TOGETHER
-pub sizes_exact : (curves : ℕ) (wants warm_ups order counts : List ℕ) → sizing curves wants warm_ups order ≡ done counts → EverySize curves wants warm_ups order counts
+pub sizes_exact : (curves : ℕ) (wants order counts : List ℕ) → sizing curves wants order ≡ done counts → EverySize curves wants order counts
 unfolding sizing
-sizes_exact curves wants warm_ups order counts e =
-    let a = both_done (sizing_known curves wants warm_ups order) _ counts e in
-    rw (← (done_same a.1)) (every_size curves wants warm_ups order a.0)
+sizes_exact curves wants order counts e =
+    let a = both_done (sizing_known curves wants order) _ counts e in
+    rw (← (done_same a.1)) (every_size curves wants order a.0)

@@ -8,14 +8,14 @@ use Rattle.planning.specs.Plan.{in_order}
 use Rattle.sizing.specs.declared.Places.{Places}
 
 -- "For one order from an empty drive give the load counts for 1 to 64 places .., none booked"
-unfoldable pub sizing : ℕ → List ℕ → List ℕ → List ℕ → Outcome (List ℕ)
-sizing curves wants warm_ups order = do
-  sizing_known curves wants warm_ups order
+unfoldable pub sizing : ℕ → List ℕ → List ℕ → Outcome (List ℕ)
+sizing curves wants order = do
+  sizing_known curves wants order
   done (all_sizes curves (in_order wants order))
 
--- "Then, for a wanted count, give the fewest places ..": from the same list, warm_ups_lem and order, and refused alike
-unfoldable pub fewest : ℕ → List ℕ → List ℕ → List ℕ → ℕ → Outcome (Found ℕ)
-fewest curves wants warm_ups order loads = mapped (fewest_places loads) (sizing curves wants warm_ups order)
+-- "Then, for a wanted count, give the fewest places ..": from the same list and order, and refused alike
+unfoldable pub fewest : ℕ → List ℕ → List ℕ → ℕ → Outcome (Found ℕ)
+fewest curves wants order loads = mapped (fewest_places loads) (sizing curves wants order)
 
 -- by value something has to stand in the place of counts that are refused: marks, so that no size serves
 unfoldable pub counts_given : Outcome (List ℕ) → List ℕ

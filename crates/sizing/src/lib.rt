@@ -25,13 +25,13 @@ pub enum Places {
 }
 
 // "For one order from an empty drive give the load counts for 1 to 64 places in one walk along the list". "apart from 7, the walk refuses as planning does":
-// 10, 16, 8, 17.
-pub fn all_sizes(curves: usize, wants: &[u64], warm: &[u16], order: &[u16]) -> Sizes
-    ensures answer { examined_outcome result.answer ≡ mapped (λ _. tt) (sizing curves (was wants) (was warm) (was order)) }
-    ensures counts { result.counts ≡ counts_given (sizing curves (was wants) (was warm) (was order)) }
-    ensures every { examined_outcome result.answer ≡ done tt → EverySize curves (was wants) (was warm) (was order) result.counts }
+// 10, 8.
+pub fn all_sizes(curves: usize, wants: &[u64], order: &[u16]) -> Sizes
+    ensures answer { examined_outcome result.answer ≡ mapped (λ _. tt) (sizing curves (was wants) (was order)) }
+    ensures counts { result.counts ≡ counts_given (sizing curves (was wants) (was order)) }
+    ensures every { examined_outcome result.answer ≡ done tt → EverySize curves (was wants) (was order) result.counts }
 {
-    if let Examined::Refused(r) = job::examine_sizing(curves, wants, warm, order) {
+    if let Examined::Refused(r) = job::examine_sizing(curves, wants, order) {
         return Sizes {
             answer: Examined::Refused(r),
             counts: [every_size::MARK; 64],
@@ -46,17 +46,11 @@ pub fn all_sizes(curves: usize, wants: &[u64], warm: &[u16], order: &[u16]) -> S
     }
 }
 
-// "for a wanted count, give the fewest places that need no more loads, a marked size never serving, or none". 10, 16, 8, 17.
-pub fn fewest_places(
-    curves: usize,
-    wants: &[u64],
-    warm: &[u16],
-    order: &[u16],
-    loads: usize,
-) -> Places
-    ensures { places_outcome result ≡ fewest curves (was wants) (was warm) (was order) loads }
+// "for a wanted count, give the fewest places that need no more loads, a marked size never serving, or none". 10, 8.
+pub fn fewest_places(curves: usize, wants: &[u64], order: &[u16], loads: usize) -> Places
+    ensures { places_outcome result ≡ fewest curves (was wants) (was order) loads }
 {
-    let sizes = all_sizes(curves, wants, warm, order);
+    let sizes = all_sizes(curves, wants, order);
     let answer = sizes.answer;
     if let Examined::Refused(r) = answer {
         return Places::Refused(r);

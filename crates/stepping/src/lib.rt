@@ -137,12 +137,12 @@ fn nothing() -> State
     }
 }
 
-// Makes a state of a list, an order of its tests and the curves held. "refused as in planning": 10, 13, 14, 16, 8, 17, 7.
-pub fn make_state(rig: Rig, wants: &[u64], warm: &[u16], held: u64, order: &[u16]) -> Made
-    ensures answer { count_outcome result.answer ≡ tests_made (making (job_of rig (was wants) (was warm)) held (was order)) }
-    ensures state { result.state ≡ state_made (making (job_of rig (was wants) (was warm)) held (was order)) }
+// Makes a state of a list, an order of its tests and the curves held. "refused as in planning": 10, 13, 14, 8, 7.
+pub fn make_state(rig: Rig, wants: &[u64], held: u64, order: &[u16]) -> Made
+    ensures answer { count_outcome result.answer ≡ tests_made (making (job_of rig (was wants)) held (was order)) }
+    ensures state { result.state ≡ state_made (making (job_of rig (was wants)) held (was order)) }
 {
-    if let Examined::Refused(r) = job::examine_planning(rig, wants, warm, held, order) {
+    if let Examined::Refused(r) = job::examine_planning(rig, wants, held, order) {
         return Made {
             answer: Counted::Refused(r),
             state: nothing(),

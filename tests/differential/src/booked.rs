@@ -3,17 +3,16 @@
 //! another answer than places less booked.
 
 use crate::generate::{
-    self, all_curves, any_booked, beside_wants, damage, enough, fitting_or_not, flipping_job, lent,
-    one_of, permutation, random_set, spoil_end, spoil_order, spoil_plan, spoil_tests, spoil_wants,
-    Case, Job, Size, SomePlan, FUNCTIONS, JOB, PLAN_MADE, PLAN_ORDER, SHEET, WILD, WILD_BOOKED,
+    self, all_curves, any_booked, damage, enough, fitting_or_not, flipping_job, lent, one_of,
+    permutation, random_set, spoil_end, spoil_order, spoil_plan, spoil_tests, spoil_wants, Case,
+    Job, Size, SomePlan, FUNCTIONS, JOB, PLAN_MADE, PLAN_ORDER, SHEET, WILD, WILD_BOOKED,
     WILD_METHODS,
 };
 use crate::holding;
 use crate::random::Random;
-use crate::reference::{self, drawn_out, less_booked, none, Answer, Plan, PlannedJob, Refusal};
+use crate::reference::{self, less_booked, Answer, Plan, PlannedJob, Refusal};
 use crate::states::Made;
 use crate::walks;
-use crate::warm_ups;
 use crate::withdrawn::old_or_new;
 
 // ---------------------------------------------------------------------------------------------
@@ -59,11 +58,6 @@ fn field(map: u8) -> usize {
     1 + lengths.iter().sum::<usize>()
 }
 
-/// The bytes of map and fields in job bytes with this map.
-pub fn behind_fields(map: u8) -> usize {
-    field(map) + (map >> 4 & 1) as usize
-}
-
 /// A byte of booked places: not below these places, 0, out of range, or any.
 fn any_byte(random: &mut Random, places: usize) -> u8 {
     let any = random.byte();
@@ -85,7 +79,7 @@ fn any_byte(random: &mut Random, places: usize) -> u8 {
 }
 
 /// Job bytes with booked places: sound, with another byte in their place, with a fault before or behind
-/// them, or with both; at times with warm-ups, or the longest without, or that with a byte behind it.
+/// them, or with both; at times the longest, or that with a byte behind it.
 pub fn any_bytes(random: &mut Random) -> Vec<u8> {
     if random.chance(1, 32) {
         let job = longest_job(random);
@@ -121,9 +115,6 @@ pub fn any_bytes(random: &mut Random) -> Vec<u8> {
         }
         _ => {}
     }
-    if random.chance(1, 10) {
-        return warm_ups::with_part(random, bytes, None);
-    }
     bytes
 }
 
@@ -138,7 +129,7 @@ fn spoil_before(random: &mut Random, bytes: &mut Vec<u8>) {
     ];
     let there: Vec<(u8, &[u8])> = fields.into_iter().filter(|f| map & f.0 != 0).collect();
     if there.is_empty() || random.chance(1, 5) {
-        bytes[0] |= 1 << random.between(6, 7);
+        bytes[0] |= 1 << random.between(5, 7);
         return;
     }
     let (bit, values) = random.pick(&there);
@@ -243,11 +234,9 @@ pub fn case(function: usize, random: &mut Random) -> Option<Case> {
         "read_job" => {
             let job = any_bytes(random);
             let tests = reference::read_job(&job, usize::MAX).map_or(4, |read| read.tests);
-            let wants_len = lent(random, tests);
             Case::ReadJob {
                 job,
-                wants_len,
-                warm_ups_len: beside_wants(random, tests, wants_len),
+                wants_len: lent(random, tests),
             }
         }
         "write_job" => {
@@ -261,7 +250,6 @@ pub fn case(function: usize, random: &mut Random) -> Option<Case> {
                 booked: job.booked,
                 curves: job.curves,
                 method: job.method,
-                warm_ups: none(job.wants.len()),
                 wants: job.wants,
                 out_len: lent(random, needed),
             }
@@ -285,7 +273,6 @@ pub fn case(function: usize, random: &mut Random) -> Option<Case> {
                 booked: job.booked,
                 curves: job.curves,
                 method: job.method,
-                warm_ups: none(job.wants.len()),
                 wants: job.wants,
                 order_len,
             }
@@ -306,7 +293,6 @@ pub fn case(function: usize, random: &mut Random) -> Option<Case> {
                 booked: job.booked,
                 curves: job.curves,
                 wants: job.wants,
-                warm_ups: none(tests),
                 held,
                 order: match random.below(2) {
                     0 => permutation(random, tests),
@@ -322,7 +308,6 @@ pub fn case(function: usize, random: &mut Random) -> Option<Case> {
                 places: job.places,
                 booked: job.booked,
                 curves: job.curves,
-                warm_ups: none(job.wants.len()),
                 wants: job.wants,
                 held,
                 order: made.order,
@@ -340,7 +325,6 @@ pub fn case(function: usize, random: &mut Random) -> Option<Case> {
                 places: job.places,
                 booked: job.booked,
                 curves: job.curves,
-                warm_ups: none(job.wants.len()),
                 wants: job.wants,
                 held,
                 order: made.order,
@@ -401,7 +385,7 @@ pub fn case(function: usize, random: &mut Random) -> Option<Case> {
 /// What is told of job bytes whose map has bit 4. That they read, and with which booked places; 13, 2 or
 /// 1 for these; a fault before them beside one of theirs (`cut`: they are owed); and one of theirs beside
 /// a fault behind, by its number.
-pub const JOBS: [&str; 34] = [
+pub const JOBS: [&str; 32] = [
     "read",
     "read:places-absent",
     "read:one-below",
@@ -430,12 +414,10 @@ pub const JOBS: [&str; 34] = [
     "13+3",
     "13+4",
     "13+6",
-    "13+16",
     "2+1",
     "2+3",
     "2+4",
     "2+6",
-    "2+16",
 ];
 
 /// The names of what is told of these bytes.
@@ -537,12 +519,11 @@ pub fn behind_13(job: &[u8], wants_len: usize) -> Vec<&'static str> {
     kinds
 }
 
-/// The longest job without warm-ups that reads, and one byte more.
+/// The longest job that reads, and one byte more.
 pub const LONGEST: [&str; 2] = ["2311-bytes", "2312-bytes"];
 
 pub fn longest_kinds(job: &[u8]) -> Vec<&'static str> {
-    // With warm-ups there may be more bytes.
-    if job.len() < JOB || job[0] >= 32 {
+    if job.len() < JOB {
         return vec![];
     }
     match reference::read_job(job, usize::MAX) {
@@ -614,67 +595,50 @@ fn refused_unbooked(case: &Case) -> Option<Refusal> {
             curves,
             method,
             wants,
-            warm_ups,
             out_len,
             ..
-        } => {
-            let tests = (wants, warm_ups);
-            no(reference::write_job(
-                *places, 0, *curves, *method, tests, *out_len,
-            ))
-        }
+        } => no(reference::write_job(
+            *places, 0, *curves, *method, wants, *out_len,
+        )),
         Case::OrderTests {
             places,
             curves,
             method,
             wants,
-            warm_ups,
             order_len,
             ..
-        } => {
-            let tests = (wants, warm_ups);
-            no(reference::order_tests(
-                *places, 0, *curves, *method, tests, *order_len,
-            ))
-        }
+        } => no(reference::order_tests(
+            *places, 0, *curves, *method, wants, *order_len,
+        )),
         Case::PlanOrder {
             places,
             curves,
             wants,
-            warm_ups,
             held,
             order,
             drops_len,
             loads_len,
             ..
-        } => {
-            let tests = (wants, warm_ups);
-            no(reference::plan(
-                *places, 0, *curves, tests, *held, order, *drops_len, *loads_len,
-            ))
-        }
+        } => no(reference::plan(
+            *places, 0, *curves, wants, *held, order, *drops_len, *loads_len,
+        )),
         Case::CheckPlan {
             places,
             curves,
             wants,
-            warm_ups,
             held,
             order,
             drops,
             loads,
             end,
             ..
-        } => {
-            let tests = (wants, warm_ups);
-            no(reference::check_plan(
-                *places, 0, *curves, tests, *held, order, drops, loads, *end,
-            ))
-        }
+        } => no(reference::check_plan(
+            *places, 0, *curves, wants, *held, order, drops, loads, *end,
+        )),
         Case::WritePlan {
             places,
             curves,
             wants,
-            warm_ups,
             held,
             order,
             drops,
@@ -682,12 +646,9 @@ fn refused_unbooked(case: &Case) -> Option<Refusal> {
             end,
             out_len,
             ..
-        } => {
-            let tests = (wants, warm_ups);
-            no(reference::write_plan(
-                *places, 0, *curves, tests, *held, order, drops, loads, *end, *out_len,
-            ))
-        }
+        } => no(reference::write_plan(
+            *places, 0, *curves, wants, *held, order, drops, loads, *end, *out_len,
+        )),
         Case::Examine {
             places,
             curves,
@@ -705,21 +666,17 @@ fn refused_unbooked(case: &Case) -> Option<Refusal> {
             places,
             curves,
             wants,
-            warm_ups,
             held,
             order,
             ..
-        } => {
-            let tests = (wants, warm_ups);
-            no(Made::new(*places, 0, *curves, tests, *held, order))
-        }
+        } => no(Made::new(*places, 0, *curves, wants, *held, order)),
         _ => None,
     }
 }
 
 /// The fault of the booked places and another one, the one that is answered first; a name of this
 /// list, of which a function has those that it can refuse.
-pub const TWICE: [&str; 24] = [
+pub const TWICE: [&str; 20] = [
     "10:0+10:260",
     "10:1+10:260",
     "10:2+10:260",
@@ -735,15 +692,11 @@ pub const TWICE: [&str; 24] = [
     "10:260+9",
     "10:260+12",
     "10:260+14",
-    "10:260+16",
-    "10:260+17",
     "13+7",
     "13+8",
     "13+9",
     "13+12",
     "13+14",
-    "13+16",
-    "13+17",
 ];
 
 /// Those of them that a function with such refusals can have.
@@ -851,19 +804,17 @@ pub fn order_kinds(
     places: usize,
     booked: usize,
     wants: &[u64],
-    warm_ups: &[u16],
     order: &[u16],
 ) -> Vec<&'static str> {
     if booked == 0 {
         return vec![];
     }
     let capacity = less_booked(places, booked);
-    let packages = |bound: usize, run: usize| drawn_out(warm_ups, &packages(bound, run, wants));
-    assert_eq!(packages(capacity, capacity), order, "{wants:x?}");
+    assert_eq!(packages(capacity, capacity, wants), order, "{wants:x?}");
     let bounds = [(places, capacity), (capacity, places), (places, places)];
     let mut kinds = Vec::new();
     for ((bound, run), name) in bounds.into_iter().zip(&ORDERS[1..]) {
-        if packages(bound, run) != order {
+        if packages(bound, run, wants) != order {
             kinds.push(*name);
         }
     }
@@ -964,7 +915,7 @@ pub const SHEETS: [&str; 2] = ["first-line-alone", "other-lines"];
 fn raw_planned(planned: &PlannedJob) -> (Vec<u16>, Plan) {
     let (job, order, _) = planned;
     let order = match job.method {
-        3 => drawn_out(&job.warm_ups, &packages(job.places, job.places, &job.wants)),
+        3 => packages(job.places, job.places, &job.wants),
         _ => order.clone(),
     };
     let (curves, tests) = (job.curves, job.tests);
@@ -1044,7 +995,7 @@ pub fn audit_kinds(
                 read.places,
                 0,
                 read.curves,
-                (wants, &read.warm_ups),
+                wants,
                 0,
                 &order,
                 &steps.drops(),

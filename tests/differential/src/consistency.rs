@@ -5,7 +5,7 @@ use crate::booked;
 use crate::empty;
 use crate::fast;
 use crate::generate::{self, permutation, with_booked, Case, Ending, Size, ENDINGS, FUNCTIONS};
-use crate::generate::{JOB, PLAN_MADE, PLAN_READ, WARMED_JOB};
+use crate::generate::{JOB, PLAN_MADE, PLAN_READ};
 use crate::parts;
 use crate::random::Random;
 use crate::reference::*;
@@ -13,7 +13,6 @@ use crate::sizes;
 use crate::states::Made;
 use crate::ties;
 use crate::tuned;
-use crate::warm_ups;
 use crate::withdrawn;
 use std::collections::BTreeSet;
 
@@ -339,7 +338,6 @@ fn the_two_checks_agree() {
             drops,
             loads,
             end,
-            ..
         } = generate::case_of(4, size, &mut random)
         else {
             unreachable!()
@@ -531,8 +529,7 @@ fn job_bytes_that_read_are_those_written() {
             read += 1;
             with_booked += (job.booked > 0) as usize;
             let (places, booked, curves) = (job.places, job.booked, job.curves);
-            let tests = (&job.wants, &job.warm_ups);
-            let again = write_job(places, booked, curves, job.method, tests, WARMED_JOB);
+            let again = write_job(places, booked, curves, job.method, &job.wants, JOB);
             with_2 += (again != Ok(bytes.clone())) as usize;
             assert_eq!(again, Ok(withdrawn::written_back(&bytes)));
         }
@@ -800,7 +797,6 @@ fn every_job_without_tests() {
             tests: 0,
             method,
             wants: vec![],
-            warm_ups: vec![],
         };
         assert_eq!(read_job(&bytes, 0), Ok(job));
         let needed = bytes.len();
@@ -828,8 +824,8 @@ fn every_job_without_tests() {
     }
 }
 
-/// Whatever job bytes there are whose map has no field of tests or booked places, and no warm-ups: up to
-/// two bytes behind the map, and a few with three or four. Those that read are the jobs without tests. Of the others those that such a job
+/// Whatever job bytes there are whose map has no field of tests or booked places: up to two bytes behind
+/// the map, and a few with three or four. Those that read are the jobs without tests. Of the others those that such a job
 /// begins with are cut; of the rest the first byte is refused with which no such job begins any more,
 /// as surplus if a whole job stands before it.
 #[test]
@@ -847,7 +843,7 @@ fn every_short_job_without_tests() {
     }
     let bytes = || 0..=255u8;
     let mut tried: Vec<Vec<u8>> = Vec::new();
-    for map in bytes().filter(|map| map & 4 == 0 && !(16..64).contains(map)) {
+    for map in bytes().filter(|map| map & 4 == 0 && !(16..32).contains(map)) {
         tried.push(vec![map]);
         tried.extend(bytes().map(|a| vec![map, a]));
         if map < 16 {
@@ -898,11 +894,9 @@ fn refused_without_tests(case: &Case) -> Option<Result<(), Refusal>> {
             curves,
             method,
             wants,
-            warm_ups,
             out_len,
         } => {
-            let tests = (wants, warm_ups);
-            let answer = write_job(*places, *booked, *curves, *method, tests, *out_len);
+            let answer = write_job(*places, *booked, *curves, *method, wants, *out_len);
             let needed = empty::job_length(*places, *booked, *curves, *method);
             answer.map(|bytes| assert_eq!(bytes.len(), needed))
         }
@@ -912,11 +906,9 @@ fn refused_without_tests(case: &Case) -> Option<Result<(), Refusal>> {
             curves,
             method,
             wants,
-            warm_ups,
             order_len,
         } => {
-            let tests = (wants, warm_ups);
-            let answer = order_tests(*places, *booked, *curves, *method, tests, *order_len);
+            let answer = order_tests(*places, *booked, *curves, *method, wants, *order_len);
             answer.map(|order| assert!(order.is_empty()))
         }
         Case::PlanOrder {
@@ -924,15 +916,13 @@ fn refused_without_tests(case: &Case) -> Option<Result<(), Refusal>> {
             booked,
             curves,
             wants,
-            warm_ups,
             held,
             order,
             drops_len,
             loads_len,
         } => {
             let (p, b, c) = (*places, *booked, *curves);
-            let tests = (wants, warm_ups);
-            let answer = plan(p, b, c, tests, *held, order, *drops_len, *loads_len);
+            let answer = plan(p, b, c, wants, *held, order, *drops_len, *loads_len);
             answer.map(|plan| {
                 assert!(plan.drops.is_empty() && plan.loads.is_empty());
                 assert_eq!((plan.end, plan.count), (*held, 0));
@@ -943,7 +933,6 @@ fn refused_without_tests(case: &Case) -> Option<Result<(), Refusal>> {
             booked,
             curves,
             wants,
-            warm_ups,
             held,
             order,
             drops,
@@ -951,8 +940,7 @@ fn refused_without_tests(case: &Case) -> Option<Result<(), Refusal>> {
             end,
         } => {
             let (p, b, c) = (*places, *booked, *curves);
-            let tests = (wants, warm_ups);
-            let answer = check_plan(p, b, c, tests, *held, order, drops, loads, *end);
+            let answer = check_plan(p, b, c, wants, *held, order, drops, loads, *end);
             answer.map(|count| assert_eq!(count, 0))
         }
         Case::WritePlan {
@@ -960,7 +948,6 @@ fn refused_without_tests(case: &Case) -> Option<Result<(), Refusal>> {
             booked,
             curves,
             wants,
-            warm_ups,
             held,
             order,
             drops,
@@ -969,8 +956,7 @@ fn refused_without_tests(case: &Case) -> Option<Result<(), Refusal>> {
             out_len,
         } => {
             let (p, b, c) = (*places, *booked, *curves);
-            let tests = (wants, warm_ups);
-            let answer = write_plan(p, b, c, tests, *held, order, drops, loads, *end, *out_len);
+            let answer = write_plan(p, b, c, wants, *held, order, drops, loads, *end, *out_len);
             answer.map(|bytes| assert_eq!(bytes.len(), empty::end_length(*held)))
         }
         Case::ReadPlan {
@@ -1008,12 +994,10 @@ fn refused_without_tests(case: &Case) -> Option<Result<(), Refusal>> {
             booked,
             curves,
             wants,
-            warm_ups,
             held,
             order,
         } => {
-            let tests = (wants, warm_ups);
-            let answer = Made::new(*places, *booked, *curves, tests, *held, order);
+            let answer = Made::new(*places, *booked, *curves, wants, *held, order);
             answer.map(|made| assert_eq!((made.tests(), made.held()), (0, *held)))
         }
         Case::Examine {
@@ -1031,7 +1015,6 @@ fn refused_without_tests(case: &Case) -> Option<Result<(), Refusal>> {
         } => examine_by(*places, *booked, *curves, *method, wants),
         Case::ExamineCounts { curves, tests } => examine_counts(*curves, *tests),
         Case::ExamineSizes { capacity, wants } => examine_sizes(*capacity, wants),
-        Case::ExamineWarmUps { tests, warm_ups } => examine_warm_ups(*tests, warm_ups),
         Case::PackageOrder {
             capacity, wants, ..
         } => {
@@ -1041,20 +1024,18 @@ fn refused_without_tests(case: &Case) -> Option<Result<(), Refusal>> {
         Case::AllSizes {
             curves,
             wants,
-            warm_ups,
             order,
         } => {
-            let answer = sizes::all_sizes(*curves, (wants, warm_ups), order);
+            let answer = sizes::all_sizes(*curves, wants, order);
             answer.map(|counts| assert_eq!(counts, [Some(0); 64]))
         }
         Case::FewestPlaces {
             curves,
             wants,
-            warm_ups,
             order,
             loads,
         } => {
-            let answer = sizes::fewest_places(*curves, (wants, warm_ups), order, loads[0]);
+            let answer = sizes::fewest_places(*curves, wants, order, loads[0]);
             answer.map(|places| assert_eq!(places, Some(1)))
         }
         _ => return None,
@@ -1089,7 +1070,6 @@ fn the_first_fault_without_tests_decides() {
                     (10, 260) => &["10:260"],
                     (13, 0) => &["13"],
                     (14, 0..=63) => &["14"],
-                    (16, 0) => &["16"],
                     (11, _) => &["11"],
                     (12, 0) => &["12:lengths", "12:end"],
                     _ => panic!("{no:?} of {text}"),
@@ -1105,7 +1085,7 @@ fn the_first_fault_without_tests_decides() {
         }
     }
     // All that are handed numbers or lists and may refuse, the steps fetched, and the packages.
-    assert_eq!(functions.len(), 16, "{functions:?}");
+    assert_eq!(functions.len(), 15, "{functions:?}");
 }
 
 #[test]
@@ -1139,11 +1119,11 @@ fn bytes_past_the_longest_job_change_nothing() {
             0..60 => generate::any_job_bytes(&mut random, Size::Full),
             _ => generate::job_bytes(&booked::longest_job(&mut random)),
         };
-        while bytes.len() < 2_700 {
+        while bytes.len() < 2_400 {
             bytes.push(random.byte());
         }
         let all = read_job(&bytes, 256);
-        let part = read_job(&bytes[..WARMED_JOB + 1], 256);
+        let part = read_job(&bytes[..JOB + 1], 256);
         assert_eq!(all, part);
     }
 }
@@ -1163,13 +1143,6 @@ fn tuned_and_the_c_program_agree() {
             _ if round % 8 == 1 => withdrawn::any_bytes(&mut random),
             _ => generate::any_job_bytes(&mut random, size),
         };
-        let job = match round % 5 {
-            0 if round >= 500 => warm_ups::with_part(&mut random, job, None),
-            _ => job,
-        };
-        if !warm_ups::asked_of_fast(&job) {
-            continue;
-        }
         let length = match round {
             0..=3 => PLAN_MADE,
             4..=7 => PLAN_MADE - 1,

@@ -5,7 +5,6 @@ use crate::generate::{
     all_curves, enough, random_set, with_booked, Case, Job, FUNCTIONS, PLAN_MADE, SHEET,
 };
 use crate::random::Random;
-use crate::reference::none;
 use crate::withdrawn::old_or_new;
 use std::collections::BTreeSet;
 
@@ -175,7 +174,6 @@ pub fn case(function: usize, random: &mut Random) -> Option<Case> {
                 booked,
                 curves,
                 method,
-                warm_ups: none(wants.len()),
                 wants,
                 order_len,
             }

@@ -7,11 +7,10 @@ use crate::generate::{
     with_booked, Case, Job, Size, WILD,
 };
 use crate::random::Random;
-use crate::reference::{drawn_out, none, read_job, Answer, Refusal};
+use crate::reference::{read_job, Answer, Refusal};
 use crate::sizes::{
     all_sizes, different_curves, fewest, table_text, wanted, Counts, Table, MARK, SIZES,
 };
-use crate::warm_ups;
 use crate::withdrawn::{self, field_of_2, old_or_new};
 use std::collections::BTreeSet;
 
@@ -23,13 +22,12 @@ use std::collections::BTreeSet;
 pub struct List {
     pub curves: usize,
     pub wants: Vec<u64>,
-    pub warm_ups: Vec<u16>,
     pub order: Vec<u16>,
 }
 
 impl List {
     pub fn counts(&self) -> Answer<Counts> {
-        all_sizes(self.curves, (&self.wants, &self.warm_ups), &self.order)
+        all_sizes(self.curves, &self.wants, &self.order)
     }
 
     fn listed(&self) -> List {
@@ -46,19 +44,16 @@ pub fn list_of(case: &Case) -> Option<List> {
         Case::AllSizes {
             curves,
             wants,
-            warm_ups,
             order,
         }
         | Case::FewestPlaces {
             curves,
             wants,
-            warm_ups,
             order,
             ..
         } => Some(List {
             curves: *curves,
             wants: wants.clone(),
-            warm_ups: warm_ups.clone(),
             order: order.clone(),
         }),
         _ => None,
@@ -177,7 +172,6 @@ fn extreme(random: &mut Random) -> List {
     List {
         curves: 64,
         wants,
-        warm_ups: none(256),
         order,
     }
 }
@@ -190,7 +184,6 @@ pub fn sound(random: &mut Random, size: Size) -> List {
     List {
         curves,
         wants: wants(random, tests, curves),
-        warm_ups: none(tests),
         order: permutation(random, tests),
     }
 }
@@ -198,18 +191,16 @@ pub fn sound(random: &mut Random, size: Size) -> List {
 // ---------------------------------------------------------------------------------------------
 // Faults
 
-/// What can be faulty. The first four are asked in this sequence, and before 8; of 8 the first position
-/// counts; 17 is asked behind it.
-pub const FAULTS: [&str; 9] = [
+/// What can be faulty. The first three are asked in this sequence, and before 8; of 8 the first position
+/// counts.
+pub const FAULTS: [&str; 7] = [
     "10:1",
     "10:2",
     "10:4+t",
-    "16",
     "8:short",
     "8:long",
     "8:repeated",
     "8:outside",
-    "17",
 ];
 
 /// All that is faulty, each whatever else is. Repeated numbers and those out of range count where a test
@@ -223,12 +214,10 @@ pub fn faults(list: &List) -> Vec<&'static str> {
         !(1..=64).contains(&list.curves),
         tests > 256,
         list.wants.iter().any(|want| want & !own != 0),
-        warm_ups::first_fault(tests, &list.warm_ups).is_some(),
         list.order.len() < tests,
         list.order.len() > tests,
         different.len() < order.len(),
         order.iter().any(|&test| test as usize >= tests),
-        warm_ups::runs_before(&list.warm_ups, order),
     ];
     let named = FAULTS.iter().zip(faulty).filter(|(_, faulty)| *faulty);
     named.map(|(name, _)| *name).collect()
@@ -241,13 +230,10 @@ fn spoil(random: &mut Random, list: &mut List, fault: &str) {
         "10:1" => list.curves = random.pick(&WILD),
         "10:2" => {
             spoil_tests(random, &mut list.wants);
-            list.warm_ups.resize(list.wants.len(), 256);
             if random.chance(1, 2) {
                 list.order = permutation(random, list.wants.len());
             }
         }
-        "16" => warm_ups::spoil(random, &mut list.warm_ups),
-        "17" => list.warm_ups = warm_ups::broken(random, tests, &list.order),
         "8:long" => {
             if list.order.len() < tests {
                 list.order = permutation(random, tests);
@@ -291,9 +277,6 @@ fn spoil(random: &mut Random, list: &mut List, fault: &str) {
 fn any_list(random: &mut Random, size: Size) -> List {
     let size = larger(random, size);
     let mut list = sound(random, size);
-    if random.chance(1, 3) {
-        list.warm_ups = warm_ups::kept(random, list.wants.len(), &list.order);
-    }
     for _ in 0..random.pick(&[0, 0, 0, 1, 2, 2, 3]) {
         let fault = random.pick(&FAULTS);
         spoil(random, &mut list, fault);
@@ -356,7 +339,6 @@ pub fn sizes_case(random: &mut Random, size: Size) -> Case {
     Case::AllSizes {
         curves: list.curves,
         wants: list.wants,
-        warm_ups: list.warm_ups,
         order: list.order,
     }
 }
@@ -545,7 +527,6 @@ pub fn fewest_case(random: &mut Random, size: Size) -> Case {
     Case::FewestPlaces {
         curves: list.curves,
         wants: list.wants,
-        warm_ups: list.warm_ups,
         order: list.order,
         loads,
     }
@@ -792,7 +773,6 @@ pub fn table_kinds(
     note(by(listed), "others-as-listed");
     if table.method == 3 && read.booked > 0 && table.tests <= 24 {
         let raw = booked::packages(read.places, read.places, &read.wants);
-        let raw = drawn_out(&read.warm_ups, &raw);
         note(by(raw), "others-by-raw-places");
     }
     note(out_len == length, "exact");

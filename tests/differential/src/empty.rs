@@ -39,8 +39,7 @@ pub fn without_tests(case: &Case) -> Option<bool> {
         Case::ReadPlan { tests, .. }
         | Case::StepBytes { tests, .. }
         | Case::ExamineCounts { tests, .. }
-        | Case::ListedOrder { tests, .. }
-        | Case::ExamineWarmUps { tests, .. } => Some(*tests == 0),
+        | Case::ListedOrder { tests, .. } => Some(*tests == 0),
         Case::Reverse { length } => Some(*length == 0),
         Case::ReadGroup { .. }
         | Case::GroupMap { .. }
@@ -73,8 +72,8 @@ const FIELDS: [(u8, &[u8], &[u8]); 3] = [
 ];
 
 /// Job bytes that give no tests: sound, with faulty fields, with booked places not below the places,
-/// cut, with a tests field of 0, with a bit of the map that has no field, with that of a warm-up part,
-/// with bytes behind, or with two of these faults.
+/// cut, with a tests field of 0, with a bit of the map that has no field, with bytes behind, or with
+/// two of these faults.
 pub fn job_bytes(random: &mut Random) -> Vec<u8> {
     let mut map = random.pick(&[0, 1, 2, 3, 8, 9, 10, 11]);
     if random.chance(1, 2) {
@@ -109,11 +108,7 @@ pub fn job_bytes(random: &mut Random) -> Vec<u8> {
         _ => {}
     }
     if random.chance(1, 16) {
-        bytes[0] |= 1 << random.between(6, 7);
-    }
-    // A warm-up part has no test that it could be of.
-    if random.chance(1, 12) {
-        bytes[0] |= 32;
+        bytes[0] |= 1 << random.between(5, 7);
     }
     if fault > 7 || fault > 3 && random.chance(1, 3) {
         for _ in 0..random.between(1, 3) {
@@ -178,12 +173,6 @@ fn entries<T>(random: &mut Random, entry: impl Fn(&mut Random) -> T) -> Vec<T> {
 fn order(random: &mut Random) -> Vec<u16> {
     entries(random, |random| {
         random.pick(&[0, 0, 1, 2, 255, 256, u16::MAX])
-    })
-}
-
-fn warm_ups(random: &mut Random) -> Vec<u16> {
-    entries(random, |random| {
-        random.pick(&[256, 256, 0, 1, 255, 257, u16::MAX])
     })
 }
 
@@ -276,7 +265,6 @@ pub fn case(function: usize, random: &mut Random) -> Option<Case> {
         "read_job" => Case::ReadJob {
             job: job_bytes(random),
             wants_len: any_length(random),
-            warm_ups_len: any_length(random),
         },
         "write_job" => {
             let (places, booked, curves, method) = numbers(random);
@@ -291,7 +279,6 @@ pub fn case(function: usize, random: &mut Random) -> Option<Case> {
                 curves,
                 method,
                 wants: vec![],
-                warm_ups: warm_ups(random),
                 out_len: lent(random, needed),
             }
         }
@@ -303,7 +290,6 @@ pub fn case(function: usize, random: &mut Random) -> Option<Case> {
                 curves,
                 method,
                 wants: vec![],
-                warm_ups: warm_ups(random),
                 order_len: any_length(random),
             }
         }
@@ -314,7 +300,6 @@ pub fn case(function: usize, random: &mut Random) -> Option<Case> {
                 booked,
                 curves,
                 wants: vec![],
-                warm_ups: warm_ups(random),
                 held: held(random, curves),
                 order: order(random),
                 drops_len: any_length(random),
@@ -329,7 +314,6 @@ pub fn case(function: usize, random: &mut Random) -> Option<Case> {
                 booked,
                 curves,
                 wants: vec![],
-                warm_ups: warm_ups(random),
                 held,
                 order: order(random),
                 drops: sets(random),
@@ -346,7 +330,6 @@ pub fn case(function: usize, random: &mut Random) -> Option<Case> {
                 booked,
                 curves,
                 wants: vec![],
-                warm_ups: warm_ups(random),
                 held,
                 order: order(random),
                 drops: sets(random),
@@ -448,13 +431,11 @@ pub fn case(function: usize, random: &mut Random) -> Option<Case> {
         "all_sizes" => Case::AllSizes {
             curves: number(random, 1, 64, 64, &WILD),
             wants: vec![],
-            warm_ups: warm_ups(random),
             order: order(random),
         },
         "fewest_places" => Case::FewestPlaces {
             curves: number(random, 1, 64, 64, &WILD),
             wants: vec![],
-            warm_ups: warm_ups(random),
             order: order(random),
             loads: vec![0, any_number(random), usize::MAX],
         },
@@ -462,10 +443,6 @@ pub fn case(function: usize, random: &mut Random) -> Option<Case> {
             let job = job_bytes(random);
             drives::table_of(random, job)
         }
-        "examine_warm_ups" => Case::ExamineWarmUps {
-            tests: 0,
-            warm_ups: warm_ups(random),
-        },
         _ => return None,
     })
 }
@@ -493,7 +470,7 @@ pub fn end_length(end: u64) -> usize {
 
 /// All that is faulty in a case without tests, in the sequence of the papers, so that the first is
 /// answered: 10 with its figure; 13 wherever booked is not below places; 14 wherever a curve is held
-/// that is not below curves; 16 for entries in the warm-ups; 12 for entries in the drops or loads, or for an end set that is not what
+/// that is not below curves; 12 for entries in the drops or loads, or for an end set that is not what
 /// is held; the others by their number. Faults in job bytes and what a text tells are left out.
 pub fn faults(case: &Case) -> Vec<&'static str> {
     let mut faults = Vec::new();
@@ -543,32 +520,37 @@ pub fn faults(case: &Case) -> Vec<&'static str> {
         }
         _ => {}
     }
-    if let Case::PlanOrder { curves, held, .. }
-    | Case::CheckPlan { curves, held, .. }
-    | Case::WritePlan { curves, held, .. }
-    | Case::MakeState { curves, held, .. } = case
-    {
-        note(!parts::inside(*held, parts::below(*curves)), "14");
-    }
     match case {
-        Case::WriteJob { warm_ups, .. }
-        | Case::OrderTests { warm_ups, .. }
-        | Case::PlanOrder { warm_ups, .. }
-        | Case::CheckPlan { warm_ups, .. }
-        | Case::WritePlan { warm_ups, .. }
-        | Case::MakeState { warm_ups, .. }
-        | Case::AllSizes { warm_ups, .. }
-        | Case::FewestPlaces { warm_ups, .. }
-        | Case::ExamineWarmUps { warm_ups, .. } => note(!warm_ups.is_empty(), "16"),
-        _ => {}
-    }
-    match case {
-        Case::PlanOrder { order, .. }
-        | Case::CheckPlan { order, .. }
-        | Case::WritePlan { order, .. }
-        | Case::MakeState { order, .. }
-        | Case::AllSizes { order, .. }
-        | Case::FewestPlaces { order, .. } => note(!order.is_empty(), "8"),
+        Case::PlanOrder {
+            curves,
+            held,
+            order,
+            ..
+        }
+        | Case::CheckPlan {
+            curves,
+            held,
+            order,
+            ..
+        }
+        | Case::WritePlan {
+            curves,
+            held,
+            order,
+            ..
+        }
+        | Case::MakeState {
+            curves,
+            held,
+            order,
+            ..
+        } => {
+            note(!parts::inside(*held, parts::below(*curves)), "14");
+            note(!order.is_empty(), "8");
+        }
+        Case::AllSizes { order, .. } | Case::FewestPlaces { order, .. } => {
+            note(!order.is_empty(), "8");
+        }
         _ => {}
     }
     match case {

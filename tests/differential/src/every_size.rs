@@ -225,7 +225,6 @@ fn assert_single_plans(list: &List, sizes: impl Iterator<Item = usize>) {
         curves,
         wants,
         order,
-        ..
     } = list;
     let counts = list.counts().unwrap();
     let numbers = numbers(&counts);
@@ -335,7 +334,6 @@ fn the_fewest_places() {
             curves,
             wants,
             order,
-            ..
         } = list;
         let counts = numbers(&list.counts().unwrap());
         let serves = |places: usize, loads: usize| {
@@ -517,7 +515,6 @@ fn the_first_fault_decides() {
         let List {
             curves,
             wants,
-            warm_ups,
             order,
         } = &list;
         let answer = list.counts();
@@ -527,9 +524,7 @@ fn the_first_fault_decides() {
                 (10, 1) => "10:1",
                 (10, 2) => "10:2",
                 (10, _) => "10:4+t",
-                (16, _) => "16",
                 (8, _) => "8:",
-                (17, _) => "17",
                 _ => panic!("{no:?} of {list:x?}"),
             }),
         };
@@ -538,12 +533,9 @@ fn the_first_fault_decides() {
             Some(first) => assert!(first.starts_with(told.unwrap()), "{list:x?}"),
         }
         if let Err(no) = answer {
-            let both = (wants, warm_ups);
-            for places in [1, 64] {
-                let planned = plan(places, 0, *curves, both, 0, order, usize::MAX, usize::MAX);
-                assert_eq!(planned, Err(no));
-            }
-            assert_eq!(fewest_places(*curves, both, order, 7), Err(no));
+            assert_eq!(single(64, *curves, wants, order), Err(no));
+            assert_eq!(single(1, *curves, wants, order), Err(no));
+            assert_eq!(fewest_places(*curves, wants, order, 7), Err(no));
         }
         met.extend(drives::fault_kinds(&list, &names));
         positions.extend(drives::position_kind(&list, &answer));
@@ -630,8 +622,7 @@ fn small_tables() {
         ("", "refused 1 at 0\n"),
         ("01", "refused 1 at 1\n"),
         ("01 08", "refused 2 at 1\n"),
-        ("40", "refused 2 at 0\n"),
-        ("20", "refused 16 at 1\n"),
+        ("20", "refused 2 at 0\n"),
         ("04 01 00 01 00", "refused 3 at 4\n"),
         ("06 04 01 00 01 10", "refused 4 at 5\n"),
         ("04 01 00 00 00", "refused 6 at 4\n"),
@@ -756,7 +747,6 @@ fn what_is_told() {
     let list = List {
         curves: 4,
         wants: a_wants(),
-        warm_ups: none(4),
         order: vec![2, 0, 1, 3],
     };
     let counts = list.counts().unwrap();
@@ -821,7 +811,6 @@ fn what_is_told() {
     let list = List {
         curves: 64,
         wants: vec![all_curves(64); 256],
-        warm_ups: none(256),
         order: as_listed(256),
     };
     assert_eq!(

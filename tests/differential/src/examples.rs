@@ -41,8 +41,7 @@ fn job_a_reads_and_writes() {
             curves: 4,
             tests: 4,
             method: 0,
-            wants: a_wants(),
-            warm_ups: none(4),
+            wants: a_wants()
         }
     );
     assert_eq!(write_job(2, 0, 4, 0, &a_wants(), 13).unwrap(), bytes(A));
@@ -479,7 +478,6 @@ fn a_list_without_tests() {
         tests: 0,
         method: 0,
         wants: vec![],
-        warm_ups: vec![],
     };
     assert_eq!(read_job(&job, 0), Ok(read));
     assert_eq!(write_job(8, 0, 64, 0, &[], 1), Ok(job.clone()));
@@ -573,7 +571,7 @@ const WITHOUT_TESTS_REFUSED: [(&str, u64, u64); 12] = [
     ("0b 02 04", 1, 3),
     ("0b 02 40 04 ff", 2, 2),
     ("09 02 04 00", 2, 2),
-    ("40", 2, 0),
+    ("20", 2, 0),
 ];
 
 #[test]
@@ -766,7 +764,7 @@ fn refusals_of_job_bytes() {
         ("06 04 01 00 01 10", 4, 5),
         // Not in the paper's list, but in its words.
         ("10", 1, 1),
-        ("40", 2, 0),
+        ("20", 2, 0),
         ("80", 2, 0),
         ("02 40", 2, 1),
         ("02 00", 2, 1),

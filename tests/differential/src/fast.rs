@@ -9,10 +9,8 @@ pub struct Job {
     capacity: u32,
     tests: u32,
     method: u32,
-    warmed: u32,
     wants: [u64; TESTS],
     sizes: [u8; TESTS],
-    warm_ups: [u16; TESTS],
 }
 
 extern "C" {
@@ -40,10 +38,8 @@ impl Stages {
                 capacity: 0,
                 tests: 0,
                 method: 0,
-                warmed: 0,
                 wants: [0; TESTS],
                 sizes: [0; TESTS],
-                warm_ups: [0; TESTS],
             },
             order: [0; TESTS],
             bytes: [0; BYTES],

@@ -6,11 +6,10 @@ use crate::drives;
 use crate::empty;
 use crate::holding;
 use crate::parts;
-use crate::random::{mix, Random};
-use crate::reference::{self, none, TieRule};
+use crate::random::Random;
+use crate::reference::{self, TieRule};
 use crate::states::Any;
 use crate::walks::{self, List, Move};
-use crate::warm_ups;
 use crate::withdrawn::{self, old_or_new};
 use std::fmt::Write;
 
@@ -20,7 +19,6 @@ pub enum Case {
     ReadJob {
         job: Vec<u8>,
         wants_len: usize,
-        warm_ups_len: usize,
     },
     WriteJob {
         places: usize,
@@ -28,7 +26,6 @@ pub enum Case {
         curves: usize,
         method: usize,
         wants: Vec<u64>,
-        warm_ups: Vec<u16>,
         out_len: usize,
     },
     OrderTests {
@@ -37,7 +34,6 @@ pub enum Case {
         curves: usize,
         method: usize,
         wants: Vec<u64>,
-        warm_ups: Vec<u16>,
         order_len: usize,
     },
     PlanOrder {
@@ -45,7 +41,6 @@ pub enum Case {
         booked: usize,
         curves: usize,
         wants: Vec<u64>,
-        warm_ups: Vec<u16>,
         /// What the drive holds at the start.
         held: u64,
         order: Vec<u16>,
@@ -57,7 +52,6 @@ pub enum Case {
         booked: usize,
         curves: usize,
         wants: Vec<u64>,
-        warm_ups: Vec<u16>,
         held: u64,
         order: Vec<u16>,
         drops: Vec<u64>,
@@ -69,7 +63,6 @@ pub enum Case {
         booked: usize,
         curves: usize,
         wants: Vec<u64>,
-        warm_ups: Vec<u16>,
         held: u64,
         order: Vec<u16>,
         drops: Vec<u64>,
@@ -170,7 +163,6 @@ pub enum Case {
         booked: usize,
         curves: usize,
         wants: Vec<u64>,
-        warm_ups: Vec<u16>,
         held: u64,
         order: Vec<u16>,
     },
@@ -192,14 +184,12 @@ pub enum Case {
     AllSizes {
         curves: usize,
         wants: Vec<u64>,
-        warm_ups: Vec<u16>,
         order: Vec<u16>,
     },
     /// For each of these wanted counts.
     FewestPlaces {
         curves: usize,
         wants: Vec<u64>,
-        warm_ups: Vec<u16>,
         order: Vec<u16>,
         loads: Vec<usize>,
     },
@@ -208,11 +198,6 @@ pub enum Case {
         asked: usize,
         loads: usize,
         out_len: usize,
-    },
-    /// Of any number of tests.
-    ExamineWarmUps {
-        tests: usize,
-        warm_ups: Vec<u16>,
     },
 }
 
@@ -253,7 +238,7 @@ pub(crate) const PLAN_ORDER: usize = 3;
 /// host's own call, and `walk` is none: making a state, looks and commits, and planning beside them.
 /// What tells a refusal's number and figure has no cases of its own: every refusal is answered, or
 /// printed, through it, and each of them occurs.
-pub const FUNCTIONS: [&str; 40] = [
+pub const FUNCTIONS: [&str; 39] = [
     "read_job",
     "write_job",
     "order_tests",
@@ -293,11 +278,10 @@ pub const FUNCTIONS: [&str; 40] = [
     "all_sizes",
     "fewest_places",
     "size_table",
-    "examine_warm_ups",
 ];
 
-/// How often each function gets a case, of 1,216.
-const SHARES: [usize; 40] = [
+/// How often each function gets a case, of 1,200.
+const SHARES: [usize; 39] = [
     106, 64, 96, 96, 88, 72, 86, 48, 96, 44, 50, // bytes, orders, plans and texts
     14, 14, 10, 14, // examinations
     20, 6, 6, 14, // sets in bytes
@@ -305,7 +289,6 @@ const SHARES: [usize; 40] = [
     4, 4, 4, 4, 4, 4, 4, 4, 4, 4, // sets
     36, 20, 24, 40, // states
     32, 20, 28, // all drive sizes
-    16, // warm-ups
 ];
 
 impl Case {
@@ -341,7 +324,6 @@ impl Case {
             Case::AllSizes { .. } => 36,
             Case::FewestPlaces { .. } => 37,
             Case::SizeTable { .. } => 38,
-            Case::ExamineWarmUps { .. } => 39,
         }
     }
 
@@ -352,14 +334,7 @@ impl Case {
             let _ = writeln!(text, "  {name} = {value}");
         };
         match self {
-            Case::ReadJob {
-                wants_len,
-                warm_ups_len,
-                ..
-            } => {
-                number("wants_len", *wants_len);
-                number("warm_ups_len", *warm_ups_len);
-            }
+            Case::ReadJob { wants_len, .. } => number("wants_len", *wants_len),
             Case::WriteJob {
                 places,
                 booked,
@@ -501,7 +476,6 @@ impl Case {
                 number("tests", *tests);
             }
             Case::ExamineSizes { capacity, .. } => number("capacity", *capacity),
-            Case::ExamineWarmUps { tests, .. } => number("tests", *tests),
             Case::ReadGroup {
                 at, group, curves, ..
             } => {
@@ -564,10 +538,7 @@ impl Case {
             | Case::ExamineBy { wants, .. }
             | Case::ExamineSizes { wants, .. }
             | Case::PackageOrder { wants, .. } => list("wants", hex_sets(wants)),
-            Case::ExamineCounts { .. }
-            | Case::ExamineWarmUps { .. }
-            | Case::Reverse { .. }
-            | Case::ListedOrder { .. } => {}
+            Case::ExamineCounts { .. } | Case::Reverse { .. } | Case::ListedOrder { .. } => {}
             Case::ReadGroup { rest, .. } => list("rest", hex_bytes(rest)),
             Case::GroupMap { set } | Case::SetLen { set } | Case::PutSet { set, .. } => {
                 list("set", hex_sets(&[*set]))
@@ -627,22 +598,6 @@ impl Case {
                 list("plan", hex_bytes(plan))
             }
         }
-        if let Case::WriteJob { warm_ups, .. }
-        | Case::OrderTests { warm_ups, .. }
-        | Case::PlanOrder { warm_ups, .. }
-        | Case::CheckPlan { warm_ups, .. }
-        | Case::WritePlan { warm_ups, .. }
-        | Case::MakeState { warm_ups, .. }
-        | Case::Walk {
-            list: List { warm_ups, .. },
-            ..
-        }
-        | Case::AllSizes { warm_ups, .. }
-        | Case::FewestPlaces { warm_ups, .. }
-        | Case::ExamineWarmUps { warm_ups, .. } = self
-        {
-            list("warm_ups", hex_order(warm_ups));
-        }
         if let Case::Commit { positions, .. } = self {
             list(
                 "positions",
@@ -674,12 +629,8 @@ pub fn hex_order(list: &[u16]) -> Vec<String> {
 /// Room for every sheet: the longest has as many bytes.
 pub const SHEET: usize = 52_577;
 
-/// The longest job without warm-ups that reads: map, six bytes of fields, and 256 records of map and
-/// eight groups.
+/// The longest job that reads: map, six bytes of fields, and 256 records of map and eight groups.
 pub const JOB: usize = 2_311;
-
-/// The longest job that reads: behind that, 32 map bytes and a number for each test but the first.
-pub const WARMED_JOB: usize = 2_598;
 
 /// The longest plan that reads: 256 steps of map, two sets of nine bytes and test, and an end step of
 /// map and set.
@@ -1089,9 +1040,6 @@ fn crafted_job(random: &mut Random) -> Vec<u8> {
     if random.chance(1, 12) {
         map |= 1 << random.between(5, 7);
     }
-    if random.chance(1, 8) {
-        map |= 32;
-    }
     if random.chance(2, 3) {
         map |= 4;
     }
@@ -1157,11 +1105,6 @@ fn crafted_job(random: &mut Random) -> Vec<u8> {
                 random.pick(&[1, 1, 1, 2, 3]) & all_curves(curves.clamp(1, 64)) as u8
             };
             bytes.push(byte);
-        }
-    }
-    if map & 32 == 32 {
-        for _ in 0..random.between(0, 3) {
-            bytes.push(random.pick(&[0, 0, 1, 2, 2, 4, 6, 255]));
         }
     }
     bytes
@@ -1248,7 +1191,7 @@ pub fn any_job_bytes(random: &mut Random, size: Size) -> Vec<u8> {
             let length = random.below(24);
             let mut bytes: Vec<u8> = (0..length).map(|_| random.byte()).collect();
             if let Some(first) = bytes.first_mut() {
-                *first &= 63;
+                *first &= 31;
             }
             bytes
         }
@@ -1268,15 +1211,6 @@ pub(crate) fn lent(random: &mut Random, needed: usize) -> usize {
         13 => random.below(needed + 1),
         14 => needed + 256,
         _ => needed + 1,
-    }
-}
-
-/// The length of the warm-ups lent beside wants of this length, where so many are needed.
-pub(crate) fn beside_wants(random: &mut Random, needed: usize, wants_len: usize) -> usize {
-    match random.below(4) {
-        0 => lent(random, needed),
-        1 => wants_len,
-        _ => enough(random, needed),
     }
 }
 
@@ -2253,18 +2187,8 @@ fn spoilt_job(random: &mut Random, size: Size) -> Job {
 /// The first cases of a run go through every function on the bounds, 40 times each.
 pub const EDGE_CASES: u64 = 40 * FUNCTIONS.len() as u64;
 
-/// The case with this number; of this one function, if it is given. One in three of those that take
-/// warm-ups gets some.
+/// The case with this number; of this one function, if it is given.
 pub fn case(seed: u64, number: u64, only: Option<usize>) -> Case {
-    let mut random = Random::of_case(mix(seed), number);
-    let case = undressed(seed, number, only);
-    match random.below(3) {
-        0 => warm_ups::dressed(&mut random, case),
-        _ => case,
-    }
-}
-
-fn undressed(seed: u64, number: u64, only: Option<usize>) -> Case {
     let mut random = Random::of_case(seed, number);
     let random = &mut random;
     if number < EDGE_CASES {
@@ -2300,9 +2224,6 @@ fn undressed(seed: u64, number: u64, only: Option<usize>) -> Case {
             return case;
         }
     }
-    if let Some(case) = warm_ups::case(function, random) {
-        return case;
-    }
     let size = size(random);
     case_of(function, size, random)
 }
@@ -2315,11 +2236,9 @@ pub fn case_of(function: usize, size: Size, random: &mut Random) -> Case {
                 Ok(read) => read.tests,
                 Err(_) => random.below(20),
             };
-            let wants_len = lent(random, needed);
             Case::ReadJob {
                 job,
-                wants_len,
-                warm_ups_len: beside_wants(random, needed, wants_len),
+                wants_len: lent(random, needed),
             }
         }
         1 => {
@@ -2334,7 +2253,6 @@ pub fn case_of(function: usize, size: Size, random: &mut Random) -> Case {
                 booked: job.booked,
                 curves: job.curves,
                 method: job.method,
-                warm_ups: none(job.wants.len()),
                 wants: job.wants,
                 out_len: lent(random, needed),
             }
@@ -2356,7 +2274,6 @@ pub fn case_of(function: usize, size: Size, random: &mut Random) -> Case {
                 booked: job.booked,
                 curves: job.curves,
                 method: job.method,
-                warm_ups: none(job.wants.len()),
                 wants: job.wants,
                 order_len,
             }
@@ -2394,7 +2311,6 @@ pub fn case_of(function: usize, size: Size, random: &mut Random) -> Case {
                 booked: job.booked,
                 curves: job.curves,
                 wants: job.wants,
-                warm_ups: none(tests),
                 held,
                 order,
                 drops_len,
@@ -2407,7 +2323,6 @@ pub fn case_of(function: usize, size: Size, random: &mut Random) -> Case {
                 places: job.places,
                 booked: job.booked,
                 curves: job.curves,
-                warm_ups: none(job.wants.len()),
                 wants: job.wants,
                 held: 0,
                 order: made.order,
@@ -2464,7 +2379,6 @@ pub fn case_of(function: usize, size: Size, random: &mut Random) -> Case {
                     places,
                     booked,
                     curves,
-                    warm_ups: none(wants.len()),
                     wants,
                     held,
                     order,
@@ -2502,7 +2416,6 @@ pub fn case_of(function: usize, size: Size, random: &mut Random) -> Case {
                 booked,
                 curves,
                 wants,
-                warm_ups: none(tests),
                 held,
                 order,
                 drops,
@@ -2747,7 +2660,6 @@ pub fn case_of(function: usize, size: Size, random: &mut Random) -> Case {
         36 => drives::sizes_case(random, size),
         37 => drives::fewest_case(random, size),
         38 => drives::table_case(random, size),
-        39 => warm_ups::examined_case(random),
         _ => {
             let mut a = any_set(random);
             let mut b = beside(random, a);

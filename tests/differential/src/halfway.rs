@@ -6,7 +6,6 @@ use crate::holding;
 use crate::parts;
 use crate::random::Random;
 use crate::reference::*;
-use crate::warm_ups;
 use std::collections::BTreeSet;
 
 fn set(curves: &[u8]) -> u64 {
@@ -712,7 +711,6 @@ fn every_plan_that_passes_keeps_the_balance() {
             drops,
             loads,
             end,
-            ..
         } = case.clone()
         else {
             unreachable!()
@@ -827,10 +825,6 @@ fn cases_with_holdings() {
         for _ in 0..if takes { 10_000 } else { 9 } {
             let Some(case) = holding::case(function, &mut random) else {
                 continue;
-            };
-            let case = match random.below(3) {
-                0 => warm_ups::dressed(&mut random, case),
-                _ => case,
             };
             assert!(takes && case.function() == function);
             kinds.extend(holding::kinds(&case, true));

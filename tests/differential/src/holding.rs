@@ -9,7 +9,7 @@ use crate::generate::{
 };
 use crate::parts;
 use crate::random::Random;
-use crate::reference::{self, held_behind, none, Answer, Plan, Refusal, TieRule};
+use crate::reference::{self, held_behind, Answer, Plan, Refusal, TieRule};
 use crate::states::Made;
 use crate::walks;
 
@@ -102,14 +102,9 @@ pub struct Rest {
     pub plan: SomePlan,
 }
 
-/// The rest behind this many steps, with its tests numbered from 0 in any way, at times as in the list.
+/// The rest behind this many steps, with its tests numbered from 0 in any way.
 pub fn rest(random: &mut Random, wants: &[u64], held: u64, made: &SomePlan, steps: usize) -> Rest {
-    let mut numbers = permutation(random, made.order.len() - steps);
-    if random.chance(1, 2) {
-        let left = &made.order[steps..];
-        let lower = |test: &u16| left.iter().filter(|other| *other < test).count() as u16;
-        numbers = left.iter().map(lower).collect();
-    }
+    let numbers = permutation(random, made.order.len() - steps);
     let mut rest = vec![0; numbers.len()];
     for (number, test) in numbers.iter().zip(&made.order[steps..]) {
         rest[*number as usize] = wants[*test as usize];
@@ -310,7 +305,6 @@ pub fn case(function: usize, random: &mut Random) -> Option<Case> {
             places: job.places,
             booked: job.booked,
             curves: job.curves,
-            warm_ups: none(job.wants.len()),
             wants: job.wants,
             held,
             order: made.order,
@@ -347,7 +341,6 @@ pub fn case(function: usize, random: &mut Random) -> Option<Case> {
                 booked,
                 curves,
                 wants,
-                warm_ups: none(tests),
                 held,
                 order,
                 drops_len,
@@ -358,7 +351,6 @@ pub fn case(function: usize, random: &mut Random) -> Option<Case> {
             places,
             booked,
             curves,
-            warm_ups: none(wants.len()),
             wants,
             held,
             order,
@@ -376,7 +368,6 @@ pub fn case(function: usize, random: &mut Random) -> Option<Case> {
                 places,
                 booked,
                 curves,
-                warm_ups: none(wants.len()),
                 wants,
                 held,
                 order,
@@ -398,7 +389,6 @@ struct Handed<'a> {
     booked: usize,
     curves: usize,
     wants: &'a [u64],
-    warm_ups: &'a [u16],
     held: u64,
     order: &'a [u16],
 }
@@ -410,7 +400,6 @@ fn handed(case: &Case) -> Option<Handed<'_>> {
             booked,
             curves,
             wants,
-            warm_ups,
             held,
             order,
             ..
@@ -420,7 +409,6 @@ fn handed(case: &Case) -> Option<Handed<'_>> {
             booked,
             curves,
             wants,
-            warm_ups,
             held,
             order,
             ..
@@ -430,7 +418,6 @@ fn handed(case: &Case) -> Option<Handed<'_>> {
             booked,
             curves,
             wants,
-            warm_ups,
             held,
             order,
             ..
@@ -440,7 +427,6 @@ fn handed(case: &Case) -> Option<Handed<'_>> {
             booked,
             curves,
             wants,
-            warm_ups,
             held,
             order,
         } => Some(Handed {
@@ -448,7 +434,6 @@ fn handed(case: &Case) -> Option<Handed<'_>> {
             booked: *booked,
             curves: *curves,
             wants,
-            warm_ups,
             held: *held,
             order,
         }),
@@ -491,7 +476,6 @@ pub fn kinds(case: &Case, answered: bool) -> Vec<&'static str> {
         wants,
         held,
         order,
-        ..
     } = handed;
     if reference::examine(places, booked, curves, wants).is_err() {
         return vec![];
@@ -544,71 +528,55 @@ fn refused_from(case: &Case, held: u64) -> Option<Refusal> {
             booked,
             curves,
             wants,
-            warm_ups,
             order,
             drops_len,
             loads_len,
             ..
-        } => {
-            let tests = (wants, warm_ups);
-            no(reference::plan(
-                *places, *booked, *curves, tests, held, order, *drops_len, *loads_len,
-            ))
-        }
+        } => no(reference::plan(
+            *places, *booked, *curves, wants, held, order, *drops_len, *loads_len,
+        )),
         Case::CheckPlan {
             places,
             booked,
             curves,
             wants,
-            warm_ups,
             order,
             drops,
             loads,
             end,
             ..
-        } => {
-            let tests = (wants, warm_ups);
-            no(reference::check_plan(
-                *places, *booked, *curves, tests, held, order, drops, loads, *end,
-            ))
-        }
+        } => no(reference::check_plan(
+            *places, *booked, *curves, wants, held, order, drops, loads, *end,
+        )),
         Case::WritePlan {
             places,
             booked,
             curves,
             wants,
-            warm_ups,
             order,
             drops,
             loads,
             end,
             out_len,
             ..
-        } => {
-            let tests = (wants, warm_ups);
-            no(reference::write_plan(
-                *places, *booked, *curves, tests, held, order, drops, loads, *end, *out_len,
-            ))
-        }
+        } => no(reference::write_plan(
+            *places, *booked, *curves, wants, held, order, drops, loads, *end, *out_len,
+        )),
         Case::MakeState {
             places,
             booked,
             curves,
             wants,
-            warm_ups,
             order,
             ..
-        } => {
-            let tests = (wants, warm_ups);
-            no(Made::new(*places, *booked, *curves, tests, held, order))
-        }
+        } => no(Made::new(*places, *booked, *curves, wants, held, order)),
         _ => None,
     }
 }
 
 /// 14 alone, or with another fault, the one that is answered first; of 12 which rule is broken. A function
 /// has those that it can refuse.
-pub const TWICE: [&str; 15] = [
+pub const TWICE: [&str; 13] = [
     "14-alone",
     "10:0+14",
     "10:1+14",
@@ -616,9 +584,7 @@ pub const TWICE: [&str; 15] = [
     "10:4+t+14",
     "10:260+14",
     "13+14",
-    "14+16",
     "14+8",
-    "14+17",
     "14+7",
     "14+12:lengths",
     "14+12:step",
@@ -781,7 +747,6 @@ pub fn sorts(case: &Case, refused: Option<Refusal>) -> Vec<&'static str> {
         booked,
         curves,
         wants,
-        warm_ups,
         held,
         order,
     }) = handed(case)
@@ -790,9 +755,8 @@ pub fn sorts(case: &Case, refused: Option<Refusal>) -> Vec<&'static str> {
     };
     let tests = wants.len();
     let check = |held: u64| {
-        let tests = (wants, warm_ups);
         reference::check_plan(
-            places, booked, curves, tests, held, order, drops, loads, *end,
+            places, booked, curves, wants, held, order, drops, loads, *end,
         )
     };
     let step = match refused {

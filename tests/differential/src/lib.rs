@@ -4,8 +4,8 @@
 //! benchmark (`tuned`, and in C `fast`), random inputs (`generate`), among them lists without tests
 //! (`empty`), lists with large degrees (`degrees`), drives with booked places (`booked`), drives that hold
 //! something at the start (`holding`), lists carried out (`walks`), jobs with the withdrawn method
-//! (`withdrawn`), lists for drives of all sizes (`drives`) and tests that need a warm-up (`warm_ups`), and
-//! the library under test (`product`, only with the feature of that name).
+//! (`withdrawn`) and lists for drives of all sizes (`drives`), and the library under test (`product`, only
+//! with the feature of that name).
 
 pub mod booked;
 pub mod degrees;
@@ -22,7 +22,6 @@ pub mod states;
 pub mod ties;
 pub mod tuned;
 pub mod walks;
-pub mod warm_ups;
 pub mod withdrawn;
 
 #[cfg(feature = "product")]
@@ -46,5 +45,3 @@ mod method_two;
 mod stored;
 #[cfg(test)]
 mod two_bytes;
-#[cfg(test)]
-mod warm_ups_first;

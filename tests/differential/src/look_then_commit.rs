@@ -671,7 +671,7 @@ fn the_first_fault_decides() {
     let mut random = Random::new(74);
     let names = walks::fault_names();
     let (mut kinds, mut faults) = (BTreeSet::new(), BTreeSet::new());
-    for _ in 0..9_000 {
+    for _ in 0..6_000 {
         let size = random.pick(&[Size::Tiny, Size::Tiny, Size::Small]);
         let case = walks::make_case(&mut random, size);
         let list = walks::list_of(&case).unwrap();
@@ -688,9 +688,7 @@ fn the_first_fault_decides() {
                 (10, 260) => "10:260",
                 (13, 0) => "13",
                 (14, _) => "14",
-                (16, _) => "16",
                 (8, _) => "8",
-                (17, _) => "17",
                 (7, _) => "7",
                 _ => panic!("{no:?} of {}", case.describe()),
             }),
@@ -749,7 +747,6 @@ fn what_is_told_of_a_walk() {
         booked: 0,
         curves: 4,
         wants: sets(&[&[0], &[0]]),
-        warm_ups: none(2),
         held: 0,
         order: as_listed(2),
     };

@@ -15,29 +15,25 @@
 //! a place where a list is cut halfway, of states a kind of made ones, two faults, a kind of move, step
 //! or wrong position of a walk, or a kind of numbers that were not made, or of commits of these, or of the
 //! withdrawn method 2 a kind of job bytes or handed number, two faults, or a way in which another method
-//! gives another order, of all drive sizes a kind of list, fault, wanted count or table, of warm-ups a kind
-//! of list, of part of job bytes or of order, two faults, or a way in which drawing out otherwise gives
-//! another order; also if a kind of degrees, of looks and commits, of the withdrawn method, of all drive
-//! sizes, or of warm-ups was reached too seldom.
+//! gives another order, of all drive sizes a kind of list, fault, wanted count or table; also if a kind of
+//! degrees, of looks and commits, of the withdrawn method, or of all drive sizes was reached too seldom.
 
 use differential::booked;
 use differential::degrees;
 use differential::drives;
 use differential::empty;
 use differential::generate::{
-    self, Case, Ending, SetFunction, SomePlan, ENDINGS, FUNCTIONS, JOB, PLAN_MADE, PLAN_READ,
-    SHEET, WARMED_JOB,
+    self, Case, Ending, SetFunction, SomePlan, ENDINGS, FUNCTIONS, JOB, PLAN_MADE, PLAN_READ, SHEET,
 };
 use differential::holding;
 use differential::parts::{self, GroupRead};
 use differential::random::{mix, Random};
-use differential::reference::{self, PlannedJob, Refusal, Refused, Room, NO_WARM_UP};
+use differential::reference::{self, PlannedJob, Refusal, Refused};
 use differential::sizes::{self, Table, MARK, SIZES};
 use differential::states::{self, Any, Made, Shown};
 use differential::ties;
 use differential::tuned;
 use differential::walks::{self, List, Move};
-use differential::warm_ups;
 use differential::withdrawn;
 use std::collections::BTreeMap;
 use std::env;
@@ -53,27 +49,23 @@ use differential::product;
 // ---------------------------------------------------------------------------------------------
 // What is compared
 
-/// Wants and warm-ups as they are handed over.
-type Handed<'a> = (&'a [u64], &'a [u16]);
-
 /// An implementation under test. `None`: it does not offer the function.
 #[allow(clippy::too_many_arguments)]
 #[rustfmt::skip]
 trait Subject {
     fn name(&self) -> &'static str;
     /// The answer, and places, booked places, curves, tests and method.
-    fn read_job(&self, _job: &[u8], _wants: &mut [u64], _warm_ups: &mut [u16])
-        -> Option<(u64, [usize; 5])> { None }
+    fn read_job(&self, _job: &[u8], _wants: &mut [u64]) -> Option<(u64, [usize; 5])> { None }
     fn write_job(&self, _places: usize, _booked: usize, _curves: usize, _method: usize,
-        _tests: Handed, _out: &mut [u8]) -> Option<u64> { None }
+        _wants: &[u64], _out: &mut [u8]) -> Option<u64> { None }
     fn order_tests(&self, _places: usize, _booked: usize, _curves: usize, _method: usize,
-        _tests: Handed, _order: &mut [u16]) -> Option<u64> { None }
-    fn plan_order(&self, _places: usize, _booked: usize, _curves: usize, _tests: Handed,
+        _wants: &[u64], _order: &mut [u16]) -> Option<u64> { None }
+    fn plan_order(&self, _places: usize, _booked: usize, _curves: usize, _wants: &[u64],
         _held: u64, _order: &[u16], _drops: &mut [u64], _loads: &mut [u64], _end: &mut u64)
         -> Option<u64> { None }
-    fn check_plan(&self, _places: usize, _booked: usize, _curves: usize, _tests: Handed,
+    fn check_plan(&self, _places: usize, _booked: usize, _curves: usize, _wants: &[u64],
         _held: u64, _order: &[u16], _drops: &[u64], _loads: &[u64], _end: u64) -> Option<u64> { None }
-    fn write_plan(&self, _places: usize, _booked: usize, _curves: usize, _tests: Handed,
+    fn write_plan(&self, _places: usize, _booked: usize, _curves: usize, _wants: &[u64],
         _held: u64, _order: &[u16], _drops: &[u64], _loads: &[u64], _end: u64, _out: &mut [u8])
         -> Option<u64> { None }
     fn read_plan(&self, _curves: usize, _tests: usize, _plan: &[u8], _order: &mut [u16],
@@ -90,7 +82,6 @@ trait Subject {
         _wants: &[u64]) -> Option<u64> { None }
     fn examine_counts(&self, _curves: usize, _tests: usize) -> Option<u64> { None }
     fn examine_sizes(&self, _capacity: usize, _wants: &[u64]) -> Option<u64> { None }
-    fn examine_warm_ups(&self, _tests: usize, _warm_ups: &[u16]) -> Option<u64> { None }
     fn read_group(&self, _rest: &[u8], _at: usize, _group: usize, _curves: usize,
         _set: &mut u64) -> Option<u64> { None }
     fn group_map(&self, _set: u64) -> Option<u64> { None }
@@ -102,15 +93,15 @@ trait Subject {
         -> Option<()> { None }
     fn sets(&self, _function: SetFunction, _a: u64, _b: u64, _k: usize) -> Option<u64> { None }
     /// A state is lent as its 260 numbers.
-    fn make_state(&self, _places: usize, _booked: usize, _curves: usize, _tests: Handed,
+    fn make_state(&self, _places: usize, _booked: usize, _curves: usize, _wants: &[u64],
         _held: u64, _order: &[u16], _state: &mut [u64]) -> Option<u64> { None }
     /// The answer, drops and loads; of a commit too.
     fn look(&self, _state: &mut [u64]) -> Option<[u64; 3]> { None }
     fn commit(&self, _state: &mut [u64], _position: usize) -> Option<[u64; 3]> { None }
     /// 64 counts are lent.
-    fn all_sizes(&self, _curves: usize, _tests: Handed, _order: &[u16], _counts: &mut [u16])
+    fn all_sizes(&self, _curves: usize, _wants: &[u64], _order: &[u16], _counts: &mut [u16])
         -> Option<u64> { None }
-    fn fewest_places(&self, _curves: usize, _tests: Handed, _order: &[u16], _loads: usize)
+    fn fewest_places(&self, _curves: usize, _wants: &[u64], _order: &[u16], _loads: usize)
         -> Option<u64> { None }
     fn size_table(&self, _job: &[u8], _asked: usize, _loads: usize, _out: &mut [u8])
         -> Option<u64> { None }
@@ -123,18 +114,18 @@ impl Subject for Tuned {
         "tuned"
     }
     fn call(&self, job: &[u8], plan: &mut [u8]) -> Option<u64> {
-        warm_ups::asked_of_fast(job).then(|| tuned::call(job, plan))
+        Some(tuned::call(job, plan))
     }
     /// It examines nothing.
     fn all_sizes(
         &self,
         curves: usize,
-        tests: Handed,
+        wants: &[u64],
         order: &[u16],
         counts: &mut [u16],
     ) -> Option<u64> {
-        sizes::examined(curves, tests, order).ok()?;
-        counts.copy_from_slice(&tuned::all_sizes(tests.0, order));
+        sizes::examined(curves, wants, order).ok()?;
+        counts.copy_from_slice(&tuned::all_sizes(wants, order));
         Some(0)
     }
 }
@@ -148,36 +139,32 @@ impl Subject for Product {
     fn name(&self) -> &'static str {
         "product"
     }
-    fn read_job(&self, job: &[u8], wants: &mut [u64], warm_ups: &mut [u16])
-        -> Option<(u64, [usize; 5])> {
-        let head = product::read_job(job, wants, warm_ups);
+    fn read_job(&self, job: &[u8], wants: &mut [u64]) -> Option<(u64, [usize; 5])> {
+        let head = product::read_job(job, wants);
         let numbers = [head.places, head.booked, head.curves, head.tests, head.method];
         Some((head.answer, numbers))
     }
     fn write_job(&self, places: usize, booked: usize, curves: usize, method: usize,
-        (wants, warm_ups): Handed, out: &mut [u8]) -> Option<u64> {
-        Some(product::write_job(places, booked, curves, method, wants, warm_ups, out))
+        wants: &[u64], out: &mut [u8]) -> Option<u64> {
+        Some(product::write_job(places, booked, curves, method, wants, out))
     }
     fn order_tests(&self, places: usize, booked: usize, curves: usize, method: usize,
-        (wants, warm_ups): Handed, order: &mut [u16]) -> Option<u64> {
-        Some(product::order_tests(places, booked, curves, method, wants, warm_ups, order))
+        wants: &[u64], order: &mut [u16]) -> Option<u64> {
+        Some(product::order_tests(places, booked, curves, method, wants, order))
     }
-    fn plan_order(&self, places: usize, booked: usize, curves: usize, (wants, warm_ups): Handed,
+    fn plan_order(&self, places: usize, booked: usize, curves: usize, wants: &[u64],
         held: u64, order: &[u16], drops: &mut [u64], loads: &mut [u64], end: &mut u64)
         -> Option<u64> {
-        Some(product::plan_order(places, booked, curves, wants, warm_ups, held, order, drops, loads,
-            end))
+        Some(product::plan_order(places, booked, curves, wants, held, order, drops, loads, end))
     }
-    fn check_plan(&self, places: usize, booked: usize, curves: usize, (wants, warm_ups): Handed,
+    fn check_plan(&self, places: usize, booked: usize, curves: usize, wants: &[u64],
         held: u64, order: &[u16], drops: &[u64], loads: &[u64], end: u64) -> Option<u64> {
-        Some(product::check_plan(places, booked, curves, wants, warm_ups, held, order, drops, loads,
-            end))
+        Some(product::check_plan(places, booked, curves, wants, held, order, drops, loads, end))
     }
-    fn write_plan(&self, places: usize, booked: usize, curves: usize, (wants, warm_ups): Handed,
+    fn write_plan(&self, places: usize, booked: usize, curves: usize, wants: &[u64],
         held: u64, order: &[u16], drops: &[u64], loads: &[u64], end: u64, out: &mut [u8])
         -> Option<u64> {
-        Some(product::write_plan(places, booked, curves, wants, warm_ups, held, order, drops, loads,
-            end, out))
+        Some(product::write_plan(places, booked, curves, wants, held, order, drops, loads, end, out))
     }
     fn read_plan(&self, curves: usize, tests: usize, plan: &[u8], order: &mut [u16],
         drops: &mut [u64], loads: &mut [u64], end: &mut u64) -> Option<u64> {
@@ -211,9 +198,6 @@ impl Subject for Product {
     fn examine_sizes(&self, capacity: usize, wants: &[u64]) -> Option<u64> {
         Some(product::examine_sizes(capacity, wants))
     }
-    fn examine_warm_ups(&self, tests: usize, warm_ups: &[u16]) -> Option<u64> {
-        Some(product::examine_warm_ups(tests, warm_ups))
-    }
     fn read_group(&self, rest: &[u8], at: usize, group: usize, curves: usize,
         set: &mut u64) -> Option<u64> {
         Some(product::read_group(rest, at, group, curves, set))
@@ -242,10 +226,10 @@ impl Subject for Product {
     fn sets(&self, function: SetFunction, a: u64, b: u64, k: usize) -> Option<u64> {
         Some(product::sets(function, a, b, k))
     }
-    fn make_state(&self, places: usize, booked: usize, curves: usize, (wants, warm_ups): Handed,
+    fn make_state(&self, places: usize, booked: usize, curves: usize, wants: &[u64],
         held: u64, order: &[u16], state: &mut [u64]) -> Option<u64> {
         let state = product::State::of(state);
-        Some(product::make_state(places, booked, curves, wants, warm_ups, held, order, state))
+        Some(product::make_state(places, booked, curves, wants, held, order, state))
     }
     fn look(&self, state: &mut [u64]) -> Option<[u64; 3]> {
         let step = product::look_lent(product::State::of(state));
@@ -255,14 +239,14 @@ impl Subject for Product {
         let step = product::commit(product::State::of(state), position);
         Some([step.answer, step.drops, step.loads])
     }
-    fn all_sizes(&self, curves: usize, (wants, warm_ups): Handed, order: &[u16],
-        counts: &mut [u16]) -> Option<u64> {
-        let counts = counts.try_into().expect("64 counts are lent");
-        Some(product::all_sizes(curves, wants, warm_ups, order, counts))
-    }
-    fn fewest_places(&self, curves: usize, (wants, warm_ups): Handed, order: &[u16], loads: usize)
+    fn all_sizes(&self, curves: usize, wants: &[u64], order: &[u16], counts: &mut [u16])
         -> Option<u64> {
-        Some(product::fewest_places(curves, wants, warm_ups, order, loads))
+        let counts = counts.try_into().expect("64 counts are lent");
+        Some(product::all_sizes(curves, wants, order, counts))
+    }
+    fn fewest_places(&self, curves: usize, wants: &[u64], order: &[u16], loads: usize)
+        -> Option<u64> {
+        Some(product::fewest_places(curves, wants, order, loads))
     }
     fn size_table(&self, job: &[u8], asked: usize, loads: usize, out: &mut [u8]) -> Option<u64> {
         Some(product::size_table(job, asked, loads, out))
@@ -437,8 +421,6 @@ fn before_end(outcome: &str) -> Option<&'static str> {
     match outcome {
         "8" => Some("8"),
         "14" => Some("14"),
-        "16" => Some("16"),
-        "17" => Some("17"),
         "12:lengths" => Some("12:lengths"),
         "12:step" => Some("12:step"),
         _ if outcome.starts_with("10:") => Some("10"),
@@ -552,22 +534,14 @@ fn compare<T: PartialEq + Debug>(
 fn run(case: &Case, random: &mut Random, subjects: &[Box<dyn Subject>]) -> Verdict {
     let mut results = Vec::new();
     let mut notes = Vec::new();
-    // Of what is handed warm-ups.
-    let mut refusal = None;
     let outcome = match case {
-        Case::ReadJob {
-            job,
-            wants_len,
-            warm_ups_len,
-        } => {
-            let room = Room::from((*wants_len, *warm_ups_len));
-            let answer = reference::read_job(job, room);
+        Case::ReadJob { job, wants_len } => {
+            let answer = reference::read_job(job, *wants_len);
             let number = number_of(&answer, |read| read.tests as u64);
             // Under a refusal the five numbers are 0.
-            let (wants, warm_ups, head) = match &answer {
+            let (wants, head) = match &answer {
                 Ok(read) => (
                     read.wants.clone(),
-                    read.warm_ups.clone(),
                     [
                         read.places,
                         read.booked,
@@ -576,31 +550,24 @@ fn run(case: &Case, random: &mut Random, subjects: &[Box<dyn Subject>]) -> Verdi
                         read.method,
                     ],
                 ),
-                Err(_) => (vec![], vec![], [0; 5]),
+                Err(_) => (vec![], [0; 5]),
             };
             let behind = booked::behind_13(job, *wants_len);
             let behind = behind.iter().filter(|kind| **kind == "13+9");
             notes.extend(behind.map(|kind| (READ_BOOKED, *kind, 1)));
             notes.extend(kinds_of_bytes(READ_BOOKED, READ_LENGTHS, job));
-            notes.extend(all(READ_OLD, withdrawn::job_kinds(job, room)));
-            notes.extend(all(READ_PARTS, warm_ups::part_kinds(job)));
-            let lent = warm_ups::lent_kind(job, *wants_len, *warm_ups_len);
-            notes.extend(all(READ_LENT, lent));
+            notes.extend(all(READ_OLD, withdrawn::job_kinds(job, *wants_len)));
             // What was read is written back, and ordered where the method byte is 2.
             let again = answer.as_ref().ok().map(|read| ReadAgain::new(job, read));
             notes.extend(again.iter().flat_map(|again| again.notes(job)));
             for subject in subjects {
                 let mut wants = Lent::new("wants", random, *wants_len, &wants);
-                let mut warm_ups = Lent::new("warm_ups", random, *warm_ups_len, &warm_ups);
-                let found = subject.read_job(job, wants.part(), warm_ups.part());
-                let mut result = found.map(|found| {
-                    let lists = [wants.difference(), warm_ups.difference()];
-                    compare((number, head), found, &lists)
-                });
+                let found = subject.read_job(job, wants.part());
+                let mut result =
+                    found.map(|found| compare((number, head), found, &[wants.difference()]));
                 if let (Some(Ok(())), Ok(read), Some(again)) = (&result, &answer, &again) {
-                    let (wants, warm_ups) = (wants.part(), warm_ups.part());
-                    let tests = (&wants[..read.tests], &warm_ups[..read.tests]);
-                    result = again.compared(subject.as_ref(), random, read, tests);
+                    let wants = &wants.part()[..read.tests];
+                    result = again.compared(subject.as_ref(), random, read, wants);
                 }
                 results.push(result);
             }
@@ -612,45 +579,32 @@ fn run(case: &Case, random: &mut Random, subjects: &[Box<dyn Subject>]) -> Verdi
             curves,
             method,
             wants,
-            warm_ups,
             out_len,
         } => {
-            let tests = (&wants[..], &warm_ups[..]);
-            let answer = reference::write_job(*places, *booked, *curves, *method, tests, *out_len);
-            refusal = answer.as_ref().err().copied();
+            let answer = reference::write_job(*places, *booked, *curves, *method, wants, *out_len);
             let number = number_of(&answer, |bytes| bytes.len() as u64);
             let bytes = answer.clone().unwrap_or_default();
             for subject in subjects {
                 let mut out = Lent::new("out", random, *out_len, &bytes);
                 let found =
-                    subject.write_job(*places, *booked, *curves, *method, tests, out.part());
+                    subject.write_job(*places, *booked, *curves, *method, wants, out.part());
                 let mut result = found.map(|found| compare(number, found, &[out.difference()]));
                 if let (Some(Ok(())), Ok(bytes)) = (&result, &answer) {
                     // Read back it is the job that was handed over.
                     let numbers = [*places, *booked, *curves, wants.len(), *method];
                     let expected = (wants.len() as u64, numbers);
                     let mut again = Lent::new("wants", random, wants.len(), wants);
-                    let mut warmed = Lent::new("warm_ups", random, wants.len(), warm_ups);
-                    let out = &out.part()[..bytes.len()];
-                    let found = subject.read_job(out, again.part(), warmed.part());
+                    let found = subject.read_job(&out.part()[..bytes.len()], again.part());
                     result = found.map(|found| {
-                        compare(expected, found, &[again.difference(), warmed.difference()])
+                        compare(expected, found, &[again.difference()])
                             .map_err(|text| format!("{text}of reading what was written\n"))
                     });
                 }
                 results.push(result);
             }
             notes.extend(on_bound(JOBS_WRITTEN, &answer, JOB, LONGEST_JOB));
-            notes.extend(on_bound(
-                JOBS_WRITTEN,
-                &answer,
-                WARMED_JOB,
-                LONGEST_WARMED_JOB,
-            ));
             if answer.is_ok() {
                 notes.push((JOBS_READ_BACK, withdrawn::number_kind(*method), 1));
-                let warmed = warm_ups.iter().any(|number| *number != NO_WARM_UP);
-                notes.push((JOBS_READ_BACK, "warm-ups", warmed as u64));
             }
             outcome(&answer)
         }
@@ -660,27 +614,19 @@ fn run(case: &Case, random: &mut Random, subjects: &[Box<dyn Subject>]) -> Verdi
             curves,
             method,
             wants,
-            warm_ups,
             order_len,
         } => {
-            let tests = (&wants[..], &warm_ups[..]);
             let answer =
-                reference::order_and_flips(*places, *booked, *curves, *method, tests, *order_len);
-            refusal = answer.as_ref().err().copied();
+                reference::order_and_flips(*places, *booked, *curves, *method, wants, *order_len);
             let number = number_of(&answer, |(order, _)| order.len() as u64);
             let (result, flips) = answer.clone().unwrap_or_default();
             notes.extend((0..4).map(|won| (FLIPS_WON, FLIPS[won], flips[won])));
-            if answer.is_ok() && *method == 1 && unwarmed(warm_ups) {
+            if answer.is_ok() && *method == 1 {
                 notes.extend(all(ORDERED_DEGREES, degrees::kinds(wants, &result)));
             }
             if answer.is_ok() && *method == 3 {
-                let kinds = booked::order_kinds(*places, *booked, wants, warm_ups, &result);
+                let kinds = booked::order_kinds(*places, *booked, wants, &result);
                 notes.extend(all(ORDERED_RAW, kinds));
-            }
-            if answer.is_ok() {
-                let numbers = (*places, *booked, *curves, *method);
-                let kinds = warm_ups::drawn_kinds(numbers, tests.into(), &result);
-                notes.extend(all(ORDERED_DRAWN, kinds));
             }
             if let Some(test) = too_wide(&answer) {
                 let kinds = booked::wide_kinds(*places, *booked, wants, test);
@@ -689,7 +635,7 @@ fn run(case: &Case, random: &mut Random, subjects: &[Box<dyn Subject>]) -> Verdi
             for subject in subjects {
                 let mut order = Lent::new("order", random, *order_len, &result);
                 let found =
-                    subject.order_tests(*places, *booked, *curves, *method, tests, order.part());
+                    subject.order_tests(*places, *booked, *curves, *method, wants, order.part());
                 results.push(found.map(|found| compare(number, found, &[order.difference()])));
             }
             outcome(&answer)
@@ -699,20 +645,17 @@ fn run(case: &Case, random: &mut Random, subjects: &[Box<dyn Subject>]) -> Verdi
             booked,
             curves,
             wants,
-            warm_ups,
             held,
             order,
             drops_len,
             loads_len,
         } => {
-            let tests = (&wants[..], &warm_ups[..]);
             let plan_from = |held: u64| {
                 reference::plan(
-                    *places, *booked, *curves, tests, held, order, *drops_len, *loads_len,
+                    *places, *booked, *curves, wants, held, order, *drops_len, *loads_len,
                 )
             };
             let answer = plan_from(*held);
-            refusal = answer.as_ref().err().copied();
             let number = number_of(&answer, |plan| plan.count);
             let (new_drops, new_loads, new_end) = match &answer {
                 Ok(plan) => (plan.drops.clone(), plan.loads.clone(), vec![plan.end]),
@@ -742,11 +685,7 @@ fn run(case: &Case, random: &mut Random, subjects: &[Box<dyn Subject>]) -> Verdi
                 };
                 let steps = random.below(order.len() + 1);
                 notes.extend(all(PLANNED_RESTS, cut_kinds(order.len(), steps)));
-                let rest = holding::rest(random, wants, *held, &made, steps);
-                let left = warm_ups::of_rest(warm_ups, &order[steps..], &rest.plan.order);
-                let told = rest_kinds(warm_ups, &left, order, steps);
-                notes.extend(all(PLANNED_RESTS, told));
-                (rest, left)
+                holding::rest(random, wants, *held, &made, steps)
             });
             if let Some(test) = too_wide(&answer) {
                 let kinds = booked::wide_kinds(*places, *booked, wants, test);
@@ -760,7 +699,7 @@ fn run(case: &Case, random: &mut Random, subjects: &[Box<dyn Subject>]) -> Verdi
                     *places,
                     *booked,
                     *curves,
-                    tests,
+                    wants,
                     *held,
                     order,
                     drops.part(),
@@ -774,7 +713,7 @@ fn run(case: &Case, random: &mut Random, subjects: &[Box<dyn Subject>]) -> Verdi
                         &[drops.difference(), loads.difference(), end.difference()],
                     )
                 });
-                if let (Some(Ok(())), Some((rest, left))) = (&result, &rest) {
+                if let (Some(Ok(())), Some(rest)) = (&result, &rest) {
                     let (plan, tests) = (&rest.plan, rest.wants.len());
                     let mut drops = Lent::new("drops", random, tests, &plan.drops);
                     let mut loads = Lent::new("loads", random, tests, &plan.loads);
@@ -784,7 +723,7 @@ fn run(case: &Case, random: &mut Random, subjects: &[Box<dyn Subject>]) -> Verdi
                         *places,
                         *booked,
                         *curves,
-                        (&rest.wants[..], &left[..]),
+                        &rest.wants,
                         rest.held,
                         &plan.order,
                         drops.part(),
@@ -809,21 +748,18 @@ fn run(case: &Case, random: &mut Random, subjects: &[Box<dyn Subject>]) -> Verdi
             booked,
             curves,
             wants,
-            warm_ups,
             held,
             order,
             drops,
             loads,
             end,
         } => {
-            let tests = (&wants[..], &warm_ups[..]);
             let check = |booked: usize, held: u64| {
                 reference::check_plan(
-                    *places, booked, *curves, tests, held, order, drops, loads, *end,
+                    *places, booked, *curves, wants, held, order, drops, loads, *end,
                 )
             };
             let answer = check(*booked, *held);
-            refusal = answer.as_ref().err().copied();
             let number = number_of(&answer, |count| *count);
             if *booked > 0 {
                 let kind = booked::check_kinds(&answer, &check(0, *held), wants.len());
@@ -837,7 +773,7 @@ fn run(case: &Case, random: &mut Random, subjects: &[Box<dyn Subject>]) -> Verdi
             notes.extend(all(CHECKED_SORTS, sorts));
             for subject in subjects {
                 let found = subject.check_plan(
-                    *places, *booked, *curves, tests, *held, order, drops, loads, *end,
+                    *places, *booked, *curves, wants, *held, order, drops, loads, *end,
                 );
                 results.push(found.map(|found| compare(number, found, &[])));
             }
@@ -854,7 +790,6 @@ fn run(case: &Case, random: &mut Random, subjects: &[Box<dyn Subject>]) -> Verdi
             booked,
             curves,
             wants,
-            warm_ups,
             held,
             order,
             drops,
@@ -862,14 +797,12 @@ fn run(case: &Case, random: &mut Random, subjects: &[Box<dyn Subject>]) -> Verdi
             end,
             out_len,
         } => {
-            let tests = (&wants[..], &warm_ups[..]);
             let write_from = |held: u64| {
                 reference::write_plan(
-                    *places, *booked, *curves, tests, held, order, drops, loads, *end, *out_len,
+                    *places, *booked, *curves, wants, held, order, drops, loads, *end, *out_len,
                 )
             };
             let answer = write_from(*held);
-            refusal = answer.as_ref().err().copied();
             let number = number_of(&answer, |bytes| bytes.len() as u64);
             let bytes = answer.clone().unwrap_or_default();
             for subject in subjects {
@@ -878,7 +811,7 @@ fn run(case: &Case, random: &mut Random, subjects: &[Box<dyn Subject>]) -> Verdi
                     *places,
                     *booked,
                     *curves,
-                    tests,
+                    wants,
                     *held,
                     order,
                     drops,
@@ -908,7 +841,7 @@ fn run(case: &Case, random: &mut Random, subjects: &[Box<dyn Subject>]) -> Verdi
             notes.extend(on_bound(WRITTEN_LENGTHS, &answer, PLAN_READ, LONGEST_HELD));
             if *booked > 0 {
                 let raw = reference::check_plan(
-                    *places, 0, *curves, tests, *held, order, drops, loads, *end,
+                    *places, 0, *curves, wants, *held, order, drops, loads, *end,
                 );
                 let kind = booked::check_kinds(&answer, &raw, wants.len());
                 notes.extend(all(WRITTEN_RAW, kind));
@@ -1027,9 +960,7 @@ fn run(case: &Case, random: &mut Random, subjects: &[Box<dyn Subject>]) -> Verdi
                 notes.extend(kinds_of_degrees(CALL_DEGREES, &planned));
                 notes.extend(all(CALL_RAW, booked::call_kinds(&planned)));
                 notes.extend(kinds_of_orders(CALL_ORDERS, job, &planned));
-                notes.extend(kinds_of_drawn(CALL_DRAWN, job, &planned));
             }
-            notes.extend(all(CALL_PARTS, warm_ups::part_kinds(job)));
             if let Some(test) = too_wide(&answer) {
                 notes.extend(all(CALL_WIDE, booked::wide_job_kinds(job, test)));
             }
@@ -1058,9 +989,7 @@ fn run(case: &Case, random: &mut Random, subjects: &[Box<dyn Subject>]) -> Verdi
                 notes.extend(kinds_of_degrees(SHEET_DEGREES, &planned));
                 notes.extend(all(SHEET_RAW, booked::sheet_kinds(&planned)));
                 notes.extend(kinds_of_orders(SHEET_ORDERS, job, &planned));
-                notes.extend(kinds_of_drawn(SHEET_DRAWN, job, &planned));
             }
-            notes.extend(all(SHEET_PARTS, warm_ups::part_kinds(job)));
             if let Some(test) = too_wide(&planned) {
                 notes.extend(all(SHEET_WIDE, booked::wide_job_kinds(job, test)));
             }
@@ -1094,8 +1023,6 @@ fn run(case: &Case, random: &mut Random, subjects: &[Box<dyn Subject>]) -> Verdi
             }
             notes.extend(all(AUDITED_RAW, booked::audit_kinds(job, plan, &audit)));
             notes.extend(kinds_of_bytes(AUDITED_BOOKED, AUDITED_LENGTHS, job));
-            notes.extend(all(AUDITED_PARTS, warm_ups::part_kinds(job)));
-            notes.extend(all(AUDITED_WARMED, warm_ups::audit_kinds(job, plan)));
             let fits = text.len() <= *out_len;
             match &audit {
                 Err(Refused::Job(_)) => notes.push((AUDITS_REFUSED, "job", fits as u64)),
@@ -1163,17 +1090,6 @@ fn run(case: &Case, random: &mut Random, subjects: &[Box<dyn Subject>]) -> Verdi
             let number = number_of(&answer, |_| 0);
             for subject in subjects {
                 let found = subject.examine_sizes(*capacity, wants);
-                results.push(found.map(|found| compare(number, found, &[])));
-            }
-            outcome(&answer)
-        }
-        Case::ExamineWarmUps { tests, warm_ups } => {
-            let answer = reference::examine_warm_ups(*tests, warm_ups);
-            refusal = answer.as_ref().err().copied();
-            let number = number_of(&answer, |_| 0);
-            notes.extend(all(EXAMINED_TESTS, tests_kind(*tests)));
-            for subject in subjects {
-                let found = subject.examine_warm_ups(*tests, warm_ups);
                 results.push(found.map(|found| compare(number, found, &[])));
             }
             outcome(&answer)
@@ -1271,13 +1187,10 @@ fn run(case: &Case, random: &mut Random, subjects: &[Box<dyn Subject>]) -> Verdi
             booked,
             curves,
             wants,
-            warm_ups,
             held,
             order,
         } => {
-            let tests = (&wants[..], &warm_ups[..]);
-            let answer = Made::new(*places, *booked, *curves, tests, *held, order);
-            refusal = answer.as_ref().err().copied();
+            let answer = Made::new(*places, *booked, *curves, wants, *held, order);
             let number = number_of(&answer, |made| made.tests() as u64);
             let numbers = answer.as_ref().map_or(vec![], Made::numbers);
             let list = walks::list_of(case).expect("a state is made");
@@ -1293,7 +1206,7 @@ fn run(case: &Case, random: &mut Random, subjects: &[Box<dyn Subject>]) -> Verdi
                     *places,
                     *booked,
                     *curves,
-                    tests,
+                    wants,
                     *held,
                     order,
                     state.part(),
@@ -1352,13 +1265,10 @@ fn run(case: &Case, random: &mut Random, subjects: &[Box<dyn Subject>]) -> Verdi
         Case::AllSizes {
             curves,
             wants,
-            warm_ups,
             order,
         } => {
-            let tests = (&wants[..], &warm_ups[..]);
             let list = drives::list_of(case).expect("a list is handed over");
-            let answer = sizes::all_sizes(*curves, tests, order);
-            refusal = answer.as_ref().err().copied();
+            let answer = sizes::all_sizes(*curves, wants, order);
             notes.extend(all(
                 SIZED_FAULTS,
                 drives::fault_kinds(&list, &SIZED_FAULT_NAMES),
@@ -1377,7 +1287,7 @@ fn run(case: &Case, random: &mut Random, subjects: &[Box<dyn Subject>]) -> Verdi
             let result = counts.as_ref().map_or(&[][..], |counts| &counts[..]);
             for subject in subjects {
                 let mut counts = Lent::new("counts", random, SIZES, result);
-                let found = subject.all_sizes(*curves, tests, order, counts.part());
+                let found = subject.all_sizes(*curves, wants, order, counts.part());
                 let mut result = found.map(|found| compare(number, found, &[counts.difference()]));
                 if let Some(Ok(())) = result {
                     let found = (number, &*counts.part());
@@ -1390,14 +1300,11 @@ fn run(case: &Case, random: &mut Random, subjects: &[Box<dyn Subject>]) -> Verdi
         Case::FewestPlaces {
             curves,
             wants,
-            warm_ups,
             order,
             loads,
         } => {
-            let tests = (&wants[..], &warm_ups[..]);
             let list = drives::list_of(case).expect("a list is handed over");
-            let answer = sizes::all_sizes(*curves, tests, order);
-            refusal = answer.as_ref().err().copied();
+            let answer = sizes::all_sizes(*curves, wants, order);
             notes.extend(all(
                 FEWEST_FAULTS,
                 drives::fault_kinds(&list, &SIZED_FAULT_NAMES),
@@ -1415,7 +1322,7 @@ fn run(case: &Case, random: &mut Random, subjects: &[Box<dyn Subject>]) -> Verdi
                     // 0 for none.
                     let places = |counts: &sizes::Counts| sizes::fewest(counts, loads).unwrap_or(0);
                     let number = number_of(&answer, |counts| places(counts) as u64);
-                    let found = subject.fewest_places(*curves, tests, order, loads);
+                    let found = subject.fewest_places(*curves, wants, order, loads);
                     result = found.map(|found| {
                         compare(number, found, &[])
                             .map_err(|text| format!("for {loads} loads: {text}"))
@@ -1447,11 +1354,6 @@ fn run(case: &Case, random: &mut Random, subjects: &[Box<dyn Subject>]) -> Verdi
             }
             let kinds = drives::table_kinds(job, &table, wanted, *asked, *out_len);
             notes.extend(all(TABLES_WRITTEN, kinds));
-            notes.extend(all(TABLE_PARTS, warm_ups::part_kinds(job)));
-            if let Ok(table) = &table {
-                let kind = warm_ups::table_kind(job, &table.counts);
-                notes.extend(all(TABLE_DRAWN, kind));
-            }
             let refused = table.as_ref().err();
             let short = drives::short_kind(text.len(), refused, *out_len);
             notes.extend(all(TABLES_SHORT, short));
@@ -1474,15 +1376,6 @@ fn run(case: &Case, random: &mut Random, subjects: &[Box<dyn Subject>]) -> Verdi
         let (_, numbers, twice, _) = table.expect("all are there");
         notes.extend(all(numbers, [withdrawn::number_kind(method)]));
         notes.extend(all(twice, withdrawn::twice(case)));
-    }
-    let called = FUNCTIONS[case.function()];
-    let table = WARMED_TABLES.iter().find(|table| table.0 == called);
-    if let Some((_, lists, orders, twice)) = table {
-        notes.extend(all(lists, warm_ups::list_kinds(case, refusal)));
-        notes.extend(all(orders, warm_ups::order_kinds(case, refusal)));
-        if let Some((_, names)) = WARMED_TWICE.iter().find(|(known, _)| *known == called) {
-            notes.extend(all(twice, warm_ups::twice(case, names)));
-        }
     }
     let table = HELD_TABLES.iter().find(|table| table.0 == case.function());
     if let Some((_, kinds, twice)) = table {
@@ -1507,20 +1400,18 @@ struct ReadAgain {
 impl ReadAgain {
     fn new(job: &[u8], read: &reference::Job) -> ReadAgain {
         let (places, booked, curves) = (read.places, read.booked, read.curves);
-        let (method, tests) = (read.method, (&read.wants, &read.warm_ups));
-        let bytes = reference::write_job(places, booked, curves, method, tests, job.len());
+        let (method, wants) = (read.method, &read.wants);
+        let bytes = reference::write_job(places, booked, curves, method, wants, job.len());
         let bytes = bytes.expect("a job that was read can be written");
         assert_eq!(bytes, withdrawn::written_back(job));
         let order = withdrawn::field_of_2(job)
-            .map(|_| reference::order_tests(places, booked, curves, 1, tests, read.tests));
+            .map(|_| reference::order_tests(places, booked, curves, 1, wants, wants.len()));
         ReadAgain { bytes, order }
     }
 
     fn notes(&self, job: &[u8]) -> Vec<Note> {
         let back = WRITTEN_BACK[(self.bytes != job) as usize];
         let mut notes = vec![(READ_BACK, back, 1)];
-        let warmed = warm_ups::has_part(job);
-        notes.push((READ_BACK, "warm-ups", warmed as u64));
         match &self.order {
             None => {}
             Some(Ok(order)) => {
@@ -1538,13 +1429,13 @@ impl ReadAgain {
         subject: &dyn Subject,
         random: &mut Random,
         read: &reference::Job,
-        tests: Handed,
+        wants: &[u64],
     ) -> Option<Result<(), String>> {
         let (places, booked, curves) = (read.places, read.booked, read.curves);
         let count = self.bytes.len();
         let length = count + random.below(3);
         let mut out = Lent::new("out", random, length, &self.bytes);
-        let found = subject.write_job(places, booked, curves, read.method, tests, out.part())?;
+        let found = subject.write_job(places, booked, curves, read.method, wants, out.part())?;
         let written = compare(count as u64, found, &[out.difference()]);
         if let Err(text) = written {
             return Some(Err(format!("{text}of writing what was read\n")));
@@ -1554,9 +1445,9 @@ impl ReadAgain {
         };
         let number = number_of(answer, |order| order.len() as u64);
         let result = answer.clone().unwrap_or_default();
-        let mut order = Lent::new("order", random, read.tests, &result);
+        let mut order = Lent::new("order", random, wants.len(), &result);
         let found =
-            subject.order_tests(places, booked, curves, read.method, tests, order.part())?;
+            subject.order_tests(places, booked, curves, read.method, wants, order.part())?;
         let ordered = compare(number, found, &[order.difference()]);
         Some(ordered.map_err(|text| format!("{text}of ordering what was read\n")))
     }
@@ -1576,7 +1467,7 @@ fn single_plans(
             places,
             0,
             list.curves,
-            (&wants[..], &list.warm_ups[..]),
+            wants,
             0,
             order,
             &mut drops,
@@ -1649,15 +1540,13 @@ fn walk(
         booked,
         curves,
         wants,
-        warm_ups,
         held,
         order,
     } = list;
-    let list = (&wants[..], &warm_ups[..]);
     let mut then = made.clone();
     let tests = then.tests();
     let mut state = Lent::new("state", random, states::NUMBERS, &then.numbers());
-    let found = subject.make_state(*places, *booked, *curves, list, *held, order, state.part())?;
+    let found = subject.make_state(*places, *booked, *curves, wants, *held, order, state.part())?;
     if let Err(text) = compare(tests as u64, found, &[state.difference()]) {
         return Some(Err(format!("of making the state: {text}")));
     }
@@ -1694,7 +1583,7 @@ fn walk(
     }
     let (mut drops, mut loads, mut end) = (vec![0; tests], vec![0; tests], 0);
     let count = subject.plan_order(
-        *places, *booked, *curves, list, *held, order, &mut drops, &mut loads, &mut end,
+        *places, *booked, *curves, wants, *held, order, &mut drops, &mut loads, &mut end,
     )?;
     let mut plan = Vec::new();
     for (&drops, &loads) in drops.iter().zip(&loads) {
@@ -1729,57 +1618,9 @@ fn kinds_of_ties(title: &'static str, planned: &Result<PlannedJob, Refusal>) -> 
 /// The kinds of a planned job's degrees, if it is ordered by method 1.
 fn kinds_of_degrees(title: &'static str, planned: &Result<PlannedJob, Refusal>) -> Vec<Note> {
     match planned {
-        Ok((job, order, _)) if job.method == 1 && unwarmed(&job.warm_ups) => {
-            all(title, degrees::kinds(&job.wants, order))
-        }
+        Ok((job, order, _)) if job.method == 1 => all(title, degrees::kinds(&job.wants, order)),
         _ => Vec::new(),
     }
-}
-
-/// Whether no test has a warm-up.
-fn unwarmed(warm_ups: &[u16]) -> bool {
-    warm_ups.iter().all(|number| *number == NO_WARM_UP)
-}
-
-/// The kinds of a planned job's order, if it has warm-ups.
-fn kinds_of_drawn(
-    title: &'static str,
-    job: &[u8],
-    planned: &Result<PlannedJob, Refusal>,
-) -> Vec<Note> {
-    match planned {
-        Ok((_, order, _)) => all(title, warm_ups::job_drawn_kinds(job, order)),
-        Err(_) => Vec::new(),
-    }
-}
-
-/// Of the rest of a list behind so many steps: that some of its tests still wait for a warm-up, and that the
-/// warm-up of one was run.
-fn rest_kinds(warm_ups: &[u16], left: &[u16], order: &[u16], steps: usize) -> Vec<&'static str> {
-    let (run, rest) = order.split_at(steps);
-    let was_run = |test: &u16| run.contains(&warm_ups[*test as usize]);
-    let mut kinds = Vec::new();
-    if !unwarmed(left) {
-        kinds.push("warm-ups-left");
-    }
-    if rest.iter().any(was_run) {
-        kinds.push("warm-ups-run");
-    }
-    kinds
-}
-
-/// A number of tests for which warm-ups are examined.
-const TESTS: [&str; 6] = ["0", "1", "2-to-255", "256", "257-and-more", "max"];
-
-fn tests_kind(tests: usize) -> Option<&'static str> {
-    let at = match tests {
-        0 | 1 => tests,
-        2..=255 => 2,
-        256 => 3,
-        usize::MAX => 5,
-        _ => 4,
-    };
-    Some(TESTS[at])
 }
 
 /// The kinds of a planned job's order, if the method byte is 2.
@@ -1884,7 +1725,7 @@ enum Told {
 /// The function, what is told, the title and the names.
 type ToldTable = (&'static str, Told, &'static str, Vec<&'static str>);
 
-const HEADS: [&str; 24] = [
+const HEADS: [&str; 23] = [
     "00",
     "01",
     "02",
@@ -1908,45 +1749,39 @@ const HEADS: [&str; 24] = [
     "field",
     "tests-0",
     "booked",
-    "warm-ups",
 ];
 const METHODS: [&str; 3] = ["method-0", "method-1", "method-3"];
 const LENT: [&str; 2] = ["exact", "longer"];
 const SEVERAL_LENT: [&str; 3] = ["exact", "longer", "mixed"];
 const LISTS: [&str; 3] = ["drops", "loads", "both"];
 
-// The faults of handed numbers, as they are asked; with a method; with warm-ups too; with a buffer for all
-// this; with warm-ups, a holding and an order; with lists and an end set too; with a buffer for these; and with
-// warm-ups and an order alone.
+// The faults of handed numbers, as they are asked; with a method; with a buffer too; with a holding and an
+// order; with lists and an end set too; and with a buffer for these.
 const PLAIN: [&str; 4] = ["10:0", "10:1", "10:260", "13"];
 const WITH_METHOD: [&str; 5] = ["10:0", "10:1", "10:3", "10:260", "13"];
-const WITH_WARM_UPS: [&str; 6] = ["10:0", "10:1", "10:3", "10:260", "13", "16"];
-const WITH_BUFFER: [&str; 7] = ["10:0", "10:1", "10:3", "10:260", "13", "16", "9"];
-const WITH_ORDER: [&str; 7] = ["10:0", "10:1", "10:260", "13", "14", "16", "8"];
-const WITH_PLAN: [&str; 9] = [
+const WITH_BUFFER: [&str; 6] = ["10:0", "10:1", "10:3", "10:260", "13", "9"];
+const WITH_ORDER: [&str; 6] = ["10:0", "10:1", "10:260", "13", "14", "8"];
+const WITH_PLAN: [&str; 8] = [
     "10:0",
     "10:1",
     "10:260",
     "13",
     "14",
-    "16",
     "8",
     "12:lengths",
     "12:end",
 ];
-const WITH_PLAN_AND_BUFFER: [&str; 10] = [
+const WITH_PLAN_AND_BUFFER: [&str; 9] = [
     "10:0",
     "10:1",
     "10:260",
     "13",
     "14",
-    "16",
     "8",
     "12:lengths",
     "12:end",
     "9",
 ];
-const ORDER_ALONE: [&str; 3] = ["10:1", "16", "8"];
 
 /// The names of any two of these faults. They last as long as the run.
 fn two_of(faults: &[&str]) -> Vec<&'static str> {
@@ -1970,15 +1805,14 @@ static TOLD_TABLES: LazyLock<Vec<ToldTable>> = LazyLock::new(|| {
     let (two_plain, two_with_method) = (two_of(&PLAIN), two_of(&WITH_METHOD));
     let (two_with_buffer, two_with_order) = (two_of(&WITH_BUFFER), two_of(&WITH_ORDER));
     let (two_with_plan, two_with_both) = (two_of(&WITH_PLAN), two_of(&WITH_PLAN_AND_BUFFER));
-    let (two_with_warm_ups, two_alone) = (two_of(&WITH_WARM_UPS), two_of(&ORDER_ALONE));
     let tables: [(&str, Told, &str, &[&'static str]); 35] = [
         ("read_job", Told::Head, "jobs read, without tests", &HEADS),
-        ("read_job", Told::Lent, "jobs read, without tests, lists lent", &SEVERAL_LENT),
+        ("read_job", Told::Lent, "jobs read, without tests, list lent", &LENT),
         ("write_job", Told::Lent, "jobs written, without tests, buffer lent", &LENT),
         ("write_job", Told::Twice, "jobs written, without tests, two faults", &two_with_buffer),
         ("order_tests", Told::Method, "orders made, without tests, method", &METHODS),
         ("order_tests", Told::Lent, "orders made, without tests, list lent", &LENT),
-        ("order_tests", Told::Twice, "orders made, without tests, two faults", &two_with_warm_ups),
+        ("order_tests", Told::Twice, "orders made, without tests, two faults", &two_with_method),
         ("plan_order", Told::Lent, "plans made, without tests, lists lent", &SEVERAL_LENT),
         ("plan_order", Told::Twice, "plans made, without tests, two faults", &two_with_order),
         ("check_plan", Told::Lists, "plans checked, without tests, entries in", &LISTS),
@@ -2003,8 +1837,8 @@ static TOLD_TABLES: LazyLock<Vec<ToldTable>> = LazyLock::new(|| {
         ("listed_order", Told::Lent, "listed orders, without tests, list lent", &LENT),
         ("package_order", Told::Lent, "package orders, without tests, list lent", &LENT),
         ("make_state", Told::Twice, "states made, without tests, two faults", &two_with_order),
-        ("all_sizes", Told::Twice, "all sizes, without tests, two faults", &two_alone),
-        ("fewest_places", Told::Twice, "fewest places, without tests, two faults", &two_alone),
+        ("all_sizes", Told::Twice, "all sizes, without tests, two faults", &["10:1+8"]),
+        ("fewest_places", Told::Twice, "fewest places, without tests, two faults", &["10:1+8"]),
         ("size_table", Told::Head, "tables, without tests", &HEADS),
         ("size_table", Told::Lent, "tables, without tests, buffer lent", &LENT),
     ];
@@ -2026,7 +1860,6 @@ fn kind_of_head(job: &[u8]) -> String {
         (6, 1) => "00-surplus",
         (6, _) => "surplus",
         (13, _) => "booked",
-        (16, _) => "warm-ups",
         _ => "unforeseen",
     };
     kind.to_string()
@@ -2035,11 +1868,7 @@ fn kind_of_head(job: &[u8]) -> String {
 /// The entries of the result of a case without tests, if it is answered, and the lengths lent.
 fn lengths_lent(case: &Case) -> Option<(usize, Vec<usize>)> {
     Some(match case {
-        Case::ReadJob {
-            wants_len,
-            warm_ups_len,
-            ..
-        } => (0, vec![*wants_len, *warm_ups_len]),
+        Case::ReadJob { wants_len, .. } => (0, vec![*wants_len]),
         Case::WriteJob {
             places,
             booked,
@@ -2270,82 +2099,40 @@ const SINGLE_PLANS: &str = "all sizes, single plans";
 const FEWEST_FAULTS: &str = "fewest places, faults";
 const FEWEST_ORDERS: &str = "fewest places, refused 8 at";
 const FEWEST_WANTED: &str = "fewest places, wanted counts";
-/// Job bytes with warm-ups.
-const READ_PARTS: &str = "jobs read, warm-ups";
-const READ_LENT: &str = "jobs read, warm-ups, lists lent";
-const CALL_PARTS: &str = "C calls, warm-ups";
-const SHEET_PARTS: &str = "sheets, warm-ups";
-const AUDITED_PARTS: &str = "audits, warm-ups";
-const TABLE_PARTS: &str = "tables, warm-ups";
-/// What comes of drawing an order out, and that another way would give another one.
-const ORDERED_DRAWN: &str = "orders made, warm-ups, drawn out";
-const CALL_DRAWN: &str = "C calls, warm-ups, drawn out";
-const SHEET_DRAWN: &str = "sheets, warm-ups, drawn out";
-const TABLE_DRAWN: &str = "tables, warm-ups, load counts";
-const AUDITED_WARMED: &str = "plans audited, warm-ups";
-const EXAMINED_TESTS: &str = "warm-ups examined, tests";
 const TABLES_WRITTEN: &str = "tables";
 const TABLES_SHORT: &str = "tables, buffer too short";
 
 static FAULT_NAMES: LazyLock<Vec<&'static str>> = LazyLock::new(walks::fault_names);
 static SIZED_FAULT_NAMES: LazyLock<Vec<&'static str>> = LazyLock::new(drives::fault_names);
 
-/// For each function that is handed warm-ups: its name, and the titles of the lists, of the orders that go with
-/// them, and of 16 or 17 beside another fault.
-#[rustfmt::skip]
-const WARMED_TABLES: [(&str, &str, &str, &str); 9] = [
-    ("write_job", "jobs written, warm-ups", "", "jobs written, 16 and another fault"),
-    ("order_tests", "orders made, warm-ups", "", "orders made, 16 and another fault"),
-    ("plan_order", "plans made, warm-ups", "plans made, order and warm-ups",
-        "plans made, 16 or 17 and another fault"),
-    ("check_plan", "plans checked, warm-ups", "plans checked, order and warm-ups",
-        "plans checked, 16 or 17 and another fault"),
-    ("write_plan", "plans written, warm-ups", "plans written, order and warm-ups",
-        "plans written, 16 or 17 and another fault"),
-    ("make_state", "states made, warm-ups", "states made, order and warm-ups",
-        "states made, 16 or 17 and another fault"),
-    ("all_sizes", "all sizes, warm-ups", "all sizes, order and warm-ups",
-        "all sizes, 16 or 17 and another fault"),
-    ("fewest_places", "fewest places, warm-ups", "fewest places, order and warm-ups",
-        "fewest places, 16 or 17 and another fault"),
-    ("examine_warm_ups", "warm-ups examined", "", ""),
-];
-
-/// Of those that refuse something else the names of two faults.
-static WARMED_TWICE: LazyLock<Vec<(&'static str, Vec<&'static str>)>> = LazyLock::new(|| {
-    let names = WARMED_TABLES.iter().filter(|table| !table.3.is_empty());
-    let names = names.map(|table| (table.0, warm_ups::twice_names(table.0)));
-    names.collect()
-});
-
 /// For each function that is handed booked places: its number, the titles of their values and of a fault
 /// of theirs beside another one, and what else it can refuse.
 #[rustfmt::skip]
 const HANDED_TABLES: [(usize, &str, &str, &[&str]); 8] = [
     (1, "jobs written, booked", "jobs written, booked and another fault",
-        &["10:0", "10:1", "10:2", "10:3", "10:4+t", "9", "16"]),
+        &["10:0", "10:1", "10:2", "10:3", "10:4+t", "9"]),
     (2, "orders made, booked", "orders made, booked and another fault",
-        &["10:0", "10:1", "10:2", "10:3", "10:4+t", "7", "9", "16"]),
+        &["10:0", "10:1", "10:2", "10:3", "10:4+t", "7", "9"]),
     (3, "plans made, booked", "plans made, booked and another fault",
-        &["10:0", "10:1", "10:2", "10:4+t", "7", "8", "9", "14", "16", "17"]),
+        &["10:0", "10:1", "10:2", "10:4+t", "7", "8", "9", "14"]),
     (4, "plans checked, booked", "plans checked, booked and another fault",
-        &["10:0", "10:1", "10:2", "10:4+t", "8", "12", "14", "16", "17"]),
+        &["10:0", "10:1", "10:2", "10:4+t", "8", "12", "14"]),
     (5, "plans written, booked", "plans written, booked and another fault",
-        &["10:0", "10:1", "10:2", "10:4+t", "8", "9", "12", "14", "16", "17"]),
+        &["10:0", "10:1", "10:2", "10:4+t", "8", "9", "12", "14"]),
     (11, "numbers examined, booked", "numbers examined, booked and another fault",
         &["10:0", "10:1", "10:2", "10:4+t"]),
     (12, "numbers with method examined, booked", "numbers with method examined, booked and another fault",
         &["10:0", "10:1", "10:2", "10:3", "10:4+t"]),
     (32, "states made, booked", "states made, booked and another fault",
-        &["10:0", "10:1", "10:2", "10:4+t", "7", "8", "14", "16", "17"]),
+        &["10:0", "10:1", "10:2", "10:4+t", "7", "8", "14"]),
 ];
 
 /// For each function that is handed a method: its number, the titles of its values and of a 2 beside
 /// another fault, and what it can refuse behind 13.
 #[rustfmt::skip]
 const METHOD_TABLES: [(usize, &str, &str, &[&str]); 3] = [
-    (1, "jobs written, method", "jobs written, method 2 handed", &["9", "16"]),
-    (2, "orders made, method", "orders made, method 2 handed", &["7", "9", "16"]),
+    (1, "jobs written, method", "jobs written, method 2 handed", &["9"]),
+    (2, "orders made, method", "orders made, method 2 handed", &["7", "9"]),
     (12, "numbers with method examined, method", "numbers with method examined, method 2 handed", &[]),
 ];
 
@@ -2371,7 +2158,7 @@ const HELD_TABLES: [(usize, &str, &str); 4] = [
 ];
 
 /// How often each name of these tables has to be met; of the others once is enough.
-const LEAST: [(&str, u64); 25] = [
+const LEAST: [(&str, u64); 20] = [
     (ORDERED_DEGREES, 5),
     (CALL_DEGREES, 5),
     (SHEET_DEGREES, 5),
@@ -2392,11 +2179,6 @@ const LEAST: [(&str, u64); 25] = [
     (TABLES_WRITTEN, 2),
     (TABLES_SHORT, 10),
     (SIZED_ORDERS, 20),
-    (ORDERED_DRAWN, 20),
-    (CALL_DRAWN, 10),
-    (SHEET_DRAWN, 5),
-    (TABLE_DRAWN, 20),
-    (READ_LENT, 20),
 ];
 
 /// What is counted beside the outcomes: the function, the title and the names.
@@ -2411,29 +2193,14 @@ fn tables() -> Vec<(&'static str, &'static str, Vec<&'static str>)> {
     let jobs_old = [&withdrawn::JOBS[..], &[withdrawn::SHORT]].concat();
     let jobs_ordered = [&["done", "refused:7"][..], &withdrawn::ORDERS].concat();
     let orders_audited = [&withdrawn::ORDERS[..], &withdrawn::AUDITED].concat();
-    let jobs_read_back = ["0", "1", "3", "warm-ups"];
-    let longest_written = [LONGEST_JOB, LONGEST_WARMED_JOB].concat();
-    let read_back = [&WRITTEN_BACK[..], &["warm-ups"]].concat();
-    let tables: [(&str, &str, &[&str]); 91] = [
+    let tables: [(&str, &str, &[&str]); 79] = [
         ("read_job", READ_BOOKED, &jobs_read),
         ("read_job", READ_LENGTHS, &booked::LONGEST),
         ("read_job", READ_OLD, &jobs_old),
-        ("read_job", READ_BACK, &read_back),
-        ("read_job", READ_PARTS, &warm_ups::PARTS),
-        ("read_job", READ_LENT, &warm_ups::LENT),
+        ("read_job", READ_BACK, &WRITTEN_BACK),
         ("read_job", READ_ORDERED, &jobs_ordered),
-        ("write_job", JOBS_WRITTEN, &longest_written),
-        ("write_job", JOBS_READ_BACK, &jobs_read_back),
-        ("order_tests", ORDERED_DRAWN, &warm_ups::DRAWN),
-        ("plan", CALL_PARTS, &warm_ups::PARTS),
-        ("plan", CALL_DRAWN, &warm_ups::DRAWN),
-        ("sheet", SHEET_PARTS, &warm_ups::PARTS),
-        ("sheet", SHEET_DRAWN, &warm_ups::DRAWN),
-        ("audit", AUDITED_PARTS, &warm_ups::PARTS),
-        ("audit", AUDITED_WARMED, &warm_ups::AUDITS),
-        ("size_table", TABLE_PARTS, &warm_ups::PARTS),
-        ("size_table", TABLE_DRAWN, &warm_ups::TABLES),
-        ("examine_warm_ups", EXAMINED_TESTS, &TESTS),
+        ("write_job", JOBS_WRITTEN, &LONGEST_JOB),
+        ("write_job", JOBS_READ_BACK, &["0", "1", "3"]),
         ("order_tests", ORDERED_RAW, &booked::ORDERS),
         ("order_tests", ORDERED_WIDE, &booked::WIDE),
         ("plan_order", PLANNED_RAW, &booked::PLANS),
@@ -2463,16 +2230,14 @@ fn tables() -> Vec<(&'static str, &'static str, Vec<&'static str>)> {
         ("plan_order", PLANNED_TIES, &ties::KINDS),
         ("check_plan", CHECKED_ENDS, &ENDS),
         ("plan_order", PLANNED_EMPTY, &holding::PLANS),
-        ("plan_order", PLANNED_RESTS,
-            &["before-all", "between", "behind-all", "warm-ups-left", "warm-ups-run"]),
+        ("plan_order", PLANNED_RESTS, &["before-all", "between", "behind-all"]),
         ("check_plan", CHECKED_EMPTY, &holding::CHECKS),
         ("check_plan", CHECKED_SORTS, &holding::SORTS),
         ("write_plan", WRITTEN_EMPTY, &holding::CHECKS),
         ("write_plan", WRITTEN_SORTS, &holding::SORTS),
-        ("check_plan", CHECKED_TWICE, &["8", "10", "12:lengths", "12:step", "14", "16", "17"]),
+        ("check_plan", CHECKED_TWICE, &["8", "10", "12:lengths", "12:step", "14"]),
         ("write_plan", WRITTEN_ENDS, &ENDS),
-        ("write_plan", WRITTEN_TWICE,
-            &["8", "10", "12:lengths", "12:step", "14", "16", "17", "short"]),
+        ("write_plan", WRITTEN_TWICE, &["8", "10", "12:lengths", "12:step", "14", "short"]),
         ("write_plan", WRITTEN_LENGTHS, &written_lengths),
         ("read_plan", READ_ENDS, &SETS),
         ("read_plan", READ_ENDINGS, &endings),
@@ -2526,34 +2291,26 @@ fn tables() -> Vec<(&'static str, &'static str, Vec<&'static str>)> {
         tables.push((name, kinds, holding::HOLDINGS.to_vec()));
         tables.push((name, twice, holding::twice_names(name)));
     }
-    for (function, lists, orders, twice) in WARMED_TABLES {
-        tables.push((function, lists, warm_ups::LISTS.to_vec()));
-        if !orders.is_empty() {
-            tables.push((function, orders, warm_ups::ORDERS.to_vec()));
-        }
-        let names = WARMED_TWICE.iter().find(|(known, _)| *known == function);
-        tables.extend(names.map(|(_, names)| (function, twice, names.clone())));
-    }
     tables
 }
 
 /// What each function can come out with. No refusal has the number 5 any more.
 #[rustfmt::skip]
 const OUTCOMES: [&[&str]; FUNCTIONS.len()] = [
-    &["ok", "1", "2", "3", "4", "6", "9", "13", "16"],
-    &["ok", "9", "10:0", "10:1", "10:2", "10:3", "10:4+", "10:260", "13", "16"],
-    &["ok", "7", "9", "10:0", "10:1", "10:2", "10:3", "10:4+", "10:260", "13", "16"],
-    &["ok", "7", "8", "9", "10:0", "10:1", "10:2", "10:4+", "10:260", "13", "14", "16", "17"],
+    &["ok", "1", "2", "3", "4", "6", "9", "13"],
+    &["ok", "9", "10:0", "10:1", "10:2", "10:3", "10:4+", "10:260", "13"],
+    &["ok", "7", "9", "10:0", "10:1", "10:2", "10:3", "10:4+", "10:260", "13"],
+    &["ok", "7", "8", "9", "10:0", "10:1", "10:2", "10:4+", "10:260", "13", "14"],
     &["ok", "8", "10:0", "10:1", "10:2", "10:4+", "10:260", "12:lengths", "12:step", "12:end",
-        "13", "14", "16", "17"],
+        "13", "14"],
     &["ok", "8", "9", "10:0", "10:1", "10:2", "10:4+", "10:260", "12:lengths", "12:step",
-        "12:end", "13", "14", "16", "17"],
+        "12:end", "13", "14"],
     &["ok", "9", "10:1", "10:2", "11"],
     &["ok", "10:1", "10:2", "11"],
-    &["ok", "1", "2", "3", "4", "6", "7", "9", "13", "16"],
-    &["ok", "1", "2", "3", "4", "6", "7", "13", "16", "9:ok", "9:job"],
-    &["ok", "ok:more", "1", "2", "3", "4", "6", "13", "16", "plan:8", "plan:11", "plan:12:step",
-        "plan:12:end", "plan:17", "9:ok", "9:job", "9:plan"],
+    &["ok", "1", "2", "3", "4", "6", "7", "9", "13"],
+    &["ok", "1", "2", "3", "4", "6", "7", "13", "9:ok", "9:job"],
+    &["ok", "ok:more", "1", "2", "3", "4", "6", "13", "plan:8", "plan:11", "plan:12:step",
+        "plan:12:end", "9:ok", "9:job", "9:plan"],
     &["ok", "10:0", "10:1", "10:2", "10:4+", "10:260", "13"],
     &["ok", "10:0", "10:1", "10:2", "10:3", "10:4+", "10:260", "13"],
     &["ok", "10:1", "10:2"],
@@ -2576,31 +2333,30 @@ const OUTCOMES: [&[&str]; FUNCTIONS.len()] = [
     &SETS,
     &["yes", "no"],
     &NUMBERS,
-    &["ok", "7", "8", "10:0", "10:1", "10:2", "10:4+", "10:260", "13", "14", "16", "17"],
+    &["ok", "7", "8", "10:0", "10:1", "10:2", "10:4+", "10:260", "13", "14"],
     &["done", "step", "end"],
     &["step", "end", "15"],
     &walks::ENDS,
-    &["ok", "8", "10:1", "10:2", "10:4+", "16", "17"],
-    &["ok", "8", "10:1", "10:2", "10:4+", "16", "17"],
-    &["ok", "1", "2", "3", "4", "6", "7", "13", "16", "9:ok", "9:job"],
-    &["ok", "16"],
+    &["ok", "8", "10:1", "10:2", "10:4+"],
+    &["ok", "8", "10:1", "10:2", "10:4+"],
+    &["ok", "1", "2", "3", "4", "6", "7", "13", "9:ok", "9:job"],
 ];
 
 /// What each function can come out with where the list has no tests; nothing where a function has to
 /// do with no list of tests.
 #[rustfmt::skip]
 const OUTCOMES_WITHOUT_TESTS: [&[&str]; FUNCTIONS.len()] = [
-    &["ok", "1", "2", "6", "13", "16"],
-    &["ok", "9", "10:0", "10:1", "10:3", "10:260", "13", "16"],
-    &["ok", "10:0", "10:1", "10:3", "10:260", "13", "16"],
-    &["ok", "8", "10:0", "10:1", "10:260", "13", "14", "16"],
-    &["ok", "8", "10:0", "10:1", "10:260", "12:lengths", "12:end", "13", "14", "16"],
-    &["ok", "8", "9", "10:0", "10:1", "10:260", "12:lengths", "12:end", "13", "14", "16"],
+    &["ok", "1", "2", "6", "13"],
+    &["ok", "9", "10:0", "10:1", "10:3", "10:260", "13"],
+    &["ok", "10:0", "10:1", "10:3", "10:260", "13"],
+    &["ok", "8", "10:0", "10:1", "10:260", "13", "14"],
+    &["ok", "8", "10:0", "10:1", "10:260", "12:lengths", "12:end", "13", "14"],
+    &["ok", "8", "9", "10:0", "10:1", "10:260", "12:lengths", "12:end", "13", "14"],
     &["ok", "10:1", "11"],
     &["ok", "10:1", "11"],
-    &["ok", "1", "2", "6", "13", "16"],
-    &["ok", "1", "2", "6", "13", "16", "9:ok", "9:job"],
-    &["ok", "1", "2", "6", "13", "16", "plan:11", "plan:12:end", "9:ok", "9:job", "9:plan"],
+    &["ok", "1", "2", "6", "13"],
+    &["ok", "1", "2", "6", "13", "9:ok", "9:job"],
+    &["ok", "1", "2", "6", "13", "plan:11", "plan:12:end", "9:ok", "9:job", "9:plan"],
     &["ok", "10:0", "10:1", "10:260", "13"],
     &["ok", "10:0", "10:1", "10:3", "10:260", "13"],
     &["ok", "10:1"],
@@ -2622,21 +2378,19 @@ const OUTCOMES_WITHOUT_TESTS: [&[&str]; FUNCTIONS.len()] = [
     &[],
     &[],
     &[],
-    &["ok", "8", "10:0", "10:1", "10:260", "13", "14", "16"],
+    &["ok", "8", "10:0", "10:1", "10:260", "13", "14"],
     &["done", "end"],
     &["end", "15"],
     &["end-step-alone", "done-at-once"],
-    &["ok", "8", "10:1", "16"],
-    &["ok", "8", "10:1", "16"],
-    &["ok", "1", "2", "6", "13", "16", "9:ok", "9:job"],
-    &["ok", "16"],
+    &["ok", "8", "10:1"],
+    &["ok", "8", "10:1"],
+    &["ok", "1", "2", "6", "13", "9:ok", "9:job"],
 ];
 
 const SETS: [&str; 3] = ["empty", "some", "full"];
 const LONGEST: [&str; 2] = ["5121-bytes", "5121-bytes-short"];
 const LONGEST_HELD: [&str; 2] = ["5130-bytes", "5130-bytes-short"];
 const LONGEST_JOB: [&str; 2] = ["2311-bytes", "2311-bytes-short"];
-const LONGEST_WARMED_JOB: [&str; 2] = ["2598-bytes", "2598-bytes-short"];
 const NUMBERS: [&str; 7] = ["at0", "at1-62", "at63", "at64", "at65", "at66+", "at-most"];
 
 /// The counts of what a function can come out with. What was never reached is noted, and anything

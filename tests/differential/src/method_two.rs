@@ -5,11 +5,10 @@ use crate::booked;
 use crate::degrees;
 use crate::empty;
 use crate::fast;
-use crate::generate::{self, Case, Size, FUNCTIONS, JOB, PLAN_MADE, WARMED_JOB};
+use crate::generate::{self, Case, Size, FUNCTIONS, JOB, PLAN_MADE};
 use crate::random::Random;
 use crate::reference::*;
 use crate::tuned;
-use crate::warm_ups;
 use crate::withdrawn::{self, field, field_of_2, with_2, written_back, HANDED};
 use std::collections::BTreeSet;
 
@@ -22,9 +21,6 @@ fn bytes(text: &str) -> Vec<u8> {
 /// All three calls answer the same, and leave the same in the buffer.
 fn calls_alike(job: &[u8], length: usize) -> (u64, Vec<u8>) {
     let (number, bytes) = call(job, length);
-    if !warm_ups::asked_of_fast(job) {
-        return (number, bytes);
-    }
     let mut expected = vec![0x5a; length];
     expected[..bytes.len()].copy_from_slice(&bytes);
     for fast in [tuned::call, fast::call] {
@@ -63,7 +59,6 @@ fn job_a_with_method_2() {
         tests: 4,
         method: 1,
         wants: wants.clone(),
-        warm_ups: none(4),
     };
     assert_eq!(read_job(&job, 4), Ok(read));
     assert_eq!(read_job(&job, 3), Err(refusal(9, 4)));
@@ -107,10 +102,7 @@ fn refusals_of_job_bytes_with_2() {
         ("0f 08 04 04 00 02 01 00", 2, 1),
         ("0f 02 40 04 00 02 01 00", 2, 2),
         ("0f 02 04 00 00 02 01 00", 2, 3),
-        ("4f 02 04 04 00 02 01 00", 2, 0),
-        ("2f 02 04 04 00 02 01 00", 3, 7),
-        ("2f 02 04 04 00 02 01 03 01 06 01 03 01 08", 16, 14),
-        ("2f 02 04 04 00 02 01 03 01 06 01 03 01 08 04 02", 16, 15),
+        ("2f 02 04 04 00 02 01 00", 2, 0),
         ("1f 02 04 04 00 02 00 01 00", 2, 6),
         ("1f 02 04 04 00 02 40 01 00", 2, 6),
         ("1f 02 04 04 00 02 02 01 00", 13, 6),
@@ -160,7 +152,6 @@ fn empty_lists_with_2() {
             tests: 0,
             method: 1,
             wants: vec![],
-            warm_ups: vec![],
         };
         assert_eq!(read_job(&job, 0), Ok(read));
         assert_eq!(
@@ -457,8 +448,7 @@ fn bytes_to_job_to_bytes() {
         let method = [0, 1, 1, 3][byte as usize];
         assert_eq!(made.method, method, "{job:x?}");
         let (places, booked, curves) = (made.places, made.booked, made.curves);
-        let tests = (&made.wants, &made.warm_ups);
-        let again = write_job(places, booked, curves, method, tests, WARMED_JOB).unwrap();
+        let again = write_job(places, booked, curves, method, &made.wants, JOB).unwrap();
         assert_eq!(again.len(), job.len());
         let others: Vec<usize> = (0..job.len()).filter(|&at| job[at] != again[at]).collect();
         match byte {
@@ -627,14 +617,8 @@ fn cases_with_the_withdrawn_method() {
             }
             twice.extend(withdrawn::twice(&case));
             numbers.extend(withdrawn::handed(&case).map(withdrawn::number_kind));
-            if let Case::ReadJob {
-                job,
-                wants_len,
-                warm_ups_len,
-            } = &case
-            {
-                let room = (*wants_len, *warm_ups_len);
-                jobs.extend(withdrawn::job_kinds(job, room));
+            if let Case::ReadJob { job, wants_len } = &case {
+                jobs.extend(withdrawn::job_kinds(job, *wants_len));
                 if let Ok((_, order, _)) = planned_job(job) {
                     orders.extend(withdrawn::order_kinds(job, &order));
                 }
@@ -685,10 +669,7 @@ fn what_is_told_of_job_bytes() {
         ("0c 01 00 02", &["refused", "refused:1"]),
         ("18 02", &["refused", "refused:1"]),
         ("09 08 02", &["refused", "refused:2-before"]),
-        ("48 02", &["refused", "refused:2-before"]),
-        ("28 02", &["refused", "refused:16"]),
-        ("2c 02 00 02 00 00 02 01", &["refused", "refused:16"]),
-        ("2c 02 00 02 00 00 02 00", &["refused", "refused:9"]),
+        ("28 02", &["refused", "refused:2-before"]),
         ("0c 00 00 02 00", &["refused", "refused:2-before"]),
         (
             "09 08 02 00",

@@ -1,8 +1,8 @@
 //! The library under test, through its C interface.
 //!
-//! A slice passes as pointer, then length; the warm-ups stand behind the wants. A count is answered
-//! as itself, a refusal as `number << 48 | figure`; an examination that passes and a group that is
-//! read answer 0. `curveplan_plan` is the exception: it is the C host's own call and answers
+//! A slice passes as pointer, then length. A count is answered as itself, a refusal as
+//! `number << 48 | figure`; an examination that passes and a group that is read answer 0.
+//! `curveplan_plan` is the exception: it is the C host's own call and answers
 //! `number * 65536 + figure`. A text tells of the refusals of job and plan itself, so
 //! `curveplan_sheet`, `curveplan_audit` and `curveplan_size_table` refuse nothing but a buffer that is
 //! too short. The counts of all drive sizes are 64 numbers, lent without their length.
@@ -80,8 +80,6 @@ extern "C" {
         job_len: usize,
         wants: *mut u64,
         wants_len: usize,
-        warm_ups: *mut u16,
-        warm_ups_len: usize,
     ) -> JobHead;
     fn curveplan_write_job(
         places: usize,
@@ -90,8 +88,6 @@ extern "C" {
         method: usize,
         wants: *const u64,
         wants_len: usize,
-        warm_ups: *const u16,
-        warm_ups_len: usize,
         out: *mut u8,
         out_len: usize,
     ) -> u64;
@@ -102,8 +98,6 @@ extern "C" {
         method: usize,
         wants: *const u64,
         wants_len: usize,
-        warm_ups: *const u16,
-        warm_ups_len: usize,
         order: *mut u16,
         order_len: usize,
     ) -> u64;
@@ -113,8 +107,6 @@ extern "C" {
         curves: usize,
         wants: *const u64,
         wants_len: usize,
-        warm_ups: *const u16,
-        warm_ups_len: usize,
         held: u64,
         order: *const u16,
         order_len: usize,
@@ -130,8 +122,6 @@ extern "C" {
         curves: usize,
         wants: *const u64,
         wants_len: usize,
-        warm_ups: *const u16,
-        warm_ups_len: usize,
         held: u64,
         order: *const u16,
         order_len: usize,
@@ -145,8 +135,6 @@ extern "C" {
         curves: usize,
         wants: *const u64,
         wants_len: usize,
-        warm_ups: *const u16,
-        warm_ups_len: usize,
         held: u64,
         order: *const u16,
         order_len: usize,
@@ -162,8 +150,6 @@ extern "C" {
         curves: usize,
         wants: *const u64,
         wants_len: usize,
-        warm_ups: *const u16,
-        warm_ups_len: usize,
         held: u64,
         order: *const u16,
         order_len: usize,
@@ -209,8 +195,6 @@ extern "C" {
         curves: usize,
         wants: *const u64,
         wants_len: usize,
-        warm_ups: *const u16,
-        warm_ups_len: usize,
         order: *const u16,
         order_len: usize,
         counts: *mut u16,
@@ -219,8 +203,6 @@ extern "C" {
         curves: usize,
         wants: *const u64,
         wants_len: usize,
-        warm_ups: *const u16,
-        warm_ups_len: usize,
         order: *const u16,
         order_len: usize,
         loads: usize,
@@ -249,7 +231,6 @@ extern "C" {
         wants_len: usize,
     ) -> u64;
     fn curveplan_examine_counts(curves: usize, tests: usize) -> u64;
-    fn curveplan_examine_warm_ups(tests: usize, warm_ups: *const u16, warm_ups_len: usize) -> u64;
     fn curveplan_examine_sizes(capacity: usize, wants: *const u64, wants_len: usize) -> u64;
     fn curveplan_read_group(
         rest: *const u8,
@@ -287,17 +268,8 @@ extern "C" {
 // length, or is that of the one number lent for a group's or an end step's set, of the numbers of a
 // state, or of the 64 counts of all drive sizes; what is lent for writing is borrowed alone.
 
-pub fn read_job(job: &[u8], wants: &mut [u64], warm_ups: &mut [u16]) -> JobHead {
-    unsafe {
-        curveplan_read_job(
-            job.as_ptr(),
-            job.len(),
-            wants.as_mut_ptr(),
-            wants.len(),
-            warm_ups.as_mut_ptr(),
-            warm_ups.len(),
-        )
-    }
+pub fn read_job(job: &[u8], wants: &mut [u64]) -> JobHead {
+    unsafe { curveplan_read_job(job.as_ptr(), job.len(), wants.as_mut_ptr(), wants.len()) }
 }
 
 pub fn write_job(
@@ -306,7 +278,6 @@ pub fn write_job(
     curves: usize,
     method: usize,
     wants: &[u64],
-    warm_ups: &[u16],
     out: &mut [u8],
 ) -> u64 {
     unsafe {
@@ -317,8 +288,6 @@ pub fn write_job(
             method,
             wants.as_ptr(),
             wants.len(),
-            warm_ups.as_ptr(),
-            warm_ups.len(),
             out.as_mut_ptr(),
             out.len(),
         )
@@ -331,7 +300,6 @@ pub fn order_tests(
     curves: usize,
     method: usize,
     wants: &[u64],
-    warm_ups: &[u16],
     order: &mut [u16],
 ) -> u64 {
     unsafe {
@@ -342,8 +310,6 @@ pub fn order_tests(
             method,
             wants.as_ptr(),
             wants.len(),
-            warm_ups.as_ptr(),
-            warm_ups.len(),
             order.as_mut_ptr(),
             order.len(),
         )
@@ -356,7 +322,6 @@ pub fn plan_order(
     booked: usize,
     curves: usize,
     wants: &[u64],
-    warm_ups: &[u16],
     held: u64,
     order: &[u16],
     drops: &mut [u64],
@@ -370,8 +335,6 @@ pub fn plan_order(
             curves,
             wants.as_ptr(),
             wants.len(),
-            warm_ups.as_ptr(),
-            warm_ups.len(),
             held,
             order.as_ptr(),
             order.len(),
@@ -384,13 +347,11 @@ pub fn plan_order(
     }
 }
 
-#[allow(clippy::too_many_arguments)]
 pub fn make_state(
     places: usize,
     booked: usize,
     curves: usize,
     wants: &[u64],
-    warm_ups: &[u16],
     held: u64,
     order: &[u16],
     state: &mut State,
@@ -402,8 +363,6 @@ pub fn make_state(
             curves,
             wants.as_ptr(),
             wants.len(),
-            warm_ups.as_ptr(),
-            warm_ups.len(),
             held,
             order.as_ptr(),
             order.len(),
@@ -431,7 +390,6 @@ pub fn check_plan(
     booked: usize,
     curves: usize,
     wants: &[u64],
-    warm_ups: &[u16],
     held: u64,
     order: &[u16],
     drops: &[u64],
@@ -445,8 +403,6 @@ pub fn check_plan(
             curves,
             wants.as_ptr(),
             wants.len(),
-            warm_ups.as_ptr(),
-            warm_ups.len(),
             held,
             order.as_ptr(),
             order.len(),
@@ -465,7 +421,6 @@ pub fn write_plan(
     booked: usize,
     curves: usize,
     wants: &[u64],
-    warm_ups: &[u16],
     held: u64,
     order: &[u16],
     drops: &[u64],
@@ -480,8 +435,6 @@ pub fn write_plan(
             curves,
             wants.as_ptr(),
             wants.len(),
-            warm_ups.as_ptr(),
-            warm_ups.len(),
             held,
             order.as_ptr(),
             order.len(),
@@ -547,20 +500,12 @@ pub fn audit(job: &[u8], plan: &[u8], out: &mut [u8]) -> u64 {
     }
 }
 
-pub fn all_sizes(
-    curves: usize,
-    wants: &[u64],
-    warm_ups: &[u16],
-    order: &[u16],
-    counts: &mut [u16; SIZES],
-) -> u64 {
+pub fn all_sizes(curves: usize, wants: &[u64], order: &[u16], counts: &mut [u16; SIZES]) -> u64 {
     unsafe {
         curveplan_all_sizes(
             curves,
             wants.as_ptr(),
             wants.len(),
-            warm_ups.as_ptr(),
-            warm_ups.len(),
             order.as_ptr(),
             order.len(),
             counts.as_mut_ptr(),
@@ -568,20 +513,12 @@ pub fn all_sizes(
     }
 }
 
-pub fn fewest_places(
-    curves: usize,
-    wants: &[u64],
-    warm_ups: &[u16],
-    order: &[u16],
-    loads: usize,
-) -> u64 {
+pub fn fewest_places(curves: usize, wants: &[u64], order: &[u16], loads: usize) -> u64 {
     unsafe {
         curveplan_fewest_places(
             curves,
             wants.as_ptr(),
             wants.len(),
-            warm_ups.as_ptr(),
-            warm_ups.len(),
             order.as_ptr(),
             order.len(),
             loads,
@@ -618,10 +555,6 @@ pub fn examine_by(
 
 pub fn examine_counts(curves: usize, tests: usize) -> u64 {
     unsafe { curveplan_examine_counts(curves, tests) }
-}
-
-pub fn examine_warm_ups(tests: usize, warm_ups: &[u16]) -> u64 {
-    unsafe { curveplan_examine_warm_ups(tests, warm_ups.as_ptr(), warm_ups.len()) }
 }
 
 pub fn examine_sizes(capacity: usize, wants: &[u64]) -> u64 {

@@ -6,7 +6,6 @@
 // Steps, tests and sets are named by their numbers here, as in the papers.
 #![allow(clippy::needless_range_loop)]
 
-use std::borrow::Cow;
 use std::collections::BTreeSet;
 
 /// A refusal with its number and its figure. Number 5 is withdrawn by wish 3, and never answered.
@@ -71,44 +70,6 @@ fn sets_of(list: &[u64]) -> Vec<Curves> {
 }
 
 // ---------------------------------------------------------------------------------------------
-// Lists of tests
-
-/// The number of a test that has no warm-up.
-pub const NO_WARM_UP: u16 = 256;
-
-/// A list of so many tests without warm-ups.
-pub fn none(tests: usize) -> Vec<u16> {
-    vec![NO_WARM_UP; tests]
-}
-
-/// A list of tests as it is handed over: the wants and the warm-ups (wish 10). Wants alone are a list
-/// without warm-ups.
-#[derive(Clone, Debug)]
-pub struct Tests<'a> {
-    pub wants: &'a [u64],
-    pub warm_ups: Cow<'a, [u16]>,
-}
-
-impl<'a, W: AsRef<[u64]> + ?Sized> From<&'a W> for Tests<'a> {
-    fn from(wants: &'a W) -> Tests<'a> {
-        let wants = wants.as_ref();
-        Tests {
-            wants,
-            warm_ups: Cow::Owned(none(wants.len())),
-        }
-    }
-}
-
-impl<'a, W: AsRef<[u64]> + ?Sized, U: AsRef<[u16]> + ?Sized> From<(&'a W, &'a U)> for Tests<'a> {
-    fn from((wants, warm_ups): (&'a W, &'a U)) -> Tests<'a> {
-        Tests {
-            wants: wants.as_ref(),
-            warm_ups: Cow::Borrowed(warm_ups.as_ref()),
-        }
-    }
-}
-
-// ---------------------------------------------------------------------------------------------
 // Methods
 
 /// A method: its number, under which it is handed over and written; the bytes of job bytes that read as
@@ -152,27 +113,6 @@ pub struct Job {
     /// 0, 1 or 3.
     pub method: usize,
     pub wants: Vec<u64>,
-    /// A lower-numbered test for each test, or 256.
-    pub warm_ups: Vec<u16>,
-}
-
-/// The lengths of the two lists lent for reading a job. One number is the length of each.
-#[derive(Clone, Copy, Debug, PartialEq, Eq)]
-pub struct Room {
-    pub wants: usize,
-    pub warm_ups: usize,
-}
-
-impl From<usize> for Room {
-    fn from(each: usize) -> Room {
-        Room::from((each, each))
-    }
-}
-
-impl From<(usize, usize)> for Room {
-    fn from((wants, warm_ups): (usize, usize)) -> Room {
-        Room { wants, warm_ups }
-    }
 }
 
 /// What a drive can hold of a list's curves: places less booked (wish 5). It stands wherever document
@@ -222,43 +162,9 @@ fn read_record(job: &[u8], start: usize, curves: usize) -> Answer<(Curves, usize
     Ok((wants, offset))
 }
 
-/// The warm-up part behind the records, whose map begins here: the warm-ups, and the offset behind the
-/// part. Refusal 16.
-fn read_warm_ups(job: &[u8], start: usize, tests: usize) -> Answer<(Vec<u16>, usize)> {
-    let numbers = start + tests.div_ceil(8);
-    let Some(map) = job.get(start..numbers) else {
-        return refuse(16, job.len());
-    };
-    // All that stand, spare ones too.
-    let mut standing = BTreeSet::new();
-    for (at, &byte) in map.iter().enumerate() {
-        standing.extend(set_of(byte as u64).iter().map(|&bit| 8 * at + bit as usize));
-    }
-    let spare = standing.split_off(&tests);
-    if !spare.is_empty() {
-        return refuse(16, numbers - 1);
-    }
-    // So too where there is no byte.
-    if standing.is_empty() {
-        return refuse(16, start);
-    }
-    let mut warm_ups = none(tests);
-    let mut offset = numbers;
-    for test in standing {
-        match job.get(offset) {
-            None => return refuse(16, job.len()),
-            Some(&number) if number as usize >= test => return refuse(16, offset),
-            Some(&number) => warm_ups[test] = number as u16,
-        }
-        offset += 1;
-    }
-    Ok((warm_ups, offset))
-}
-
-pub fn read_job(job: &[u8], room: impl Into<Room>) -> Answer<Job> {
-    let room = room.into();
+pub fn read_job(job: &[u8], wants_len: usize) -> Answer<Job> {
     let map = owed(job, 0)?;
-    if map >= 64 {
+    if map >= 32 {
         return refuse(2, 0);
     }
     let stands = |bit: u8| set_of(map as u64).contains(&bit);
@@ -299,14 +205,10 @@ pub fn read_job(job: &[u8], room: impl Into<Room>) -> Answer<Job> {
         wants.push(bits_of(&set));
         offset = behind;
     }
-    let mut warm_ups = none(tests);
-    if stands(5) {
-        (warm_ups, offset) = read_warm_ups(job, offset, tests)?;
-    }
     if offset < job.len() {
         return refuse(6, offset);
     }
-    if room.wants < tests || room.warm_ups < tests {
+    if wants_len < tests {
         return refuse(9, tests);
     }
     Ok(Job {
@@ -316,7 +218,6 @@ pub fn read_job(job: &[u8], room: impl Into<Room>) -> Answer<Job> {
         tests,
         method,
         wants,
-        warm_ups,
     })
 }
 
@@ -341,38 +242,15 @@ fn groups(set: &Curves) -> Vec<u8> {
     all
 }
 
-/// The warm-up part of a list: the map, then the numbers. Nothing where no test has a warm-up.
-fn warm_up_part(warm_ups: &[u16]) -> Vec<u8> {
-    let mut numbers = Vec::new();
-    let mut map = Vec::new();
-    for eight in warm_ups.chunks(8) {
-        let mut byte = 0u8;
-        for (bit, &number) in eight.iter().enumerate() {
-            if number != NO_WARM_UP {
-                byte += 2u8.pow(bit as u32);
-                numbers.push(number as u8);
-            }
-        }
-        map.push(byte);
-    }
-    if numbers.is_empty() {
-        return numbers;
-    }
-    [map, numbers].concat()
-}
-
-pub fn write_job<'a>(
+pub fn write_job(
     places: usize,
     booked: usize,
     curves: usize,
     method: usize,
-    tests: impl Into<Tests<'a>>,
+    wants: &[u64],
     out_len: usize,
 ) -> Answer<Vec<u8>> {
-    let Tests { wants, warm_ups } = tests.into();
     handed(places, booked, curves, Some(method), wants)?;
-    each_warmed_up_by_a_lower(wants.len(), &warm_ups)?;
-    let part = warm_up_part(&warm_ups);
     let mut map = 0;
     let mut fields = Vec::new();
     if places != 8 {
@@ -396,15 +274,11 @@ pub fn write_job<'a>(
         map += 16;
         fields.push(booked as u8);
     }
-    if !part.is_empty() {
-        map += 32;
-    }
     let mut bytes = vec![map];
     bytes.extend(fields);
     for &want in wants {
         bytes.extend(groups(&set_of(want)));
     }
-    bytes.extend(part);
     if out_len < bytes.len() {
         return refuse(9, bytes.len());
     }
@@ -497,49 +371,6 @@ pub fn examine_sizes(capacity: usize, wants: &[u64]) -> Answer<()> {
     none_too_wide(capacity, &sets_of(wants))
 }
 
-/// Refusal 16 of handed warm-ups: the lowest test whose number is neither lower nor 256, or the first
-/// position that is missing or surplus, the smaller.
-pub(crate) fn each_warmed_up_by_a_lower(tests: usize, warm_ups: &[u16]) -> Answer<()> {
-    let mut faults = BTreeSet::new();
-    if warm_ups.len() != tests {
-        faults.insert(tests.min(warm_ups.len()));
-    }
-    for (test, &number) in warm_ups.iter().enumerate() {
-        let lower = usize::from(number) < test;
-        if !lower && number != NO_WARM_UP {
-            faults.insert(test);
-        }
-    }
-    match faults.first() {
-        Some(&position) => refuse(16, position),
-        None => Ok(()),
-    }
-}
-
-/// 16 alone, of any number of tests.
-pub fn examine_warm_ups(tests: usize, warm_ups: &[u16]) -> Answer<()> {
-    each_warmed_up_by_a_lower(tests, warm_ups)
-}
-
-/// Refusal 17: of the tests that run before their warm-up, the first one's position. The order has each
-/// test once, and there are as many warm-ups.
-pub(crate) fn each_behind_its_warm_up(warm_ups: &[u16], order: &[u16]) -> Answer<()> {
-    let mut positions = vec![0; order.len()];
-    for (position, &test) in order.iter().enumerate() {
-        positions[test as usize] = position;
-    }
-    let mut faults = BTreeSet::new();
-    for (test, &number) in warm_ups.iter().enumerate() {
-        if number != NO_WARM_UP && positions[number as usize] > positions[test] {
-            faults.insert(positions[test]);
-        }
-    }
-    match faults.first() {
-        Some(&position) => refuse(17, position),
-        None => Ok(()),
-    }
-}
-
 /// Refusal 8.
 pub(crate) fn each_test_once(tests: usize, order: &[u16]) -> Answer<()> {
     let mut faults = Vec::new();
@@ -564,15 +395,15 @@ pub(crate) fn each_test_once(tests: usize, order: &[u16]) -> Answer<()> {
 // ---------------------------------------------------------------------------------------------
 // Orders
 
-pub fn order_tests<'a>(
+pub fn order_tests(
     places: usize,
     booked: usize,
     curves: usize,
     method: usize,
-    tests: impl Into<Tests<'a>>,
+    wants: &[u64],
     order_len: usize,
 ) -> Answer<Vec<u16>> {
-    let (order, _) = order_and_flips(places, booked, curves, method, tests, order_len)?;
+    let (order, _) = order_and_flips(places, booked, curves, method, wants, order_len)?;
     Ok(order)
 }
 
@@ -580,18 +411,16 @@ pub fn order_tests<'a>(
 /// head-tail.
 pub type Flips = [u64; 4];
 
-/// The order, drawn out, and the flips on the way to it.
-pub fn order_and_flips<'a>(
+/// The order, and the flips on the way to it.
+pub fn order_and_flips(
     places: usize,
     booked: usize,
     curves: usize,
     method: usize,
-    tests: impl Into<Tests<'a>>,
+    wants: &[u64],
     order_len: usize,
 ) -> Answer<(Vec<u16>, Flips)> {
-    let Tests { wants, warm_ups } = tests.into();
     handed(places, booked, curves, Some(method), wants)?;
-    each_warmed_up_by_a_lower(wants.len(), &warm_ups)?;
     let capacity = less_booked(places, booked);
     let sets = sets_of(wants);
     none_too_wide(capacity, &sets)?;
@@ -602,26 +431,7 @@ pub fn order_and_flips<'a>(
     let known = METHODS.iter().find(|known| known.number == method);
     let known = known.expect("another number is refused");
     let order = (known.order)(capacity, &sets, &mut flips);
-    let order: Vec<u16> = order.iter().map(|&test| test as u16).collect();
-    Ok((drawn_out(&warm_ups, &order), flips))
-}
-
-/// An order, drawn out so that it keeps the warm-ups: each time the first untaken test whose warm-up is
-/// taken. What may be taken is kept as a set of positions in the order; a test that is taken adds those
-/// that waited for it.
-pub fn drawn_out(warm_ups: &[u16], order: &[u16]) -> Vec<u16> {
-    let waiting_for = |warm_up: u16| {
-        let positions = (0..order.len()).filter(move |&at| warm_ups[order[at] as usize] == warm_up);
-        positions.collect::<Vec<usize>>()
-    };
-    let mut ready = BTreeSet::from_iter(waiting_for(NO_WARM_UP));
-    let mut taken = Vec::new();
-    while let Some(position) = ready.pop_first() {
-        let test = order[position];
-        taken.push(test);
-        ready.extend(waiting_for(test));
-    }
-    taken
+    Ok((order.iter().map(|&test| test as u16).collect(), flips))
 }
 
 /// The order of method 3 alone, of any list of tests and any number of places less booked.
@@ -817,11 +627,11 @@ pub enum TieRule {
 
 /// Our plan, from what the drive holds at the start (wish 6).
 #[allow(clippy::too_many_arguments)]
-pub fn plan<'a>(
+pub fn plan(
     places: usize,
     booked: usize,
     curves: usize,
-    tests: impl Into<Tests<'a>>,
+    wants: &[u64],
     held: u64,
     order: &[u16],
     drops_len: usize,
@@ -829,30 +639,27 @@ pub fn plan<'a>(
 ) -> Answer<Plan> {
     let rule = TieRule::Highest;
     plan_by(
-        rule, places, booked, curves, tests, held, order, drops_len, loads_len,
+        rule, places, booked, curves, wants, held, order, drops_len, loads_len,
     )
 }
 
-/// The plan under either tie rule. Its steps know nothing of warm-ups.
+/// The plan under either tie rule.
 #[allow(clippy::too_many_arguments)]
-pub fn plan_by<'a>(
+pub fn plan_by(
     rule: TieRule,
     places: usize,
     booked: usize,
     curves: usize,
-    tests: impl Into<Tests<'a>>,
+    wants: &[u64],
     held: u64,
     order: &[u16],
     drops_len: usize,
     loads_len: usize,
 ) -> Answer<Plan> {
-    let Tests { wants, warm_ups } = tests.into();
     handed(places, booked, curves, None, wants)?;
     let mut held = set_of(held);
     none_foreign(curves, &held)?;
-    each_warmed_up_by_a_lower(wants.len(), &warm_ups)?;
     each_test_once(wants.len(), order)?;
-    each_behind_its_warm_up(&warm_ups, order)?;
     let capacity = less_booked(places, booked);
     let sets = sets_of(wants);
     none_too_wide(capacity, &sets)?;
@@ -927,25 +734,22 @@ pub fn held_behind(held: u64, drops: &[u64], loads: &[u64]) -> u64 {
 }
 
 #[allow(clippy::too_many_arguments)]
-pub fn check_plan<'a>(
+pub fn check_plan(
     places: usize,
     booked: usize,
     curves: usize,
-    tests: impl Into<Tests<'a>>,
+    wants: &[u64],
     held: u64,
     order: &[u16],
     drops: &[u64],
     loads: &[u64],
     end: u64,
 ) -> Answer<u64> {
-    let Tests { wants, warm_ups } = tests.into();
     handed(places, booked, curves, None, wants)?;
     // At the start it may be more than the places less booked.
     let mut held = set_of(held);
     none_foreign(curves, &held)?;
-    each_warmed_up_by_a_lower(wants.len(), &warm_ups)?;
     each_test_once(wants.len(), order)?;
-    each_behind_its_warm_up(&warm_ups, order)?;
     let mut length_faults = Vec::new();
     for list in [drops, loads] {
         if list.len() < wants.len() {
@@ -1022,11 +826,11 @@ pub fn plan_bytes(order: &[u16], drops: &[u64], loads: &[u64], end: u64) -> Vec<
 }
 
 #[allow(clippy::too_many_arguments)]
-pub fn write_plan<'a>(
+pub fn write_plan(
     places: usize,
     booked: usize,
     curves: usize,
-    tests: impl Into<Tests<'a>>,
+    wants: &[u64],
     held: u64,
     order: &[u16],
     drops: &[u64],
@@ -1035,7 +839,7 @@ pub fn write_plan<'a>(
     out_len: usize,
 ) -> Answer<Vec<u8>> {
     check_plan(
-        places, booked, curves, tests, held, order, drops, loads, end,
+        places, booked, curves, wants, held, order, drops, loads, end,
     )?;
     let bytes = plan_bytes(order, drops, loads, end);
     if out_len < bytes.len() {
@@ -1246,9 +1050,9 @@ pub type PlannedJob = (Job, Vec<u16>, Plan);
 pub fn planned_job(job: &[u8]) -> Answer<PlannedJob> {
     let job = read_job(job, LIST)?;
     let (places, booked) = (job.places, job.booked);
-    let (curves, tests) = (job.curves, (&job.wants, &job.warm_ups));
-    let order = order_tests(places, booked, curves, job.method, tests, LIST)?;
-    let plan = plan(places, booked, curves, tests, EMPTY, &order, LIST, LIST)?;
+    let order = order_tests(places, booked, job.curves, job.method, &job.wants, LIST)?;
+    let (curves, wants) = (job.curves, &job.wants);
+    let plan = plan(places, booked, curves, wants, EMPTY, &order, LIST, LIST)?;
     Ok((job, order, plan))
 }
 
@@ -1263,7 +1067,7 @@ pub fn planned_bytes(planned: &Answer<PlannedJob>, plan_len: usize) -> Answer<Ve
         job.places,
         job.booked,
         job.curves,
-        (&job.wants, &job.warm_ups),
+        &job.wants,
         EMPTY,
         order,
         &plan.drops,
@@ -1365,7 +1169,7 @@ fn audit_of(job: &Job, plan: &[u8]) -> Answer<Audit> {
         job.places,
         job.booked,
         job.curves,
-        (&job.wants, &job.warm_ups),
+        &job.wants,
         EMPTY,
         &order,
         &steps.drops(),

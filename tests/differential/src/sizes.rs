@@ -5,10 +5,7 @@
 //! last use; what is counted is how many such stays a drive can grant. That these are the counts of the
 //! single plans is left to the tests.
 
-use crate::reference::{
-    each_behind_its_warm_up, each_test_once, each_warmed_up_by_a_lower, examine, order_tests,
-    read_job, refused_text, Answer, Tests,
-};
+use crate::reference::{each_test_once, examine, order_tests, read_job, refused_text, Answer};
 
 /// Drives have 1 to so many places.
 pub const SIZES: usize = 64;
@@ -20,19 +17,14 @@ pub const MARK: u16 = 65_535;
 pub type Counts = Vec<Option<u64>>;
 
 /// Refused as in planning, but for 7; places, booked places, a holding and lists are not handed over.
-pub fn examined<'a>(curves: usize, tests: impl Into<Tests<'a>>, order: &[u16]) -> Answer<()> {
-    let Tests { wants, warm_ups } = tests.into();
+pub fn examined(curves: usize, wants: &[u64], order: &[u16]) -> Answer<()> {
     // With places that are in range and none booked: 10 of the other numbers.
     examine(SIZES, 0, curves, wants)?;
-    each_warmed_up_by_a_lower(wants.len(), &warm_ups)?;
-    each_test_once(wants.len(), order)?;
-    each_behind_its_warm_up(&warm_ups, order)
+    each_test_once(wants.len(), order)
 }
 
-pub fn all_sizes<'a>(curves: usize, tests: impl Into<Tests<'a>>, order: &[u16]) -> Answer<Counts> {
-    let tests = tests.into();
-    let wants = tests.wants;
-    examined(curves, tests, order)?;
+pub fn all_sizes(curves: usize, wants: &[u64], order: &[u16]) -> Answer<Counts> {
+    examined(curves, wants, order)?;
     let steps: Vec<u64> = order.iter().map(|&test| wants[test as usize]).collect();
     let uses = Uses::new(&steps);
     Ok((1..=SIZES).map(|places| uses.loads(places)).collect())
@@ -105,13 +97,13 @@ pub fn fewest(counts: &[Option<u64>], loads: usize) -> Option<usize> {
     })
 }
 
-pub fn fewest_places<'a>(
+pub fn fewest_places(
     curves: usize,
-    tests: impl Into<Tests<'a>>,
+    wants: &[u64],
     order: &[u16],
     loads: usize,
 ) -> Answer<Option<usize>> {
-    let counts = all_sizes(curves, tests, order)?;
+    let counts = all_sizes(curves, wants, order)?;
     Ok(fewest(&counts, loads))
 }
 
@@ -138,9 +130,8 @@ impl Table {
     pub fn new(job: &[u8]) -> Answer<Table> {
         let job = read_job(job, usize::MAX)?;
         let (places, booked, curves) = (job.places, job.booked, job.curves);
-        let tests = (&job.wants, &job.warm_ups);
-        let order = order_tests(places, booked, curves, job.method, tests, job.tests)?;
-        let counts = all_sizes(curves, tests, &order)?;
+        let order = order_tests(places, booked, curves, job.method, &job.wants, job.tests)?;
+        let counts = all_sizes(curves, &job.wants, &order)?;
         Ok(Table {
             tests: job.tests,
             method: job.method,

@@ -2,7 +2,7 @@
 //! its steps were committed: the sentences of the papers. Any numbers in the form that the C header gives
 //! a state are one too: the sentences of that header, bit by bit.
 
-use crate::reference::{self, held_behind, less_booked, refusal, Answer, Tests};
+use crate::reference::{self, held_behind, less_booked, refusal, Answer};
 
 /// The wants of a state have an entry for each of as many steps.
 pub const ENTRIES: usize = 256;
@@ -59,18 +59,16 @@ pub struct Made {
 
 impl Made {
     /// From a list, an order and a holding; refused as in planning, but that nothing is lent.
-    pub fn new<'a>(
+    pub fn new(
         places: usize,
         booked: usize,
         curves: usize,
-        tests: impl Into<Tests<'a>>,
+        wants: &[u64],
         held: u64,
         order: &[u16],
     ) -> Answer<Made> {
         let room = usize::MAX;
-        let tests = tests.into();
-        let wants = tests.wants;
-        let plan = reference::plan(places, booked, curves, tests, held, order, room, room)?;
+        let plan = reference::plan(places, booked, curves, wants, held, order, room, room)?;
         let mut steps = Vec::new();
         for (&drops, &loads) in plan.drops.iter().zip(&plan.loads) {
             steps.push(Shown::Step { drops, loads });

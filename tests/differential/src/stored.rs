@@ -1,11 +1,10 @@
 //! The stored cases of the sheet, audit and sizes programs, as the papers have them. None prints the number
 //! of the withdrawn refusal.
 
-use crate::generate::{JOB, PLAN_MADE, PLAN_READ, SHEET, WARMED_JOB};
+use crate::generate::{JOB, PLAN_MADE, PLAN_READ, SHEET};
 use crate::reference::*;
 use crate::sizes::{printed, Table};
 use crate::ties::both_plans;
-use crate::warm_ups::has_part;
 use crate::withdrawn::{field_of_2, written_back};
 use std::collections::BTreeSet;
 use std::fs;
@@ -92,7 +91,7 @@ fn tables() {
             _ => format!("method {}", Table::new(&job).unwrap().method),
         });
     }
-    let refusals = [1, 2, 3, 4, 6, 7, 13, 16].map(|number| format!("refused {number}"));
+    let refusals = [1, 2, 3, 4, 6, 7, 13].map(|number| format!("refused {number}"));
     let mut expected: BTreeSet<String> = refusals.into_iter().collect();
     expected.extend(["usage", "method 0", "method 1", "method 3"].map(str::to_string));
     assert_eq!(told, expected);
@@ -234,73 +233,6 @@ fn method_2() {
         let printed = stored("sheet", "job_a_method_2", "out");
         assert_ne!(printed, stored("sheet", other, "out"));
     }
-}
-
-/// Jobs with warm-ups: those named so read with some; without them job A's sheets by methods 1 and 3, the
-/// seven tests and the nine are others; of the longest there are 32 map bytes and 255 numbers.
-#[test]
-fn warm_ups() {
-    let unwarmed = |job: &[u8]| {
-        let read = read_job(job, 256).unwrap();
-        let (places, booked, curves) = (read.places, read.booked, read.curves);
-        write_job(places, booked, curves, read.method, &read.wants, JOB).unwrap()
-    };
-    let (mut read, mut refused) = (0, 0);
-    for (program, endings) in [
-        ("sheet", &["job", "out"][..]),
-        ("audit", &["job", "plan", "out"]),
-    ] {
-        for name in names(program, endings) {
-            let job = stored(program, &name, "job");
-            if !has_part(&job) {
-                continue;
-            }
-            let printed = String::from_utf8(stored(program, &name, "out")).unwrap();
-            match read_job(&job, 256) {
-                Ok(job) => {
-                    read += 1;
-                    assert!(job.warm_ups.iter().any(|number| *number != 256), "{name}");
-                }
-                Err(_) => {
-                    refused += 1;
-                    assert!(printed.starts_with("refused "), "{name}");
-                }
-            }
-        }
-    }
-    assert!(read > 10 && refused > 8, "{read}, {refused}");
-    for (name, other) in [
-        ("job_a_warm_ups", false),
-        ("job_a_warm_ups_method_1", true),
-        ("job_a_warm_ups_method_2", true),
-        ("job_a_warm_ups_method_3", true),
-        ("seven_tests_warm_ups", true),
-        ("nine_tests_warm_ups", true),
-    ] {
-        let printed = String::from_utf8(stored("sheet", name, "out")).unwrap();
-        let without = sheet(&unwarmed(&stored("sheet", name, "job")));
-        assert_eq!(without != printed, other, "{name}");
-    }
-    for name in ["refused_17", "refused_17_later"] {
-        let (job, plan) = (stored("audit", name, "job"), stored("audit", name, "plan"));
-        assert!(audit(&unwarmed(&job), &plan).is_ok(), "{name}");
-    }
-    for program in ["sheet", "audit"] {
-        let job = stored(program, "longest_job_warm_ups", "job");
-        assert_eq!(job.len(), WARMED_JOB);
-        // By method 1 instead of 3.
-        let mut booked = stored(program, "longest_job_booked", "job");
-        (booked[0], booked[5]) = (booked[0] + 32, 1);
-        assert_eq!(job[..JOB], booked);
-        let surplus = stored(program, "longest_job_warm_ups_surplus", "job");
-        assert_eq!(surplus, [&job[..], &[0]].concat());
-    }
-    let job = stored("audit", "longest_job_warm_ups", "job");
-    let plan = stored("audit", "longest_job_warm_ups", "plan");
-    assert_eq!(call_bytes(&job, PLAN_MADE), Ok(plan));
-    // The map's bits that are refused.
-    assert_eq!(stored("sheet", "refused_2_map", "job"), [0x40]);
-    assert_eq!(stored("sheet", "refused_16_no_tests", "job"), [0x20]);
 }
 
 /// A step of our plan names no curve twice: what it drops is not wanted, what it loads is. So no curve

@@ -8,9 +8,8 @@ use crate::generate::{
 use crate::holding;
 use crate::parts;
 use crate::random::Random;
-use crate::reference::{none, Answer};
+use crate::reference::Answer;
 use crate::states::{Any, Made, Shown, ENTRIES};
-use crate::warm_ups;
 use std::fmt;
 
 // ---------------------------------------------------------------------------------------------
@@ -23,7 +22,6 @@ pub struct List {
     pub booked: usize,
     pub curves: usize,
     pub wants: Vec<u64>,
-    pub warm_ups: Vec<u16>,
     pub held: u64,
     pub order: Vec<u16>,
 }
@@ -31,8 +29,7 @@ pub struct List {
 impl List {
     pub fn made(&self) -> Answer<Made> {
         let (places, booked, curves) = (self.places, self.booked, self.curves);
-        let tests = (&self.wants, &self.warm_ups);
-        Made::new(places, booked, curves, tests, self.held, &self.order)
+        Made::new(places, booked, curves, &self.wants, self.held, &self.order)
     }
 
     fn into_case(self) -> Case {
@@ -41,7 +38,6 @@ impl List {
             booked: self.booked,
             curves: self.curves,
             wants: self.wants,
-            warm_ups: self.warm_ups,
             held: self.held,
             order: self.order,
         }
@@ -56,7 +52,6 @@ pub fn list_of(case: &Case) -> Option<List> {
             booked,
             curves,
             wants,
-            warm_ups,
             held,
             order,
         } => Some(List {
@@ -64,7 +59,6 @@ pub fn list_of(case: &Case) -> Option<List> {
             booked: *booked,
             curves: *curves,
             wants: wants.clone(),
-            warm_ups: warm_ups.clone(),
             held: *held,
             order: order.clone(),
         }),
@@ -80,7 +74,6 @@ pub fn instead_of_planning(case: Case) -> Case {
             booked,
             curves,
             wants,
-            warm_ups,
             held,
             order,
             ..
@@ -89,7 +82,6 @@ pub fn instead_of_planning(case: Case) -> Case {
             booked,
             curves,
             wants,
-            warm_ups,
             held,
             order,
         },
@@ -124,16 +116,11 @@ pub fn sound(random: &mut Random, size: Size) -> (List, Made) {
             wants,
             ..
         } = job;
-        let warm_ups = match random.below(2) {
-            0 => none(wants.len()),
-            _ => warm_ups::kept(random, wants.len(), &order),
-        };
         let list = List {
             places,
             booked,
             curves,
             wants,
-            warm_ups,
             held,
             order,
         };
@@ -144,8 +131,8 @@ pub fn sound(random: &mut Random, size: Size) -> (List, Made) {
 }
 
 /// What can be faulty in what a state is made of, in the sequence of the papers; 10 with its figure.
-pub const FAULTS: [&str; 11] = [
-    "10:0", "10:1", "10:2", "10:4+t", "10:260", "13", "14", "16", "8", "17", "7",
+pub const FAULTS: [&str; 9] = [
+    "10:0", "10:1", "10:2", "10:4+t", "10:260", "13", "14", "8", "7",
 ];
 
 fn outside(number: usize) -> bool {
@@ -171,9 +158,7 @@ pub fn faults(list: &List) -> Vec<&'static str> {
         list.booked > 63,
         list.booked >= list.places,
         list.held & !own != 0,
-        warm_ups::first_fault(list.wants.len(), &list.warm_ups).is_some(),
         !each_once(list.wants.len(), &list.order),
-        warm_ups::runs_before(&list.warm_ups, &list.order),
         list.wants.iter().any(wider),
     ];
     let named = FAULTS.iter().zip(faulty).filter(|(_, faulty)| *faulty);
@@ -190,13 +175,10 @@ fn spoil(random: &mut Random, list: &mut List, fault: &str) {
         "10:1" => list.curves = random.pick(&WILD),
         "10:2" => {
             spoil_tests(random, &mut list.wants);
-            list.warm_ups.resize(list.wants.len(), 256);
             if random.chance(1, 2) {
                 list.order = permutation(random, list.wants.len());
             }
         }
-        "16" => warm_ups::spoil(random, &mut list.warm_ups),
-        "17" => list.warm_ups = warm_ups::broken(random, tests, &list.order),
         "10:260" => list.booked = random.pick(&WILD_BOOKED),
         "13" => {
             let places = list.places;
@@ -232,8 +214,8 @@ pub fn make_case(random: &mut Random, size: Size) -> Case {
     let (mut list, _) = sound(random, size);
     for _ in 0..random.pick(&[0, 0, 1, 1, 2, 2, 2, 3]) {
         // The last is seldom the first.
-        let fault = match random.below(14) {
-            at @ 0..=10 => FAULTS[at],
+        let fault = match random.below(12) {
+            at @ 0..=8 => FAULTS[at],
             _ => "7",
         };
         spoil(random, &mut list, fault);
@@ -245,7 +227,7 @@ pub fn make_case(random: &mut Random, size: Size) -> Case {
 pub const TOO_MANY: [&str; 2] = ["257-tests:refused", "258-tests-and-more:refused"];
 
 /// What is told of a state that was made.
-pub const MADE: [&str; 15] = [
+pub const MADE: [&str; 14] = [
     "0-tests",
     "1-test",
     "255-tests",
@@ -254,7 +236,6 @@ pub const MADE: [&str; 15] = [
     "end-step-alone",
     "step-first",
     "other-order-of-wants",
-    "warm-ups",
     "booked",
     "capacity-1",
     "capacity-64",
@@ -290,8 +271,6 @@ pub fn made_kinds(list: &List, answer: &Answer<Made>) -> Vec<&'static str> {
         !in_order.eq(list.wants.iter().copied()),
         "other-order-of-wants",
     );
-    let warmed = list.warm_ups.iter().any(|number| *number != 256);
-    note(warmed, "warm-ups");
     note(list.booked > 0, "booked");
     note(made.capacity() == 1, "capacity-1");
     note(made.capacity() == 64, "capacity-64");

@@ -4,13 +4,11 @@
 use crate::booked;
 use crate::empty;
 use crate::generate::{
-    self, all_curves, any_booked, beside_wants, damage, enough, job_bytes, lent, spoil_tests,
-    spoil_wants, Case, Job, Size, FUNCTIONS, JOB, PLAN_MADE, SHEET, WILD, WILD_BOOKED,
-    WILD_METHODS,
+    self, all_curves, any_booked, damage, enough, job_bytes, lent, spoil_tests, spoil_wants, Case,
+    Job, Size, FUNCTIONS, JOB, PLAN_MADE, SHEET, WILD, WILD_BOOKED, WILD_METHODS,
 };
 use crate::random::Random;
-use crate::reference::{self, drawn_out, less_booked, none, Answer, Refusal, Room};
-use crate::warm_ups;
+use crate::reference::{self, less_booked, Answer, Refusal};
 
 /// The methods that may be handed over.
 pub const HANDED: [usize; 3] = [0, 1, 3];
@@ -74,7 +72,7 @@ fn job(random: &mut Random) -> Job {
 }
 
 /// Job bytes with a method byte of 2: sound, or with a fault before it, behind it, or both. At times
-/// without tests, with warm-ups, or the longest without.
+/// without tests, or the longest.
 pub fn any_bytes(random: &mut Random) -> Vec<u8> {
     let mut bytes = match random.below(48) {
         0 => with_2(job_bytes(&booked::longest_job(random))),
@@ -103,7 +101,6 @@ pub fn any_bytes(random: &mut Random) -> Vec<u8> {
             damage(random, &mut bytes);
             damage(random, &mut bytes);
         }
-        8 | 9 => return warm_ups::with_part(random, bytes, None),
         _ => {}
     }
     bytes
@@ -122,7 +119,7 @@ fn spoil_before(random: &mut Random, bytes: &mut [u8]) {
             let value: [u8; 2] = random.pick(&[[0, 0], [1, 1], [255, 255]]);
             bytes[tests..tests + 2].copy_from_slice(&value);
         }
-        _ => bytes[0] |= 1 << random.between(6, 7),
+        _ => bytes[0] |= 1 << random.between(5, 7),
     }
 }
 
@@ -182,11 +179,9 @@ pub fn case(function: usize, random: &mut Random) -> Option<Case> {
         "read_job" => {
             let job = any_bytes(random);
             let tests = reference::read_job(&job, usize::MAX).map_or(4, |read| read.tests);
-            let wants_len = lent(random, tests);
             Case::ReadJob {
                 job,
-                wants_len,
-                warm_ups_len: beside_wants(random, tests, wants_len),
+                wants_len: lent(random, tests),
             }
         }
         "write_job" => {
@@ -196,7 +191,6 @@ pub fn case(function: usize, random: &mut Random) -> Option<Case> {
                 booked: job.booked,
                 curves: job.curves,
                 method: job.method,
-                warm_ups: none(job.wants.len()),
                 wants: job.wants,
                 out_len: random.pick(&[JOB, JOB, JOB, 7, 0]),
             }
@@ -212,7 +206,6 @@ pub fn case(function: usize, random: &mut Random) -> Option<Case> {
                 booked: job.booked,
                 curves: job.curves,
                 method: job.method,
-                warm_ups: none(job.wants.len()),
                 wants: job.wants,
                 order_len,
             }
@@ -259,11 +252,10 @@ pub fn case(function: usize, random: &mut Random) -> Option<Case> {
 /// What is told of job bytes with a method byte of 2: that they read, and of which kind; the refusal, that
 /// of a field by where it stands; and that there is a fault on each side of the byte, or one of the booked
 /// places beside another behind it.
-pub const JOBS: [&str; 16] = [
+pub const JOBS: [&str; 14] = [
     "done",
     "done:without-tests",
     "done:booked",
-    "done:warm-ups",
     "done:2311-bytes",
     "refused",
     "refused:1",
@@ -273,7 +265,6 @@ pub const JOBS: [&str; 16] = [
     "refused:4",
     "refused:6",
     "refused:13",
-    "refused:16",
     "two-faults:around",
     "two-faults:behind",
 ];
@@ -282,13 +273,12 @@ pub const JOBS: [&str; 16] = [
 pub const SHORT: &str = "refused:9";
 
 /// The names of what is told of these bytes. With a method byte of 1 the answer has to be the same.
-pub fn job_kinds(job: &[u8], room: impl Into<Room>) -> Vec<&'static str> {
-    let room = room.into();
+pub fn job_kinds(job: &[u8], wants_len: usize) -> Vec<&'static str> {
     let Some(at) = field_of_2(job) else {
         return vec![];
     };
-    let answer = reference::read_job(job, room);
-    let with_1 = reference::read_job(&written_back(job), room);
+    let answer = reference::read_job(job, wants_len);
+    let with_1 = reference::read_job(&written_back(job), wants_len);
     assert_eq!(answer, with_1, "{job:x?}");
     let no = match answer {
         Ok(read) => {
@@ -300,9 +290,7 @@ pub fn job_kinds(job: &[u8], room: impl Into<Room>) -> Vec<&'static str> {
             if read.booked > 0 {
                 kinds.push("done:booked");
             }
-            if job[0] >= 32 {
-                kinds.push("done:warm-ups");
-            } else if job.len() == JOB {
+            if job.len() == JOB {
                 kinds.push("done:2311-bytes");
             }
             return kinds;
@@ -318,7 +306,6 @@ pub fn job_kinds(job: &[u8], room: impl Into<Room>) -> Vec<&'static str> {
         4 => "refused:4",
         6 => "refused:6",
         13 => "refused:13",
-        16 => "refused:16",
         9 => SHORT,
         _ => panic!("{no:?} is unforeseen: {job:x?}"),
     };
@@ -336,7 +323,7 @@ pub fn job_kinds(job: &[u8], room: impl Into<Room>) -> Vec<&'static str> {
 /// tests is sound.
 fn faulty_behind(job: &[u8], at: usize, with_booked: bool) -> bool {
     let map = job[0];
-    let mut bytes = vec![1 | map & 44, 64];
+    let mut bytes = vec![1 | map & 12, 64];
     if map & 4 != 0 {
         let tests = job[at - 2] as usize + 256 * job[at - 1] as usize;
         if !(1..=256).contains(&tests) {
@@ -385,8 +372,7 @@ pub fn order_kinds(job: &[u8], order: &[u16]) -> Vec<&'static str> {
     };
     let capacity = less_booked(read.places, read.booked);
     let listed = order.iter().zip(0..).all(|(test, at)| *test == at);
-    let packed = booked::packages(capacity, capacity, &read.wants);
-    let packed = drawn_out(&read.warm_ups, &packed) == order;
+    let packed = booked::packages(capacity, capacity, &read.wants) == order;
     match (listed, packed) {
         (true, true) => vec!["same"],
         (false, true) => vec!["other-than-0"],
@@ -405,8 +391,7 @@ pub fn audited_order(job: &[u8], plan: &[u8]) -> Option<(Vec<u16>, &'static str)
     let read = reference::read_job(job, usize::MAX).ok()?;
     let steps = reference::read_steps(read.curves, read.tests, plan).ok()?;
     let (places, booked, curves) = (read.places, read.booked, read.curves);
-    let tests = (&read.wants, &read.warm_ups);
-    let order = reference::order_tests(places, booked, curves, 1, tests, read.tests).ok()?;
+    let order = reference::order_tests(places, booked, curves, 1, &read.wants, read.tests).ok()?;
     let kind = AUDITED[(steps.order() != order) as usize];
     Some((order, kind))
 }
@@ -446,29 +431,21 @@ fn refused_by(case: &Case, method: usize) -> Option<Refusal> {
             booked,
             curves,
             wants,
-            warm_ups,
             out_len,
             ..
-        } => {
-            let tests = (wants, warm_ups);
-            no(reference::write_job(
-                *places, *booked, *curves, method, tests, *out_len,
-            ))
-        }
+        } => no(reference::write_job(
+            *places, *booked, *curves, method, wants, *out_len,
+        )),
         Case::OrderTests {
             places,
             booked,
             curves,
             wants,
-            warm_ups,
             order_len,
             ..
-        } => {
-            let tests = (wants, warm_ups);
-            no(reference::order_tests(
-                *places, *booked, *curves, method, tests, *order_len,
-            ))
-        }
+        } => no(reference::order_tests(
+            *places, *booked, *curves, method, wants, *order_len,
+        )),
         Case::ExamineBy {
             places,
             booked,
@@ -484,7 +461,7 @@ fn refused_by(case: &Case, method: usize) -> Option<Refusal> {
 
 /// What is told of a handed 2: that it is refused 10 at 3, with no other fault or before another one, and
 /// that another one is refused before it. A function has those that it can refuse.
-pub const TWICE: [&str; 11] = [
+pub const TWICE: [&str; 10] = [
     "10:3",
     "10:3-alone",
     "10:0+10:3",
@@ -493,7 +470,6 @@ pub const TWICE: [&str; 11] = [
     "10:3+10:4+t",
     "10:3+10:260",
     "10:3+13",
-    "10:3+16",
     "10:3+7",
     "10:3+9",
 ];
@@ -501,7 +477,7 @@ pub const TWICE: [&str; 11] = [
 /// Those of them that a function with such refusals behind 13 can have.
 pub fn twice_names(refusals: &[&str]) -> Vec<&'static str> {
     let can = |name: &&&'static str| match name.strip_prefix("10:3+") {
-        Some(other @ ("7" | "9" | "16")) => refusals.contains(&other),
+        Some(other @ ("7" | "9")) => refusals.contains(&other),
         _ => true,
     };
     TWICE.iter().filter(can).copied().collect()

@@ -2,7 +2,7 @@
 use native.Mathlib.Omega.{arith}
 use Prim.Native.Nat.{◌≤◌}
 use Rattle.job.specs.Refusal.{number, figure}
-use Rattle.set_bytes.proofs.SetRoundTrip.{Bytes}
+use Rattle.job_bytes.proofs.SetRoundTrip.{Bytes}
 use Rattle.planned.proofs.Reading.{bytes_of}
 use Rattle.curveplan.proofs.Answers.{answers_count, answers_refusal, refusal_bounds}
 use borrow.Author.Rules.{rules}
@@ -14,7 +14,7 @@ bytes : (c : tie.After-shared-slice-known) → Bytes c.before.args.job.now
 bytes c = bytes_of c.before.args.job.now (λ k l. omega (arith, c.shared-slice-known.given k))
 
 -- the refusal's number and figure are small
-small : (c : tie.After-known-told) → (number c.before.r.given.0.0 ≤ 16) × (figure c.before.r.given.0.0 ≤ 5121)
+small : (c : tie.After-known-told) → (number c.before.r.given.0.0 ≤ 13) × (figure c.before.r.given.0.0 ≤ 5121)
 small c = refusal_bounds c.before.before.before.before.before.before.before.before.before.args.job.now
     c.before.before.before.before.before.before.before.before.before.args.plan.now _
     c.before.before.before.before.before.job-to-plan.ensures.0 (bytes c.before.before.before.before.before.before.before.before) _

@@ -6,7 +6,7 @@ use Rattle.exports.proofs.curveplan_examine.Statement.{statement}
 use Rattle.exports.proofs.curveplan_examine.Tie as tie
 
 returns : tie.Need-returns
-returns c = λ w. c.examined.ensures ∙ ap passing (rw c.before.before.rig.ensures at (c.before.examine-job.ensures w))
+returns c = c.examined.ensures ∙ ap passing (rw c.before.before.rig.ensures at c.before.examine-job.ensures)
 
 pub curveplan_examine_spec : {M : Type 1} → statement M
 curveplan_examine_spec = tie.close (tie.spec (λ c κs. search rules) (λ c κs. search rules) (λ c κs. search rules) returns)

@@ -9,7 +9,7 @@ returns : tie.Need-returns
 returns c =
     let k = c.before.before.before.before in
     let m = k.before.before in
-    let a = m.before.before.before.before.before.args in
+    let a = m.before.before.before.before.args in
     let e = rw m.before.rig.ensures at m.make-state.ensures in
     let l = state_left a.state.now _ _ _ _ e.0 e.1 k.answer.given.1 in
     (l.0, c.put-state.ensures ∙ l.1)
@@ -18,7 +18,7 @@ returns_2 : tie.Need-returns-2
 returns_2 c =
     let k = c.before.before in
     let m = k.before.before in
-    let a = m.before.before.before.before.before.args in
+    let a = m.before.before.before.before.args in
     let e = rw m.before.rig.ensures at m.make-state.ensures in
     let l = numbers_left a.state.now _ _ _ e.0 k.answer2.given.1 in
     (c.refusal.ensures ∙ l.0, l.1)

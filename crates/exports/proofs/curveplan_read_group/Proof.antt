@@ -2,7 +2,7 @@
 use mathlib.Core.Path.{refl}
 use borrow.Author.Rules.{rules}
 use Rattle.job.specs.Refusal.{mapped}
-use Rattle.set_bytes.specs.SetBytes.{group_outcome}
+use Rattle.job_bytes.specs.SetBytes.{group_outcome}
 use Rattle.exports.specs.Numbers.{numbered, group_at, leaves_one}
 use Rattle.exports.proofs.curveplan_read_group.Statement.{statement}
 use Rattle.exports.proofs.curveplan_read_group.Tie as tie

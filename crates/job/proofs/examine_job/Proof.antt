@@ -15,11 +15,11 @@ numbers c = examined_passed _ _ c.enum_told.given.1 c.before.before.examine-numb
 
 returns : tie.Need-returns
 unfolding examined_outcome
-returns c = λ w. sym (by_refused _ _ _ _ (examined_refused _ _ _ c.before.r.given.1 c.before.before.before.examine-numbers.ensures))
+returns c = sym (by_refused _ _ _ _ (examined_refused _ _ _ c.before.r.given.1 c.before.before.before.examine-numbers.ensures))
 
 returns_2 : tie.Need-returns-2
 unfolding examined_outcome
-returns_2 c = λ w. sym (by_method _ _ (numbers c.before.before) (sym c.before.is-method.ensures ∙ not-true _ c.if1.true))
+returns_2 c = sym (by_method _ _ (numbers c.before.before) (sym c.before.is-method.ensures ∙ not-true _ c.if1.true))
 
 examine_wants_requires : tie.Need-examine-wants-requires
 examine_wants_requires c κs = known_bounds _ _ (numbers c.before.before)
@@ -28,13 +28,13 @@ returns_3 : tie.Need-returns-3
 unfolding examined_outcome
 returns_3 c =
     let w = c.before.before.before in
-    λ u. sym (by_wants _ _ (numbers w.before.before.before) (sym w.before.before.is-method.ensures ∙ not-false _ w.before.if1.false) _ _
+    sym (by_wants _ _ (numbers w.before.before.before) (sym w.before.before.is-method.ensures ∙ not-false _ w.before.if1.false) _ _
     (examined_refused _ _ _ c.before.r2.given.1 w.examine-wants.ensures))
 
 returns_4 : tie.Need-returns-4
 returns_4 c =
     let w = c.before.before.before in
-    λ u. c.examine-booked.ensures
+    c.examine-booked.ensures
     ∙ sym (by_booked _ _ (numbers w.before.before.before) (sym w.before.before.is-method.ensures ∙ not-false _ w.before.if1.false)
     (examined_passed _ _ c.before.enum-told2.given.1 w.examine-wants.ensures))
 

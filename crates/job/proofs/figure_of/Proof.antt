@@ -60,17 +60,8 @@ returns_14 : tie.Need-returns-14
 unfolding figure
 returns_14 c = rw c.before.r14.given.1
 
-returns_15 : tie.Need-returns-15
-unfolding figure
-returns_15 c = rw c.before.r15.given.1
-
-returns_16 : tie.Need-returns-16
-unfolding figure
-returns_16 c = rw c.before.r16.given.1
-
 pub figure_of_spec : {M : Type 1} → statement M
 figure_of_spec =
-    tie.close (tie.spec (λ c. search rules) (λ c. search rules) (λ c. search rules) (λ c. search rules) (λ c. search rules) (λ c. search rules) (λ c. search rules) (λ c. search rules)
+    tie.close (tie.spec (λ c. search rules) (λ c. search rules) (λ c. search rules) (λ c. search rules) (λ c. search rules) (λ c. search rules)
     (λ c. search rules) (λ c. search rules) (λ c. search rules) (λ c. search rules) (λ c. search rules) (λ c. search rules) (λ c. search rules)
-    (λ c. search rules) returns returns_2 returns_3 returns_4 returns_5 returns_6 returns_7 returns_8 returns_9 returns_10 returns_11 returns_12 returns_13 returns_14 returns_15
-    returns_16)
+    (λ c. search rules) returns returns_2 returns_3 returns_4 returns_5 returns_6 returns_7 returns_8 returns_9 returns_10 returns_11 returns_12 returns_13 returns_14)

@@ -7,7 +7,7 @@ use lib.ListN.{length, length-set}
 use lib.Seq.{sets, length-sets}
 use borrow.Author.Rules.{rules}
 use Rattle.lists.proofs.Overwritten.{sets_cons}
-use Rattle.set_bytes.specs.SetBytes.{set_bytes}
+use Rattle.job_bytes.specs.SetBytes.{set_bytes}
 use Rattle.plan_bytes.proofs.Writing.{no_end_bytes, some_end_bytes}
 use Rattle.plan_bytes.proofs.put_end.Statement.{statement}
 use Rattle.plan_bytes.proofs.put_end.Tie as tie

@@ -6,7 +6,7 @@ use native.Mathlib.Omega.{arith}
 use lib.ListN.{length, length-append}
 use lib.Seq.{sets, length-sets}
 use borrow.Author.Rules.{rules}
-use Rattle.set_bytes.proofs.Encoding.{sets_append}
+use Rattle.job_bytes.proofs.Encoding.{sets_append}
 use Rattle.plan_bytes.specs.PlanBytes.{end_bytes}
 use Rattle.plan_bytes.proofs.Writing.{list_bytes}
 use Rattle.plan_bytes.proofs.PlanLength.{bytes_le}

@@ -6,7 +6,7 @@ use native.Mathlib.Omega.{arith}
 use lib.ListN.{length, get_or, drop}
 use lib.Seq.{length-sets}
 use borrow.Author.Rules.{rules}
-use Rattle.set_bytes.proofs.Encoding.{sets_append}
+use Rattle.job_bytes.proofs.Encoding.{sets_append}
 use Rattle.plan_bytes.specs.PlanBytes.{step_bytes}
 use Rattle.plan_bytes.proofs.Writing.{one, step_le, list_bytes, steps_next, steps_length, steps_none}
 use Rattle.plan_bytes.proofs.put_steps.Statement.{statement}

@@ -5,7 +5,7 @@ use native.Mathlib.Omega.{arith}
 use lib.ListN.{drop}
 use borrow.Author.Rules.{rules}
 use Rattle.job.specs.Refusal.{done}
-use Rattle.set_bytes.specs.SetBytes.{got}
+use Rattle.job_bytes.specs.SetBytes.{got}
 use Rattle.plan_bytes.specs.PlanBytes.{read_set}
 use Rattle.plan_bytes.specs.ContractWords.{end_outcome}
 use Rattle.plan_bytes.proofs.Reading.{set_answered, set_refused, no_end, end_other_map, end_faulty, end_surplus, end_whole}

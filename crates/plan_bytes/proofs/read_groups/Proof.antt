@@ -6,9 +6,9 @@ use native.Mathlib.Omega.{arith}
 use lib.ListN.{length}
 use Rattle.bitset.specs.Set.{bit}
 use borrow.Author.Rules.{rules}
-use Rattle.set_bytes.specs.SetBytes.{read_groups}
-use Rattle.set_bytes.proofs.GroupByte.{Answers}
-use Rattle.set_bytes.proofs.Turns.{groups_end}
+use Rattle.job_bytes.specs.SetBytes.{read_groups}
+use Rattle.job_bytes.proofs.GroupByte.{Answers}
+use Rattle.job_bytes.proofs.Turns.{groups_end}
 use Rattle.plan_bytes.specs.ContractWords.{set_outcome}
 use Rattle.plan_bytes.proofs.Reading.{group_read, group_faulty}
 use Rattle.plan_bytes.proofs.read_groups.Statement.{statement}

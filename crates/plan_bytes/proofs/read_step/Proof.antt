@@ -6,7 +6,7 @@ use native.Mathlib.Omega.{arith}
 use lib.ListN.{get_or, drop}
 use Rattle.bitset.specs.Set.{bit}
 use Rattle.job.specs.Refusal.{done}
-use Rattle.set_bytes.specs.SetBytes.{got}
+use Rattle.job_bytes.specs.SetBytes.{got}
 use Rattle.plan_bytes.specs.PlanBytes.{read_set}
 use Rattle.plan_bytes.specs.ContractWords.{step_outcome}
 use Rattle.plan_bytes.proofs.Reading.{set_answered, set_refused, step_cut, step_low, step_high, drops_faulty, loads_faulty, test_cut, test_unknown}

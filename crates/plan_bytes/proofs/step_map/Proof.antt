@@ -3,8 +3,8 @@ use mathlib.Core.Path.{◌≡◌}
 use mathlib.Core.Logic.{⊎_elim}
 use Prim.Native.Nat.{◌+◌}
 use native.Mathlib.Omega.{arith}
-use Rattle.set_bytes.specs.SetBytes.{stands}
-use Rattle.set_bytes.proofs.Encoding.{stands_some, stands_le}
+use Rattle.job_bytes.specs.SetBytes.{stands}
+use Rattle.job_bytes.proofs.Encoding.{stands_some, stands_le}
 use Rattle.plan_bytes.proofs.Writing.{stands_none}
 use borrow.Author.Rules.{rules}
 use Rattle.plan_bytes.proofs.step_map.Statement.{statement}

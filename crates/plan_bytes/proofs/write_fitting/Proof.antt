@@ -8,7 +8,7 @@ use lib.Seq.{length-take-le}
 use borrow.Author.Rules.{rules}
 use Rattle.job.specs.Refusal.{overwritten, count_outcome}
 use Rattle.job.proofs.Laws.{fitting_short, fitting_whole, made_refused, made_done}
-use Rattle.set_bytes.proofs.Encoding.{own_bytes, own_fits, put, put_front}
+use Rattle.job_bytes.proofs.Encoding.{own_bytes, own_fits, put, put_front}
 use Rattle.planning.specs.Plan.{plan_of}
 use Rattle.plan_bytes.specs.PlanBytes.{plan_bytes}
 use Rattle.plan_bytes.proofs.PlanLength.{plan_le}

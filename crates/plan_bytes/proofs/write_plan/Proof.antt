@@ -17,8 +17,8 @@ returns c = made_refused _ _ _ _ (unchecked _ _ _ _ _ _ (count_refused _ _ _ c.b
 
 -- the plan passed its check
 checked : (c : tie.After-enum-told)
-    → let a = c.before.before.before.before.before.before.before.before.before.args in
-    checking (job_of a.rig a.wants.now a.warm.now) a.held a.order.now (plan_of a.drops.now a.loads.now a.end) ≡ done c.enum_told.given.0.0
+    → let a = c.before.before.before.before.before.before.before.before.args in
+    checking (job_of a.rig a.wants.now) a.held a.order.now (plan_of a.drops.now a.loads.now a.end) ≡ done c.enum_told.given.0.0
 checked c = count_done _ _ _ c.before.before.check-plan.ensures c.enum_told.given.1
 
 write_fitting_requires : tie.Need-write-fitting-requires

@@ -18,9 +18,9 @@ use Rattle.planned.proofs.order_and_plan.Tie as tie
 returns : tie.Need-returns
 unfolding plan_outcome mapped leaves
 returns c =
-    let s = c.before.before.before.before.before.before.before.before.before.before.before.before in
+    let s = c.before.before.before.before.before.before.before.before.before.before.before in
     let a = s.args in
-    let q : Request = record { head = a.head; wants = a.wants.now; warm_ups = a.warm.now } in
+    let q : Request = record { head = a.head; wants = a.wants.now } in
     let t = c.before.before.before.before.before.order-tests in
     let e = order_refused q s.requires.0.1 a.order.now (omega (arith, s.requires.0.0, s.requires.1.0)) _ _
     (count_refused _ _ _ t.ensures.0 c.before.r.given.1) in
@@ -30,15 +30,15 @@ returns c =
 
 -- the order that ordering gave
 given : (c : tie.After-enum-told)
-    → let a = c.before.before.before.before.before.before.before.before.before.before.before.args in
+    → let a = c.before.before.before.before.before.before.before.before.before.before.args in
     let n = a.head.tests in
-    let O' = c.before.before.before.before.order-tests.new.1.1.1.1.0 in
-    (order_request (record { head = a.head; wants = a.wants.now; warm_ups = a.warm.now }) ≡ done (take n O')) × (length (take n O') ≡ n)
+    let O' = c.before.before.before.before.order-tests.new.1.1.1.0 in
+    (order_request (record { head = a.head; wants = a.wants.now }) ≡ done (take n O')) × (length (take n O') ≡ n)
 given c =
-    let s = c.before.before.before.before.before.before.before.before.before.before.before in
+    let s = c.before.before.before.before.before.before.before.before.before.before in
     let a = s.args in
     let t = c.before.before.before.before.order-tests in
-    order_given (record { head = a.head; wants = a.wants.now; warm_ups = a.warm.now }) s.requires.0.1 a.order.now (omega (arith, s.requires.0.0, s.requires.1.0)) _ _
+    order_given (record { head = a.head; wants = a.wants.now }) s.requires.0.1 a.order.now (omega (arith, s.requires.0.0, s.requires.1.0)) _ _
     (count_done _ _ _ t.ensures.0 c.enum_told.given.1) t.ensures.1
 
 slice_aggregate_plan_tests : tie.Need-slice-aggregate-plan-tests
@@ -47,9 +47,9 @@ slice_aggregate_plan_tests c = sym (given c.before.before).1
 returns_2 : tie.Need-returns-2
 returns_2 c =
     let h = c.before.before.before.before.before.before.before.before in
-    let s = h.before.before.before.before.before.before.before.before.before.before.before.before in
+    let s = h.before.before.before.before.before.before.before.before.before.before.before in
     let a = s.args in
-    let q : Request = record { head = a.head; wants = a.wants.now; warm_ups = a.warm.now } in
+    let q : Request = record { head = a.head; wants = a.wants.now } in
     let lent = set_lists a.drops.now a.loads.now in
     let t = h.before.before.before.before.before.order-tests in
     let g = given h.before in
@@ -58,7 +58,7 @@ returns_2 c =
     let k = order_known_lem q s.requires.0.1 _ g.0 in
     let p = c.before.before.before.before.plan-tests.ensures in
     let e = h.capacity.ensures in
-    let order = take a.head.tests t.new.1.1.1.1.0 in
+    let order = take a.head.tests t.new.1.1.1.0 in
     let answered : _ ≡ tests_answer h.capacity.result a.wants.now 0 order lent = p.0 in (
       rw o (answered ∙ ap (λ (n : ℕ). tests_answer n a.wants.now 0 order lent) e ∙ tests_answer_lem _ _ _ lent k ∙ plan_answer_lem q s.requires.0.1 _ lent long),
       (

@@ -21,11 +21,11 @@ use Rattle.planning.proofs.check_plan.Tie as tie
 
 -- behind each examination
 passed : (c : tie.After-enum-told) → let a =
-    c.before.before.before.before.before.before.before.before.args in checking_known (job_of a.rig a.wants.now a.warm.now) a.held a.order.now ≡ done tt
+    c.before.before.before.before.before.before.before.args in checking_known (job_of a.rig a.wants.now) a.held a.order.now ≡ done tt
 passed c = examined_passed _ _ c.enum_told.given.1 c.before.before.examine-checking.ensures
 
 sets_passed : (c : tie.After-enum-told2)
-    → let a = c.before.before.before.before.before.before.before.before.before.before.before.args in
+    → let a = c.before.before.before.before.before.before.before.before.before.before.args in
     sets_known (length a.wants.now) (length a.drops.now) (length a.loads.now) ≡ done tt
 sets_passed c = examined_passed _ _ c.enum-told2.given.1 c.before.before.examine-sets.ensures
 
@@ -41,7 +41,7 @@ returns_2 c =
 
 -- the local list has an entry for each test
 enough : (c : tie.After-steps2)
-    → length c.before.before.before.before.before.before.before.before.before.before.before.before.before.before.args.wants.now ≤ length
+    → length c.before.before.before.before.before.before.before.before.before.before.before.before.before.args.wants.now ≤ length
     c.before.in_order.new.1.1.0
 enough c = omega (arith, c.before.in_order.auto.1.1.0, (known_exact _ _ _ (passed c.before.before.before.before.before.before)).0.tests_bound)
 
@@ -53,20 +53,20 @@ slice_aggregate_check_steps c =
     let s = c.before.before.before in
     omega (
       arith,
-      length-take-le (length s.before.before.before.before.before.before.before.before.before.before.before.before.before.before.args.wants.now)
+      length-take-le (length s.before.before.before.before.before.before.before.before.before.before.before.before.before.args.wants.now)
           s.before.in_order.new.1.1.0 (enough s),
     )
 
 -- what was answered of the steps
 checked : (c : tie.After-check-steps)
-    → let a = c.before.before.before.before.before.before.before.before.before.before.before.before.before.before.before.before.before.before.args in
+    → let a = c.before.before.before.before.before.before.before.before.before.before.before.before.before.before.before.before.before.args in
     c.check-steps.result ≡ check_from (capacity a.rig) (all_curves a.rig.curves) 0 a.held
     (moves (in_order a.wants.now a.order.now) a.drops.now a.loads.now)
 checked c =
     let s = c.before.before.before.before.before in
     let k = s.before.before.before.before.before in
-    let a = k.before.before.before.before.before.before.before.before.args in
-    let j = job_of a.rig a.wants.now a.warm.now in
+    let a = k.before.before.before.before.before.before.before.args in
+    let j = job_of a.rig a.wants.now in
     let is = (known_exact j a.held a.order.now (passed k)).0 in
     let ms : List ℕ → List Move = λ ws. moves ws a.drops.now a.loads.now in
     let few : min a.rig.curves 64 ≡ a.rig.curves = omega (arith, is.curves_bounds) in

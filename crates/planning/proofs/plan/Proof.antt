@@ -10,7 +10,7 @@ returns : tie.Need-returns
 unfolding plan_outcome
 returns c =
     let k = c.before.before.before in
-    let a = k.before.before.before.before.before.before.args in
+    let a = k.before.before.before.before.before.args in
     refused_contract _ _ _ (set_lists a.drops.now a.loads.now) _ _ (examined_refused _ _ _ c.before.r.given.1 k.examine-planning.ensures)
 
 returns_2 : tie.Need-returns-2
@@ -18,7 +18,7 @@ returns_2 c =
     let p = c.before.before.before.before in
     let m = p.before.before.before in
     let k = m.before in
-    let a = k.before.before.before.before.before.before.before.before.args in
+    let a = k.before.before.before.before.before.before.before.args in
     tests_contract _ _ _ (set_lists a.drops.now a.loads.now)
     (examined_passed _ _ k.enum_told.given.1 k.before.before.examine-planning.ensures) _ _
     (rw (← m.capacity.ensures) p.plan-tests.ensures.0) (rw (← m.capacity.ensures) p.plan-tests.ensures.1)

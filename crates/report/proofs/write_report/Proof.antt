@@ -2,7 +2,7 @@
 use mathlib.Core.Path.{sym, ◌∙◌}
 use native.Mathlib.Omega.{arith}
 use borrow.Author.Rules.{rules}
-use Rattle.set_bytes.proofs.SetRoundTrip.{Bytes}
+use Rattle.job_bytes.proofs.SetRoundTrip.{Bytes}
 use Rattle.planning.specs.Plan.{set_lists}
 use Rattle.planned.specs.ContractWords.{Lists, lists_of}
 use Rattle.planned.proofs.Reading.{bytes_of}

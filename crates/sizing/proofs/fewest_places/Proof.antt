@@ -11,16 +11,16 @@ use Rattle.sizing.proofs.fewest_places.Tie as tie
 
 returns : tie.Need-returns
 unfolding places_outcome
-returns c = fewest_refused _ _ _ _ _ _ c.before.before.before.all-sizes.ensures.0 _ c.before.answer.given.1
+returns c = fewest_refused _ _ _ _ _ c.before.before.before.all-sizes.ensures.0 _ c.before.answer.given.1
 
 -- what was found among the counts
 answered : (c : tie.After-fewest-places)
-    → let a = c.before.before.before.before.before.before.before.before.before.args in
-    done (size_found c.fewest-places.result) ≡ fewest a.curves a.wants.now a.warm.now a.order.now a.loads
+    → let a = c.before.before.before.before.before.before.before.before.args in
+    done (size_found c.fewest-places.result) ≡ fewest a.curves a.wants.now a.order.now a.loads
 answered c =
     let k = c.before.before.before in
     let s = k.before.before.all-sizes.ensures in
-    fewest_sized _ _ _ _ _ _ s.0 k.enum_told.given.1 _ s.1.0 _ c.fewest-places.ensures
+    fewest_sized _ _ _ _ _ s.0 k.enum_told.given.1 _ s.1.0 _ c.fewest-places.ensures
 
 returns_2 : tie.Need-returns-2
 unfolding places_outcome size_found

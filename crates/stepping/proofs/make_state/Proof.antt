@@ -12,9 +12,9 @@ returns : tie.Need-returns
 unfolding count_outcome
 returns c =
     let k = c.before.before.before.before in
-    let a = k.before.before.before.before.args in
+    let a = k.before.before.before.args in
     let r = examined_refused _ _ _ c.before.before.r.given.1 k.examine-planning.ensures in
-    let m = not_made (job_of a.rig a.wants.now a.warm.now) a.held a.order.now _ _ r in
+    let m = not_made (job_of a.rig a.wants.now) a.held a.order.now _ _ r in
     (m.0, c.nothing.ensures ∙ m.1)
 
 returns_2 : tie.Need-returns-2
@@ -22,9 +22,9 @@ unfolding count_outcome
 returns_2 c =
     let i = c.before.before in
     let k = i.before.before in
-    let a = c.before.before.before.before.before.before.before.before.before.before.args in
+    let a = c.before.before.before.before.before.before.before.before.before.args in
     let known = examined_passed _ _ k.enum_told.given.1 k.before.before.examine-planning.ensures in
-    is_made (job_of a.rig a.wants.now a.warm.now) a.held a.order.now known _ _ c.capacity.ensures i.in_order.ensures
+    is_made (job_of a.rig a.wants.now) a.held a.order.now known _ _ c.capacity.ensures i.in_order.ensures
 
 pub make_state_spec : {M : Type 1} → statement M
 make_state_spec =

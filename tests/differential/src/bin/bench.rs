@@ -6,8 +6,7 @@
 //! A row is a method and a kind of list, with 16, 64 and 256 tests on 64 curves: the mean time of the
 //! C program for a job, and those of the others as ratios to it. Of each job the fastest of all rounds
 //! counts, so that other work on the machine does not. Lists of fewer tests come in more different
-//! jobs, so that no list is learnt by heart by the processor. A second table has some of these lists with
-//! warm-ups.
+//! jobs, so that no list is learnt by heart by the processor.
 //!
 //! Two more tables have the stages of the call, each timed by itself, of the library and of the C
 //! program. Another one has lists carried out by looks and commits: the library's time for planning a
@@ -85,103 +84,29 @@ impl Kind {
         }
     }
 
-    /// The same lists for every method, and with warm-ups the same as without.
-    fn jobs(&self, method: usize, tests: usize, warming: Warming) -> Vec<Vec<u8>> {
+    /// The same lists for every method.
+    fn jobs(&self, method: usize, tests: usize) -> Vec<Vec<u8>> {
         let seed = ((self.places * 100 + self.low) * 100 + self.high) * 1_000 + tests;
         let mut random = Random::new(seed as u64);
-        let mut other = Random::of_case(seed as u64, 10);
         (0..ALL_TESTS / tests)
             .map(|_| {
-                let wants: Vec<u64> = (0..tests)
+                let wants = (0..tests)
                     .map(|_| {
                         let number = random.between(self.low, self.high);
                         generate::random_set(&mut random, CURVES, number)
                     })
                     .collect();
-                let warm_ups = warming.warm_ups(tests, &mut other);
-                job_bytes(self.places, method, &wants, &warm_ups)
+                generate::job_bytes(&generate::Job {
+                    places: self.places,
+                    booked: 0,
+                    curves: CURVES,
+                    method,
+                    wants,
+                })
             })
             .collect()
     }
 }
-
-/// Which tests have warm-ups.
-#[derive(Clone, Copy)]
-enum Warming {
-    /// None has.
-    Without,
-    /// A third of them, each any lower test.
-    Third,
-    /// All have the same, test 0.
-    Same,
-    /// All have the test before them.
-    Chain,
-}
-
-impl Warming {
-    fn name(self) -> &'static str {
-        match self {
-            Warming::Without => "none",
-            Warming::Third => "a third",
-            Warming::Same => "all test 0",
-            Warming::Chain => "a chain",
-        }
-    }
-
-    fn warm_ups(self, tests: usize, random: &mut Random) -> Vec<u16> {
-        let mut warm_ups = vec![NONE; tests];
-        for (t, warm_up) in warm_ups.iter_mut().enumerate().skip(1) {
-            *warm_up = match self {
-                Warming::Third if random.chance(1, 3) => random.below(t) as u16,
-                Warming::Without | Warming::Third => NONE,
-                Warming::Same => 0,
-                Warming::Chain => t as u16 - 1,
-            };
-        }
-        warm_ups
-    }
-}
-
-/// No warm-up.
-const NONE: u16 = 256;
-
-/// The bytes of a job with all curves, none of its places booked.
-fn job_bytes(places: usize, method: usize, wants: &[u64], warm_ups: &[u16]) -> Vec<u8> {
-    let warmed = warm_ups.iter().any(|&warm_up| warm_up != NONE);
-    let mut bytes = vec![0];
-    if places != 8 {
-        bytes[0] |= 1;
-        bytes.push(places as u8);
-    }
-    bytes[0] |= 4;
-    bytes.extend((wants.len() as u16).to_le_bytes());
-    if method != 0 {
-        bytes[0] |= 8;
-        bytes.push(method as u8);
-    }
-    for want in wants {
-        let groups = want.to_le_bytes();
-        let map = (0..8).fold(0, |map, j| map | ((groups[j] != 0) as u8) << j);
-        bytes.push(map);
-        bytes.extend(groups.iter().filter(|&&group| group != 0));
-    }
-    if warmed {
-        bytes[0] |= 32;
-        for eight in warm_ups.chunks(8) {
-            let map = (0..)
-                .zip(eight)
-                .fold(0, |map, (i, &warm_up)| map | ((warm_up != NONE) as u8) << i);
-            bytes.push(map);
-        }
-        let numbers = warm_ups.iter().filter(|&&warm_up| warm_up != NONE);
-        bytes.extend(numbers.map(|&warm_up| warm_up as u8));
-    }
-    bytes
-}
-
-/// The warm-ups of lists that have none.
-#[cfg(feature = "product")]
-const NO_WARM_UPS: [u16; 256] = [NONE; 256];
 
 /// All calls answer the same.
 fn agree(calls: &[(&str, Call)], job: &[u8]) {
@@ -266,7 +191,7 @@ fn note<T>(least: &mut u64, clock: u64, stage: impl FnOnce() -> T) {
 
 #[cfg(feature = "product")]
 fn time_library(kind: &Kind, jobs: &[&[u8]; 3], clock: u64, least: &mut Stages) {
-    let (mut wants, mut warm_ups, mut order) = ([0u64; 256], [0u16; 256], [0u16; 256]);
+    let (mut wants, mut order) = ([0u64; 256], [0u16; 256]);
     let (mut drops, mut loads, mut end) = ([0u64; 256], [0u64; 256], 0);
     let mut plan = [0u8; PLAN];
     note(&mut least.call, clock, || {
@@ -274,15 +199,14 @@ fn time_library(kind: &Kind, jobs: &[&[u8]; 3], clock: u64, least: &mut Stages) 
     });
     let mut tests = 0;
     note(&mut least.read, clock, || {
-        tests = product::read_job(black_box(jobs[0]), &mut wants, &mut warm_ups).tests;
+        tests = product::read_job(black_box(jobs[0]), &mut wants).tests;
     });
-    let (wants, warm_ups) = (&wants[..tests], &warm_ups[..tests]);
+    let wants = &wants[..tests];
     // As listed last.
     for m in [1, 2, 0] {
         let method = METHODS[m];
         note(&mut least.orders[m], clock, || {
-            let wants = black_box(wants);
-            product::order_tests(kind.places, 0, CURVES, method, wants, warm_ups, &mut order)
+            product::order_tests(kind.places, 0, CURVES, method, black_box(wants), &mut order)
         });
     }
     note(&mut least.plan, clock, || {
@@ -291,7 +215,6 @@ fn time_library(kind: &Kind, jobs: &[&[u8]; 3], clock: u64, least: &mut Stages) 
             0,
             CURVES,
             wants,
-            warm_ups,
             0,
             black_box(&order[..tests]),
             &mut drops,
@@ -324,7 +247,7 @@ fn print_stages(tests: usize, rounds: usize, clock: u64) {
         "---|".repeat(10)
     );
     for kind in kinds() {
-        let lists = METHODS.map(|method| kind.jobs(method, tests, Warming::Without));
+        let lists = METHODS.map(|method| kind.jobs(method, tests));
         let count = lists[0].len();
         let mut least = vec![[UNTIMED; 2]; count];
         for _ in 0..rounds {
@@ -398,7 +321,6 @@ fn planned(places: usize, wants: &[u64], order: &[u16], sets: &mut Sets) {
         0,
         CURVES,
         wants,
-        &NO_WARM_UPS[..wants.len()],
         0,
         order,
         &mut sets.drops,
@@ -411,8 +333,7 @@ fn planned(places: usize, wants: &[u64], order: &[u16], sets: &mut Sets) {
 #[cfg(feature = "product")]
 fn committed(places: usize, wants: &[u64], order: &[u16], sets: &mut Sets) {
     let mut state = product::State::default();
-    let warm_ups = &NO_WARM_UPS[..wants.len()];
-    product::make_state(places, 0, CURVES, wants, warm_ups, 0, order, &mut state);
+    product::make_state(places, 0, CURVES, wants, 0, order, &mut state);
     for position in 0..order.len() + 2 {
         if product::look(black_box(&state)).answer == 0 {
             break;
@@ -439,12 +360,10 @@ fn committed_tuned(places: usize, wants: &[u64], order: &[u16], sets: &mut Sets)
 /// The lists of a kind, and their order.
 #[cfg(feature = "product")]
 fn lists_of(kind: &Kind, tests: usize) -> (Vec<Vec<u64>>, Vec<u16>) {
-    let jobs = kind.jobs(0, tests, Warming::Without);
+    let jobs = kind.jobs(0, tests);
     let mut lists = vec![vec![0; tests]; jobs.len()];
-    let mut warm_ups = [0; 256];
     for (job, wants) in jobs.iter().zip(&mut lists) {
-        assert_eq!(product::read_job(job, wants, &mut warm_ups).tests, tests);
-        assert_eq!(warm_ups[..tests], NO_WARM_UPS[..tests]);
+        assert_eq!(product::read_job(job, wants).tests, tests);
     }
     (lists, (0..tests as u16).collect())
 }
@@ -513,7 +432,7 @@ type Counts = [u16; 64];
 
 #[cfg(feature = "product")]
 fn sizes_together(wants: &[u64], order: &[u16], counts: &mut Counts) {
-    product::all_sizes(CURVES, wants, &NO_WARM_UPS[..wants.len()], order, counts);
+    product::all_sizes(CURVES, wants, order, counts);
 }
 
 /// The same by single plans, those among them that are refused.
@@ -526,7 +445,6 @@ fn sizes_one_by_one(wants: &[u64], order: &[u16], counts: &mut Counts) {
             0,
             CURVES,
             wants,
-            &NO_WARM_UPS[..wants.len()],
             0,
             order,
             &mut sets.drops,
@@ -622,91 +540,6 @@ struct Worst {
     place: String,
 }
 
-/// The table of the calls, a row for each method, kind of warm-ups and kind of list, and the worst ratios.
-fn print_calls(
-    calls: &[(&str, Call)],
-    warmings: &[Warming],
-    kinds: &[Kind],
-    rounds: usize,
-    clock: u64,
-) {
-    // The column of warm-ups is there where some list has one.
-    let column = warmings
-        .iter()
-        .any(|warming| !matches!(warming, Warming::Without));
-    print!(
-        "| method |{} places | wants |",
-        if column { " warm-ups |" } else { "" }
-    );
-    for (c, (name, _)) in calls.iter().enumerate() {
-        let what = if c == 0 {
-            format!("{name}, µs")
-        } else {
-            format!("{name} / {}", calls[0].0)
-        };
-        print!(
-            " {what}, {} tests | {} | {} |",
-            TESTS[0], TESTS[1], TESTS[2]
-        );
-    }
-    let columns = 3 + column as usize + calls.len() * TESTS.len();
-    println!("\n|{}", "---|".repeat(columns));
-
-    let mut worst = vec![vec![Worst::default(); calls.len()]; METHODS.len()];
-    for (method, worst) in METHODS.into_iter().zip(&mut worst) {
-        for &warming in warmings {
-            for kind in kinds {
-                let name = match column {
-                    true => format!("{} | ", warming.name()),
-                    false => String::new(),
-                };
-                let mut cells = vec![Vec::new(); calls.len()];
-                for tests in TESTS {
-                    let jobs = kind.jobs(method, tests, warming);
-                    for job in &jobs {
-                        agree(calls, job);
-                    }
-                    let times = measure(calls, &jobs, rounds, clock);
-                    cells[0].push(format!("{:.1}", times[0] / 1_000.0));
-                    for c in 1..calls.len() {
-                        let ratio = times[c] / times[0];
-                        cells[c].push(format!("{ratio:.2}"));
-                        if ratio > worst[c].ratio {
-                            let (places, wants) = (kind.places, kind.wants());
-                            let warm_ups = match column {
-                                true => format!("warm-ups {}, ", warming.name()),
-                                false => String::new(),
-                            };
-                            let place =
-                                format!("{warm_ups}{places} places, {wants}, {tests} tests");
-                            worst[c] = Worst { ratio, place };
-                        }
-                    }
-                }
-                println!(
-                    "| {method} | {name}{} | {} | {} |",
-                    kind.places,
-                    kind.wants(),
-                    cells.concat().join(" | ")
-                );
-            }
-        }
-    }
-
-    print!("\n| method |");
-    for (name, _) in &calls[1..] {
-        print!(" {name}, worst ratio | in |");
-    }
-    println!("\n|---|{}", "---|---|".repeat(calls.len() - 1));
-    for (method, worst) in METHODS.into_iter().zip(&worst) {
-        print!("| {method} |");
-        for worst in &worst[1..] {
-            print!(" {:.2} | {} |", worst.ratio, worst.place);
-        }
-        println!();
-    }
-}
-
 fn main() {
     let rounds: usize = match std::env::args().nth(1) {
         Some(text) => text.parse().expect("rounds: a number"),
@@ -724,12 +557,64 @@ fn main() {
         TESTS.map(|tests| (ALL_TESTS / tests).to_string()).join(", "),
         TESTS.map(|tests| tests.to_string()).join(", "),
     );
+    print!("| method | places | wants |");
+    for (c, (name, _)) in calls.iter().enumerate() {
+        let what = if c == 0 {
+            format!("{name}, µs")
+        } else {
+            format!("{name} / {}", calls[0].0)
+        };
+        print!(
+            " {what}, {} tests | {} | {} |",
+            TESTS[0], TESTS[1], TESTS[2]
+        );
+    }
+    print!("\n|---|---|---|");
+    println!("{}", "---|".repeat(calls.len() * TESTS.len()));
+
     let clock = clock_time();
-    let kinds = kinds();
-    print_calls(&calls, &[Warming::Without], &kinds, rounds, clock);
-    println!("\nWith warm-ups\n");
-    let warmings = [Warming::Third, Warming::Same, Warming::Chain];
-    print_calls(&calls, &warmings, &[kinds[0], kinds[3]], rounds, clock);
+    let mut worst = vec![vec![Worst::default(); calls.len()]; METHODS.len()];
+    for (method, worst) in METHODS.into_iter().zip(&mut worst) {
+        for kind in kinds() {
+            let mut cells = vec![Vec::new(); calls.len()];
+            for tests in TESTS {
+                let jobs = kind.jobs(method, tests);
+                for job in &jobs {
+                    agree(&calls, job);
+                }
+                let times = measure(&calls, &jobs, rounds, clock);
+                cells[0].push(format!("{:.1}", times[0] / 1_000.0));
+                for c in 1..calls.len() {
+                    let ratio = times[c] / times[0];
+                    cells[c].push(format!("{ratio:.2}"));
+                    if ratio > worst[c].ratio {
+                        let place =
+                            format!("{} places, {}, {tests} tests", kind.places, kind.wants());
+                        worst[c] = Worst { ratio, place };
+                    }
+                }
+            }
+            println!(
+                "| {method} | {} | {} | {} |",
+                kind.places,
+                kind.wants(),
+                cells.concat().join(" | ")
+            );
+        }
+    }
+
+    print!("\n| method |");
+    for (name, _) in &calls[1..] {
+        print!(" {name}, worst ratio | in |");
+    }
+    println!("\n|---|{}", "---|---|".repeat(calls.len() - 1));
+    for (method, worst) in METHODS.into_iter().zip(&worst) {
+        print!("| {method} |");
+        for worst in &worst[1..] {
+            print!(" {:.2} | {} |", worst.ratio, worst.place);
+        }
+        println!();
+    }
 
     #[cfg(feature = "product")]
     {

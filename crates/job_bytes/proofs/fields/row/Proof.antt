@@ -5,7 +5,7 @@ use lib.Seq.{drop-cons}
 use Rattle.job_bytes.specs.declared.fields.Field.{Field}
 use Rattle.job_bytes.specs.JobBytes.{fields}
 use Rattle.job_bytes.proofs.Heads.{rows}
-use Rattle.job_bytes.proofs.JobSpans.{width_le}
+use Rattle.job_bytes.proofs.Spans.{width_le}
 use Rattle.job_bytes.proofs.fields.row.Statement.{statement}
 use Rattle.job_bytes.proofs.fields.row.Tie as tie
 

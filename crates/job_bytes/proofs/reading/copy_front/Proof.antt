@@ -5,7 +5,7 @@ use mathlib.Core.List.{◌++◌}
 use native.Mathlib.Omega.{arith}
 use lib.ListN.{length, take, drop, length-set}
 use borrow.Author.Rules.{rules}
-use Rattle.set_bytes.proofs.Front.{front_more}
+use Rattle.job_bytes.proofs.Front.{front_more}
 use Rattle.job_bytes.proofs.reading.copy_front.Statement.{statement}
 use Rattle.job_bytes.proofs.reading.copy_front.Tie as tie
 

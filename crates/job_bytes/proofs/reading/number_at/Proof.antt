@@ -6,8 +6,8 @@ use lib.ListN.{get_or, drop}
 use lib.Pow.{pow_mono}
 use borrow.Author.Rules.{rules}
 use Rattle.job.specs.Refusal.{done}
-use Rattle.set_bytes.specs.SetBytes.{got}
-use Rattle.set_bytes.specs.Numbers.{read_number}
+use Rattle.job_bytes.specs.SetBytes.{got}
+use Rattle.job_bytes.specs.JobBytes.{read_number}
 use Rattle.job_bytes.proofs.Heads.{byte_more, number_more}
 use Rattle.job_bytes.proofs.reading.number_at.Statement.{statement}
 use Rattle.job_bytes.proofs.reading.number_at.Tie as tie
@@ -15,7 +15,7 @@ use Rattle.job_bytes.proofs.reading.number_at.Tie as tie
 abbrev invariant_loop : tie.invariant_loop
 invariant_loop job at width value₀ k₀ value k =
     (k ≤ width) × (value < 2 ^ (8 * (width - k)))
-    × (read_number 1 (width - k) (at + k) (drop (at + k) job) ≡ done (got value (at + width) (drop (at + width) job)))
+    × (read_number (width - k) (at + k) (drop (at + k) job) ≡ done (got value (at + width) (drop (at + width) job)))
 
 abbrev decreases_loop : tie.decreases_loop
 decreases_loop job at width value₀ k₀ value k = k

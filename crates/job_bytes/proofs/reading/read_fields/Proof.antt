@@ -7,7 +7,7 @@ use lib.ListN.{length, take, drop, length-set}
 use lib.Seq.{take_all}
 use borrow.Author.Rules.{rules}
 use Rattle.job.specs.Refusal.{done, count_outcome, ◌>>=◌, mapped}
-use Rattle.set_bytes.specs.SetBytes.{got}
+use Rattle.job_bytes.specs.SetBytes.{got}
 use Rattle.job_bytes.specs.JobBytes.{fields, read_field, read_fields}
 use Rattle.job_bytes.proofs.Heads.{rows, by_count, by_refusal, field_within, fields_end, fields_fault, fields_next, head_none, head_map, head_fields_lem}
 use Rattle.job_bytes.proofs.Records.{list_more}

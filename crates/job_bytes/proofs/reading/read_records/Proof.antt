@@ -11,12 +11,11 @@ use borrow.Author.Rules.{rules}
 use Rattle.bitset.specs.Set.{bit}
 use Rattle.job.specs.declared.Refusal.TheVariants.{Truncated, EmptyGroup, UnknownCurve}
 use Rattle.job.specs.Refusal.{Outcome, refused}
-use Rattle.set_bytes.specs.SetBytes.{Got, got, read_groups}
+use Rattle.job_bytes.specs.SetBytes.{Got, got, read_groups}
 use Rattle.job_bytes.specs.JobBytes.{read_records}
-use Rattle.set_bytes.proofs.Turns.{groups_end}
-use Rattle.job_bytes.proofs.Turns.{records_end}
-use Rattle.set_bytes.proofs.Encoding.{rest_is, rest_long}
-use Rattle.set_bytes.proofs.GroupByte.{Answers, owed_end, answer_owed, answer_empty, answer_unknown, answer_curves}
+use Rattle.job_bytes.proofs.Turns.{groups_end, records_end}
+use Rattle.job_bytes.proofs.Encoding.{rest_is, rest_long}
+use Rattle.job_bytes.proofs.GroupByte.{Answers, owed_end, answer_owed, answer_empty, answer_unknown, answer_curves}
 use Rattle.job_bytes.proofs.Records.{record_none, record_fault, record_read, list_more, LeftWith, left_refused, left_passed, promise_refused}
 use Rattle.job_bytes.proofs.Records.{promise_done}
 use Rattle.job_bytes.proofs.reading.read_records.Statement.{statement}

@@ -4,13 +4,11 @@ use Prim.Native.Nat.{◌+◌, ◌-◌, ◌≤◌}
 use native.Mathlib.Omega.{arith}
 use lib.ListN.{length, get_or, length-set}
 use lib.Seq.{length-sets}
-use Rattle.job_bytes.specs.JobBytes.{fields, head_bytes}
-use Rattle.set_bytes.specs.Numbers.{number_bytes}
-use Rattle.set_bytes.proofs.Encoding.{sets_append}
-use Rattle.set_bytes.proofs.NumberRoundTrip.{number_length}
-use Rattle.job_bytes.proofs.HeadMap.{fields_bytes}
+use Rattle.job_bytes.specs.JobBytes.{fields, number_bytes, head_bytes}
+use Rattle.job_bytes.proofs.Encoding.{sets_append}
+use Rattle.job_bytes.proofs.HeadRoundTrip.{fields_bytes}
 use Rattle.job_bytes.proofs.Heads.{rows}
-use Rattle.job_bytes.proofs.JobWritten.{bytes_from, absent_bytes, stands_bytes, stands_long, none, head_length}
+use Rattle.job_bytes.proofs.JobWritten.{number_length, bytes_from, absent_bytes, stands_bytes, stands_long, none, head_length}
 use Rattle.job_bytes.proofs.writing.put_head.Statement.{statement}
 use Rattle.job_bytes.proofs.writing.put_head.Tie as tie
 
@@ -27,7 +25,7 @@ abbrev decreases_loop : tie.decreases_loop
 decreases_loop values map out₀ at₀ j₀ out at j = length fields - j
 
 slice_write_out : tie.Need-slice-write-out invariant_loop decreases_loop
-slice_write_out c = omega (arith, head_length 0 c.before.before.args.values.now, c.before.before.requires.1)
+slice_write_out c = omega (arith, head_length c.before.before.args.values.now, c.before.before.requires.2)
 
 loop_holds : tie.Need-loop-init invariant_loop decreases_loop
 loop_holds c =
@@ -35,7 +33,7 @@ loop_holds c =
       turns = omega arith;
       long = refl;
       fits = simp length-set
-          (omega (arith, head_length 0 c.before.before.args.values.now, c.before.before.requires.1));
+          (omega (arith, head_length c.before.before.args.values.now, c.before.before.requires.2));
       goes = refl;
     }
 
@@ -111,8 +109,8 @@ unfolding head_bytes fields_bytes
 returns c =
     let k = c.before.before.before.before in
     let l = c.before.loop in
-    let end = (none 0 k.args.values.now l.j (rw rows c.loop-test.false)).1 in
-    λ d e. rw e at (sym (l.invariant.goes ∙ ap (lib.Seq.sets l.out l.at) end))
+    let end = (none k.args.values.now l.j (rw rows c.loop-test.false)).1 in
+    rw k.requires.1 at (sym (l.invariant.goes ∙ ap (lib.Seq.sets l.out l.at) end))
 
 pub put_head_spec : {M : Type 1} → statement M
 put_head_spec =

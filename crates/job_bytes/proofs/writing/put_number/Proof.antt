@@ -4,7 +4,7 @@ use Prim.Native.Nat.{suc, ◌+◌, ◌-◌, ◌/◌, ◌%◌, ◌≤◌}
 use native.Mathlib.Omega.{arith}
 use lib.ListN.{length, length-set}
 use borrow.Author.Rules.{rules}
-use Rattle.set_bytes.specs.Numbers.{number_bytes}
+use Rattle.job_bytes.specs.JobBytes.{number_bytes}
 use Rattle.lists.proofs.Overwritten.{sets_cons}
 use Rattle.job_bytes.proofs.writing.put_number.Statement.{statement}
 use Rattle.job_bytes.proofs.writing.put_number.Tie as tie

@@ -7,9 +7,9 @@ use mathlib.Core.List.{[], ◌∷◌, ◌++◌, append_assoc}
 use lib.ListN.{length, get_or, drop, length-set}
 use lib.Seq.{length-sets}
 use borrow.Author.Rules.{rules}
-use Rattle.set_bytes.specs.SetBytes.{set_bytes}
+use Rattle.job_bytes.specs.SetBytes.{set_bytes}
 use Rattle.job_bytes.specs.JobBytes.{record_bytes}
-use Rattle.set_bytes.proofs.Encoding.{set_le, next_over}
+use Rattle.job_bytes.proofs.Encoding.{set_le, next_over}
 use Rattle.job_bytes.proofs.JobWritten.{records_more, records_long, records_none}
 use Rattle.job_bytes.proofs.writing.put_records.Statement.{statement}
 use Rattle.job_bytes.proofs.writing.put_records.Tie as tie

@@ -13,11 +13,11 @@ use Rattle.report.proofs.audit.audit_plan.Tie as tie
 
 -- each list still has an entry for each test
 long : (c : tie.After-read-plan)
-    → let n = c.before.before.before.before.before.before.before.args.head.tests in
+    → let n = c.before.before.before.before.before.before.args.head.tests in
     let l = c.read-plan.new.1.1.1 in
     (n ≤ length l.0) × (n ≤ length l.1.0) × (n ≤ length l.1.1.0)
 long c =
-    let p = c.before.before.before.before.before.before.before.requires in
+    let p = c.before.before.before.before.before.before.requires in
     let k = c.read-plan.auto.1.1.1 in
     (omega (arith, p, k.0), omega (arith, p, k.1.0), omega (arith, p, k.1.1.0))
 
@@ -32,21 +32,21 @@ slice_aggregate_audit_steps_3 c = sym (length-take-le _ _ (long c.before.before.
 
 returns : tie.Need-returns
 returns c =
-    let s = c.before.before.before.before.before.before.before.before.before.before.before.before.before in
+    let s = c.before.before.before.before.before.before.before.before.before.before.before.before in
     let a = s.args in
     let r = c.before.before.before.before.before.before.read-plan in
-    plan_refused (record { head = a.head; wants = a.wants.now; warm_ups = a.warm.now }) a.plan.now _ (set_lists _ _) (omega (arith, s.requires.1)) r.result r.ensures.0 _
+    plan_refused (record { head = a.head; wants = a.wants.now }) a.plan.now _ (set_lists _ _) (omega (arith, s.requires.1)) r.result r.ensures.0 _
     c.before.r.given.1
 
 returns_2 : tie.Need-returns-2
 returns_2 c =
     let e = c.before.before.before.before.before in
     let r = e.before.before.before.before.before in
-    let s = r.before.before.before.before.before.before.before in
+    let s = r.before.before.before.before.before.before in
     let a = s.args in
     let p = r.read-plan in
     c.audit-steps.ensures
-    ∙ ap done (plan_counted (record { head = a.head; wants = a.wants.now; warm_ups = a.warm.now }) a.plan.now _ (set_lists _ _) (omega (arith, s.requires.1)) p.result
+    ∙ ap done (plan_counted (record { head = a.head; wants = a.wants.now }) a.plan.now _ (set_lists _ _) (omega (arith, s.requires.1)) p.result
     p.ensures.0 _ _ e.end.given.1 _ _ p.ensures.1.0 p.ensures.1.1)
 
 pub audit_plan_spec : {M : Type 1} → statement M

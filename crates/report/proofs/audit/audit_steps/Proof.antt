@@ -9,15 +9,15 @@ use Rattle.report.proofs.audit.audit_steps.Tie as tie
 
 returns : tie.Need-returns
 returns c =
-    let a = c.before.before.before.before.before.before.before.before.before.args in
-    steps_refused (record { head = a.head; wants = a.wants.now; warm_ups = a.warm.now }) a.order.now (plan_of a.drops.now a.loads.now a.end)
+    let a = c.before.before.before.before.before.before.before.before.args in
+    steps_refused (record { head = a.head; wants = a.wants.now }) a.order.now (plan_of a.drops.now a.loads.now a.end)
     c.before.before.before.check-plan.result c.before.before.before.check-plan.ensures _ c.before.r.given.1
 
 returns_2 : tie.Need-returns-2
 returns_2 c =
-    let a = c.before.before.before.before.before.before.before.before.before.before.args in
+    let a = c.before.before.before.before.before.before.before.before.before.args in
     c.beside-fewest.ensures
-    ∙ ap done (steps_counted (record { head = a.head; wants = a.wants.now; warm_ups = a.warm.now }) a.order.now (plan_of a.drops.now a.loads.now a.end)
+    ∙ ap done (steps_counted (record { head = a.head; wants = a.wants.now }) a.order.now (plan_of a.drops.now a.loads.now a.end)
     c.before.before.before.before.check-plan.result c.before.before.before.before.check-plan.ensures _ c.before.before.count.given.1)
 
 pub audit_steps_spec : {M : Type 1} → statement M

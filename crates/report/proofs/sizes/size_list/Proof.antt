@@ -15,24 +15,24 @@ use Rattle.report.proofs.sizes.size_list.Tie as tie
 
 returns : tie.Need-returns
 returns c =
-    let s = c.before.before.before.before.before.before.before.before in
+    let s = c.before.before.before.before.before.before.before in
     let a = s.args in
-    let q : Request = record { head = a.head; wants = a.wants.now; warm_ups = a.warm.now } in
+    let q : Request = record { head = a.head; wants = a.wants.now } in
     let t = c.before.before.before.before.order-tests in
     as_refused (size_request q) _ _ (not_ordered q _ _ (order_refused q s.requires.0 _ (omega (arith, s.requires.1)) _ _
     (count_refused _ _ _ t.ensures.0 c.before.r.given.1)))
 
 -- the order that ordering gave
 given : (c : tie.After-enum-told)
-    → let a = c.before.before.before.before.before.before.before.args in
+    → let a = c.before.before.before.before.before.before.args in
     let n = a.head.tests in
-    let order = c.before.before.before.order-tests.new.1.1.1.1.0 in
-    (order_request (record { head = a.head; wants = a.wants.now; warm_ups = a.warm.now }) ≡ done (take n order)) × (length (take n order) ≡ n)
+    let order = c.before.before.before.order-tests.new.1.1.1.0 in
+    (order_request (record { head = a.head; wants = a.wants.now }) ≡ done (take n order)) × (length (take n order) ≡ n)
 given c =
-    let s = c.before.before.before.before.before.before.before in
+    let s = c.before.before.before.before.before.before in
     let a = s.args in
     let t = c.before.before.before.order-tests in
-    order_given (record { head = a.head; wants = a.wants.now; warm_ups = a.warm.now }) s.requires.0 _ (omega (arith, s.requires.1)) _ _
+    order_given (record { head = a.head; wants = a.wants.now }) s.requires.0 _ (omega (arith, s.requires.1)) _ _
     (count_done _ _ _ t.ensures.0 c.enum_told.given.1) t.ensures.1
 
 slice_aggregate_all_sizes : tie.Need-slice-aggregate-all-sizes
@@ -42,17 +42,16 @@ returns_2 : tie.Need-returns-2
 returns_2 c =
     let s4 = c.before.before.before.before in
     let s6 = s4.before.before in
-    let s13 = s6.before.before.before.before.before.before.before in
-    let a = s13.args in
+    let s12 = s6.before.before.before.before.before.before in
+    let a = s12.args in
     let s = s4.all-sizes in
-    list_refused (record { head = a.head; wants = a.wants.now; warm_ups = a.warm.now }) _ (given (s6)).0 _ _ s.ensures.0 s.ensures.1.0 _ c.before.answer.given.1
+    list_refused (record { head = a.head; wants = a.wants.now }) _ (given (s6)).0 _ _ s.ensures.0 s.ensures.1.0 _ c.before.answer.given.1
 
 returns_3 : tie.Need-returns-3
 returns_3 c =
-    let a = c.before.before.before.before.before.before.before.before.before.before.before.before.args in
+    let a = c.before.before.before.before.before.before.before.before.before.before.before.args in
     let s = c.before.before.before.all-sizes in
-    let g = given c.before.before.before.before.before in
-    list_sized (record { head = a.head; wants = a.wants.now; warm_ups = a.warm.now }) _ g.0 _ _ s.ensures.0 s.ensures.1.0 c.enum-told2.given.1
+    list_sized (record { head = a.head; wants = a.wants.now }) _ (given c.before.before.before.before.before).0 _ _ s.ensures.0 s.ensures.1.0 c.enum-told2.given.1
 
 pub size_list_spec : {M : Type 1} → statement M
 size_list_spec =
