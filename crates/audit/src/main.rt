@@ -1,6 +1,6 @@
+#![tactic(auto)]
 // Says how many loads a plan has, and how many the same list in the same order can be run with: audit JOB PLAN, the names of two files.
 ghost use Rattle.std.specs.Prelude.{List, ℕ};
-ghost use Rattle.lists.specs.Lent.{after};
 ghost use Rattle.io.specs.Counts.{IsPrefixLen};
 ghost use Rattle.report.specs.Audit.{audit};
 ghost use Rattle.report.specs.Input.{Enough};
@@ -29,16 +29,16 @@ fn open_argument(i: usize) -> i32 {
 
 // Reads the job's file, as much as can matter: whatever the whole of it is, and whatever the plan, the audit is that of the bytes read.
 fn read_job(file: i32, job: &mut [u8; JOB_INPUT]) -> usize
-    ensures count { IsPrefixLen result (after job) }
-    ensures enough { (plan : List ℕ) → Enough (λ whole. audit whole plan) result (after job) }
+    ensures count { IsPrefixLen result job.new }
+    ensures enough { (plan : List ℕ) → Enough (λ whole. audit whole plan) result job.new }
 {
     io::read_full(file, job)
 }
 
 // Reads the plan's file, as much as can matter, whatever the job.
 fn read_plan(file: i32, plan: &mut [u8; PLAN_INPUT]) -> usize
-    ensures count { IsPrefixLen result (after plan) }
-    ensures enough { (job : List ℕ) → Enough (λ whole. audit job whole) result (after plan) }
+    ensures count { IsPrefixLen result plan.new }
+    ensures enough { (job : List ℕ) → Enough (λ whole. audit job whole) result plan.new }
 {
     io::read_full(file, plan)
 }

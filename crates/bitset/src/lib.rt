@@ -1,3 +1,4 @@
+#![tactic(auto)]
 // Sets of numbers below 64, each as one u64: k is an element where bit k is set.
 ghost use Rattle.std.specs.Prelude.{◌≡◌, ◌%◌, ◌^◌, min, eqb};
 ghost use Rattle.std.specs.Int.Count.{count_trailing_zeros};

@@ -1,6 +1,6 @@
+#![tactic(auto)]
 // The call of the rig's host: reading, ordering, planning, writing.
 ghost use Rattle.std.specs.Prelude.{◌≡◌, length};
-ghost use Rattle.lists.specs.Lent.{was, after};
 ghost use Rattle.job.specs.Refusal.{count_outcome, mapped};
 ghost use Rattle.curveplan.specs.Call.{job_to_plan, call_answer, call_plan};
 
@@ -9,8 +9,8 @@ use planned::JobPlanned;
 
 // "The C call: reading, ordering, planning, writing."
 fn job_to_plan(job: &[u8], plan: &mut [u8]) -> Counted
-    ensures count { count_outcome result ≡ mapped length (job_to_plan (was job) (length (was plan))) }
-    ensures bytes { after plan ≡ call_plan (was job) (was plan) }
+    ensures count { count_outcome result ≡ mapped length (job_to_plan job.now (length plan.old)) }
+    ensures bytes { plan.new ≡ call_plan job.now plan.old }
 {
     let mut wants = [0u64; MOST_TESTS];
     let mut order = [0u16; MOST_TESTS];
@@ -30,8 +30,8 @@ fn job_to_plan(job: &[u8], plan: &mut [u8]) -> Counted
 // figure."
 #[unsafe(no_mangle)]
 pub extern "C" fn curveplan_plan(job: &[u8], plan: &mut [u8]) -> u64
-    ensures answer { result ≡ call_answer (was job) (was plan) }
-    ensures bytes { after plan ≡ call_plan (was job) (was plan) }
+    ensures answer { result ≡ call_answer job.now plan.old }
+    ensures bytes { plan.new ≡ call_plan job.now plan.old }
 {
     match job_to_plan(job, plan) {
         Counted::Refused(r) => job::number_of(r) * 65_536 + job::figure_of(r),

@@ -1,21 +1,20 @@
 // Which curves a step drops.
 ghost use Rattle.std.specs.Prelude.{◌≡◌, List, ℕ, ◌+◌, ◌-◌, ◌^◌, ◌≤◌, ◌<◌, length, get_or};
 ghost use Rattle.bitset.specs.Set.{◌∖◌, size, bit};
-ghost use Rattle.lists.specs.Lent.{was, after};
 ghost use Rattle.drive.specs.Uses.{further};
 ghost use Rattle.drive.specs.Plan.{furthest, victims, drops_for};
 ghost use Rattle.drive.specs.Steps.{together};
 ghost use Rattle.drive.specs.ContractWords.{Grouped, UsedAt, GoesFirst};
 
 // Document 01: "its next use, which is a later step or never". At(0) is the step after the present one.
-#[derive(Drop)]
+#[derive(Clone, Copy)]
 pub enum NextUse {
     At(usize),
     Never,
 }
 
 // "Every candidate curve goes with its next use."
-#[derive(Drop)]
+#[derive(Clone, Copy)]
 pub struct Candidate {
     pub curve: usize,
     pub next: NextUse,
@@ -75,7 +74,7 @@ fn left_after(same: u64, gone: usize) -> u64
 
 // What some steps want together.
 fn together(wants: &[u64]) -> u64
-    ensures { result ≡ together (was wants) }
+    ensures { result ≡ together wants.now }
 {
     let mut all: u64 = 0;
     let mut i = wants.len();
@@ -89,7 +88,7 @@ fn together(wants: &[u64]) -> u64
 // What the steps after step i, which want `later`, want together: the entry of the list, where it has one.
 fn wanted_later(list: &[u64], i: usize, later: &[u64]) -> u64
     requires { i < length list.now → get_or list.now i 0 ≡ together later.now }
-    ensures { result ≡ together (was later) }
+    ensures { result ≡ together later.now }
 {
     if i < list.len() {
         return list[i];
@@ -115,7 +114,7 @@ fn find_uses(
     when: &mut [usize],
 ) -> usize
     requires { (used ≡ together later.now) × ((64 ≤ length groups.old) × (64 ≤ length when.old)) }
-    ensures { Grouped candidates (candidates ∖ used) result (after groups) (after when) (was later) }
+    ensures { Grouped candidates (candidates ∖ used) result groups.new when.new later.now }
 {
     let mut left = bitset::common(candidates, used);
     let mut count: usize = 0;
@@ -177,7 +176,7 @@ fn furthest(never: u64, group: u64, step: usize) -> Candidate
 // than whatever stands in entry 0.
 fn drop_from_far(excess: usize, unused: u64, found: usize, groups: &[u64], when: &[usize]) -> u64
     requires { (found ≤ 64) × ((64 ≤ length groups.now) × (64 ≤ length when.now)) }
-    ensures { (cs : ℕ) (ws : List ℕ) → Grouped cs unused found (was groups) (was when) ws → cs < 2 ^ 64 → excess ≤ size cs
+    ensures { (cs : ℕ) (ws : List ℕ) → Grouped cs unused found groups.now when.now ws → cs < 2 ^ 64 → excess ≤ size cs
         → result ≡ victims (furthest 64) excess cs ws }
 {
     let mut chosen: u64 = 0;
@@ -198,7 +197,7 @@ fn drop_from_far(excess: usize, unused: u64, found: usize, groups: &[u64], when:
 // The same drops, found by those that stay: whole groups from the near end, and of the last one those that go last.
 fn keep_from_near(excess: usize, candidates: u64, count: usize, groups: &[u64]) -> u64
     requires { (count ≤ length groups.now) × (excess < size candidates) }
-    ensures { (unused : ℕ) (when ws : List ℕ) → Grouped candidates unused count (was groups) when ws
+    ensures { (unused : ℕ) (when ws : List ℕ) → Grouped candidates unused count groups.now when ws
         → result ≡ victims (furthest 64) excess candidates ws }
 {
     let mut left = candidates;
@@ -230,7 +229,7 @@ pub(crate) fn drops_with(
     when: &mut [usize],
 ) -> u64
     requires { (i < length list.now → get_or list.now i 0 ≡ together later.now) × ((64 ≤ length groups.old) × (64 ≤ length when.old)) }
-    ensures { result ≡ drops_for (furthest 64) capacity held want (was later) }
+    ensures { result ≡ drops_for (furthest 64) capacity held want later.now }
 {
     let all = bitset::size(bitset::union(held, want));
     if all <= capacity {

@@ -1,7 +1,7 @@
+#![tactic(auto)]
 // One drive: what a step drops and loads, all steps, and the check of steps. It knows no jobs, refusals and bytes.
 ghost use Rattle.std.specs.Prelude.{◌≡◌, ℕ, ◌+◌, ◌≤◌, ◌<◌, length, get_or, drop};
 ghost use Rattle.std.proofs.lemmas.List.Edits.{sets};
-ghost use Rattle.lists.specs.Lent.{was, after};
 ghost use Rattle.drive.specs.Steps.{moved, held_after, drops_of, loads_of, moves};
 ghost use Rattle.drive.specs.Check.{keeps, check_from};
 ghost use Rattle.drive.specs.Plan.{furthest, next, plan_from};
@@ -10,14 +10,14 @@ ghost use Rattle.drive.specs.Steps.{together};
 pub mod choice;
 
 // What a step drops and loads.
-#[derive(Drop)]
+#[derive(Clone, Copy)]
 pub struct Sets {
     pub drops: u64,
     pub loads: u64,
 }
 
 // What the check of steps answers: what is held at the end, or the first step that breaks a rule.
-#[derive(Drop)]
+#[derive(Clone, Copy)]
 pub enum Checked {
     Ends(u64),
     Breaks(usize),
@@ -45,7 +45,7 @@ fn step_with(
     when: &mut [usize],
 ) -> Sets
     requires { (i < length list.now → get_or list.now i 0 ≡ together later.now) × ((64 ≤ length groups.old) × (64 ≤ length when.old)) }
-    ensures { result ≡ next (furthest 64) capacity held want (was later) }
+    ensures { result ≡ next (furthest 64) capacity held want later.now }
 {
     Sets {
         drops: choice::drops_with(capacity, held, want, list, i, later, groups, when),
@@ -55,7 +55,7 @@ fn step_with(
 
 // The same step by itself.
 pub fn step(capacity: usize, held: u64, want: u64, later: &[u64]) -> Sets
-    ensures { result ≡ next (furthest 64) capacity held want (was later) }
+    ensures { result ≡ next (furthest 64) capacity held want later.now }
 {
     let mut groups = [0u64; 64];
     let mut when = [0usize; 64];
@@ -73,8 +73,8 @@ pub fn step(capacity: usize, held: u64, want: u64, later: &[u64]) -> Sets
 
 // Writes for each step what the steps after it want together, as far as the list has entries.
 pub fn write_later(wants: &[u64], list: &mut [u64])
-    ensures by_index { (i : ℕ) → i < length (was wants) → i < length (was list) → get_or (after list) i 0 ≡ together (drop (i + 1) (was wants)) }
-    ensures by_index_2 { (i : ℕ) → length (was wants) ≤ i → get_or (after list) i 0 ≡ get_or (was list) i 0 }
+    ensures by_index { (i : ℕ) → i < length wants.now → i < length list.old → get_or list.new i 0 ≡ together (drop (i + 1) wants.now) }
+    ensures by_index_2 { (i : ℕ) → length wants.now ≤ i → get_or list.new i 0 ≡ get_or list.old i 0 }
 {
     let mut all: u64 = 0;
     let mut i = wants.len();
@@ -88,7 +88,7 @@ pub fn write_later(wants: &[u64], list: &mut [u64])
 // The wants of the steps after step i.
 fn later(wants: &[u64], i: usize) -> &[u64]
     requires { i < length wants.now }
-    ensures { result.now ≡ drop (i + 1) (was wants) }
+    ensures { result.now ≡ drop (i + 1) wants.now }
 {
     let next = i + 1;
     &wants[next..]
@@ -103,9 +103,9 @@ pub fn plan_steps(
     drops: &mut [u64],
     loads: &mut [u64],
 ) -> u64
-    ensures ends { result ≡ held_after start (plan_from (furthest 64) capacity start (was wants)) }
-    ensures dropped { after drops ≡ sets (was drops) 0 (drops_of (plan_from (furthest 64) capacity start (was wants))) }
-    ensures loaded { after loads ≡ sets (was loads) 0 (loads_of (plan_from (furthest 64) capacity start (was wants))) }
+    ensures ends { result ≡ held_after start (plan_from (furthest 64) capacity start wants.now) }
+    ensures dropped { drops.new ≡ sets drops.old 0 (drops_of (plan_from (furthest 64) capacity start wants.now)) }
+    ensures loaded { loads.new ≡ sets loads.old 0 (loads_of (plan_from (furthest 64) capacity start wants.now)) }
 {
     write_later(wants, loads);
     let mut groups = [0u64; 64];
@@ -158,7 +158,7 @@ pub fn check_steps(
     drops: &[u64],
     loads: &[u64],
 ) -> Checked
-    ensures { result ≡ check_from capacity all 0 start (moves (was wants) (was drops) (was loads)) }
+    ensures { result ≡ check_from capacity all 0 start (moves wants.now drops.now loads.now) }
 {
     let mut held = start;
     let mut i: usize = 0;

@@ -1,8 +1,8 @@
+#![tactic(auto)]
 // Every drive size together: 02, wish 9. Drives nest: what a drive holds, a larger one holds too. So each curve has a slot, the number of places up to which no
 // drive holds it (64 where none does), and one walk along the list keeps the slots of all curves.
 ghost use Rattle.std.specs.Prelude.{◌≡◌, List, ◌∷◌, ℕ, ◌+◌, ◌-◌, ◌≤◌, ◌<◌, length, get_or, take, drop, leb};
 ghost use Rattle.bitset.specs.Set.{◌∪◌, ◌∖◌, size, bit};
-ghost use Rattle.lists.specs.Lent.{was, after};
 ghost use Rattle.every_size.specs.Sizes.{largest, or_mark, all_sizes, serves, fewest_places, size_found};
 ghost use Rattle.drive.specs.Steps.{load_count, together};
 ghost use Rattle.drive.specs.Plan.{furthest, plan_from};
@@ -12,7 +12,7 @@ ghost use Rattle.every_size.specs.ContractWords.{sum, holds_at, held_next, Slott
 pub const MARK: u16 = 65_535;
 
 // The fewest places that serve, or that no size does.
-#[derive(Drop)]
+#[derive(Clone, Copy)]
 pub enum Size {
     Places(usize),
     NoSize,
@@ -24,10 +24,10 @@ pub enum Size {
 fn load_wanted(want: u64, slots: &mut [usize], loads: &mut [u16])
     requires in_bounds { (64 ≤ length slots.old) × (65 ≤ length loads.old) }
     requires by_index { ((c : ℕ) → get_or slots.old c 0 ≤ 64) × (sum loads.old + size want ≤ 65535) }
-    ensures loaded { (p hold : ℕ) → ((c : ℕ) → bit c want ≡ 1 → bit c hold ≡ holds_at (get_or (was slots) c 0) p)
-        → sum (drop p (after loads)) ≡ sum (drop p (was loads)) + size (want ∖ hold) }
-    ensures wanted { (c : ℕ) → bit c want ≡ 1 → get_or (after slots) c 0 ≡ 0 }
-    ensures others { (c : ℕ) → bit c want ≡ 0 → get_or (after slots) c 0 ≡ get_or (was slots) c 0 }
+    ensures loaded { (p hold : ℕ) → ((c : ℕ) → bit c want ≡ 1 → bit c hold ≡ holds_at (get_or slots.old c 0) p)
+        → sum (drop p loads.new) ≡ sum (drop p loads.old) + size (want ∖ hold) }
+    ensures wanted { (c : ℕ) → bit c want ≡ 1 → get_or slots.new c 0 ≡ 0 }
+    ensures others { (c : ℕ) → bit c want ≡ 0 → get_or slots.new c 0 ≡ get_or slots.old c 0 }
 {
     let mut left = want;
     while left != 0 {
@@ -43,8 +43,8 @@ fn load_wanted(want: u64, slots: &mut [usize], loads: &mut [u16])
 fn place_group(group: u64, free: u64, slots: &mut [usize]) -> u64
     requires { 64 ≤ length slots.old }
     ensures { (hold : ℕ → ℕ) (w seen others placed : ℕ) (ws before : List ℕ) → Waiting hold w seen others ws before
-        → NextGroup others placed group ws → Placing hold w others placed free ws before (was slots)
-        → Placing hold w others (placed ∪ group) result ws before (after slots) }
+        → NextGroup others placed group ws → Placing hold w others placed free ws before slots.old
+        → Placing hold w others (placed ∪ group) result ws before slots.new }
 {
     let mut left = group;
     let mut vacant = free;
@@ -62,8 +62,8 @@ fn place_group(group: u64, free: u64, slots: &mut [usize]) -> u64
 // where each of them is found. Answers the slots that are free then.
 fn place_others(wanted: usize, others: u64, later: &[u64], slots: &mut [usize]) -> u64
     requires { ((c : ℕ) → bit c others ≤ bit c (together later.now)) × (64 ≤ length slots.old) }
-    ensures { (hold : ℕ → ℕ) (w seen : ℕ) → wanted ≡ size w → Waiting hold w seen others (was later) (was slots)
-        → Placing hold w others others result (was later) (was slots) (after slots) }
+    ensures { (hold : ℕ → ℕ) (w seen : ℕ) → wanted ≡ size w → Waiting hold w seen others later.now slots.old
+        → Placing hold w others others result later.now slots.old slots.new }
 {
     let mut free = bitset::without(bitset::below(64), bitset::below(wanted));
     let mut left = others;
@@ -81,11 +81,11 @@ fn place_others(wanted: usize, others: u64, later: &[u64], slots: &mut [usize]) 
 fn step(want: u64, seen: u64, used: u64, later: &[u64], slots: &mut [usize], loads: &mut [u16])
     requires in_bounds { (64 ≤ length slots.old) × (65 ≤ length loads.old) }
     requires used_value { (used ≡ together later.now) × (((c : ℕ) → get_or slots.old c 0 ≤ 64) × (sum loads.old + size want ≤ 65535)) }
-    ensures slotted { (hold : ℕ → ℕ) → Slotted hold seen (want ∷ was later) (was slots)
-        → Slotted (held_next hold want (was later)) (seen ∪ want) (was later) (after slots) }
-    ensures loaded { (hold : ℕ → ℕ) → Slotted hold seen (want ∷ was later) (was slots) → (p : ℕ) → 1 ≤ p → p ≤ 64
-        → sum (drop p (after loads)) ≡ sum (drop p (was loads)) + size (want ∖ hold p) }
-    ensures more { sum (after loads) ≡ sum (was loads) + size want }
+    ensures slotted { (hold : ℕ → ℕ) → Slotted hold seen (want ∷ later.now) slots.old
+        → Slotted (held_next hold want later.now) (seen ∪ want) later.now slots.new }
+    ensures loaded { (hold : ℕ → ℕ) → Slotted hold seen (want ∷ later.now) slots.old → (p : ℕ) → 1 ≤ p → p ≤ 64
+        → sum (drop p loads.new) ≡ sum (drop p loads.old) + size (want ∖ hold p) }
+    ensures more { sum loads.new ≡ sum loads.old + size want }
 {
     load_wanted(want, slots, loads);
     let others = bitset::common(bitset::without(seen, want), used);
@@ -97,7 +97,7 @@ fn step(want: u64, seen: u64, used: u64, later: &[u64], slots: &mut [usize], loa
 // The loads of the whole list, by the slots that the curves had when they were loaded.
 fn loads_by_slot(wants: &[u64]) -> [u16; 65]
     requires { length wants.now ≤ 256 }
-    ensures by_index { (p : ℕ) → 1 ≤ p → p ≤ 64 → sum (drop p result) ≡ load_count (plan_from (furthest 64) p 0 (was wants)) }
+    ensures by_index { (p : ℕ) → 1 ≤ p → p ≤ 64 → sum (drop p result) ≡ load_count (plan_from (furthest 64) p 0 wants.now) }
     ensures result_bound { sum result ≤ 16384 }
 {
     let mut laters = [0u64; 256];
@@ -125,7 +125,7 @@ fn loads_by_slot(wants: &[u64]) -> [u16; 65]
 
 // How many curves the largest of the tests wants.
 fn largest(wants: &[u64]) -> usize
-    ensures { result ≡ largest (was wants) }
+    ensures { result ≡ largest wants.now }
 {
     let mut most: usize = 0;
     let mut i = wants.len();
@@ -142,7 +142,7 @@ fn largest(wants: &[u64]) -> usize
 // The entries of all sizes: the drive with p places makes the loads of slots from p on, or has the mark where it is too small.
 fn entries(most: usize, loads: &[u16]) -> [u16; 64]
     requires { (length loads.now ≡ 65) × (sum loads.now ≤ 16384) }
-    ensures { (p : ℕ) → 1 ≤ p → p ≤ 64 → get_or result (p - 1) 0 ≡ or_mark (leb most p) (sum (drop p (was loads))) }
+    ensures { (p : ℕ) → 1 ≤ p → p ≤ 64 → get_or result (p - 1) 0 ≡ or_mark (leb most p) (sum (drop p loads.now)) }
 {
     let mut counts = [MARK; 64];
     let mut total: u16 = 0;
@@ -161,7 +161,7 @@ fn entries(most: usize, loads: &[u16]) -> [u16; 64]
 // "For one order from an empty drive give the load counts for 1 to 64 places in one walk along the list": that for p places in entry p - 1, of the first 256
 // steps.
 pub fn all_sizes(wants: &[u64]) -> [u16; 64]
-    ensures { result ≡ all_sizes 64 (take 256 (was wants)) }
+    ensures { result ≡ all_sizes 64 (take 256 wants.now) }
 {
     let n = wants.len();
     let mut end: usize = 256;
@@ -185,7 +185,7 @@ fn serves(loads: usize, entry: u16) -> bool
 
 // "for a wanted count, give the fewest places that need no more loads, a marked size never serving, or none": of the entries for 1, 2, .. places.
 pub fn fewest_places(entries: &[u16], loads: usize) -> Size
-    ensures { size_found result ≡ fewest_places loads (was entries) }
+    ensures { size_found result ≡ fewest_places loads entries.now }
 {
     let mut i: usize = 0;
     while i < entries.len() {

@@ -1,1 +1,2 @@
+#![tactic(auto)]
 // The examples of document 01.

@@ -1,8 +1,8 @@
+#![tactic(auto)]
 // The functions of the library for C, and for tests in other languages. Each calls the function of its name, and answers numbers; one rule makes an outcome
 // one number.
 ghost use Rattle.std.specs.Prelude.{◌≡◌, reverse, ◌%◌, ◌^◌, min, length, eqb};
 ghost use Rattle.std.specs.Int.Count.{count_trailing_zeros};
-ghost use Rattle.lists.specs.Lent.{was, after};
 ghost use Rattle.bitset.specs.Set.{◌∩◌, ◌∪◌, ◌∖◌, size, bit, inside, below};
 ghost use Rattle.job.specs.Refusal.{done, refused, number, figure, read_outcome, count_outcome, examined_outcome, mapped, room, leaves};
 ghost use Rattle.job.specs.Handed.{job_known, job_known_by, counts_known, wants_fit};
@@ -56,7 +56,7 @@ fn counted(c: Counted) -> u64
 // The count; the end set goes to `end`.
 fn with_end(c: PlanCounted, end: &mut u64) -> u64
     ensures answer { result ≡ numbered (count_of (plan_outcome c)) }
-    ensures end { after end ≡ leaves_one (end_of (plan_outcome c)) (was end) }
+    ensures end { end.new ≡ leaves_one (end_of (plan_outcome c)) end.old }
 {
     match c {
         PlanCounted::Count(n, set) => {
@@ -88,7 +88,7 @@ fn truth(b: bool) -> u64
 
 // What reading a job answers: its number of tests or the refusal, and the five numbers of its head.
 #[repr(C)]
-#[derive(Drop)]
+#[derive(Clone, Copy)]
 pub struct JobHead {
     pub answer: u64,
     pub places: usize,
@@ -123,8 +123,8 @@ fn head_of(r: JobRead) -> JobHead
 
 #[unsafe(no_mangle)]
 pub extern "C" fn curveplan_read_job(job: &[u8], wants: &mut [u64]) -> JobHead
-    ensures answer { result ≡ head_of (read_job_answer (was job) (was wants)) }
-    ensures wants { after wants ≡ read_job_wants (was job) (was wants) }
+    ensures answer { result ≡ head_of (read_job_answer job.now wants.old) }
+    ensures wants { wants.new ≡ read_job_wants job.now wants.old }
 {
     head_of(job_bytes::read_job(job, wants))
 }
@@ -149,8 +149,8 @@ pub extern "C" fn curveplan_write_job(
     wants: &[u64],
     out: &mut [u8],
 ) -> u64
-    ensures answer { result ≡ numbered (write_job_answer method (job places booked curves (was wants)) (was out)) }
-    ensures bytes { after out ≡ write_job_buffer method (job places booked curves (was wants)) (was out) }
+    ensures answer { result ≡ numbered (write_job_answer method (job places booked curves wants.now) out.old) }
+    ensures bytes { out.new ≡ write_job_buffer method (job places booked curves wants.now) out.old }
 {
     counted(job_bytes::write_job(rig(places, booked, curves), method, wants, out))
 }
@@ -164,8 +164,8 @@ pub extern "C" fn curveplan_order_tests(
     wants: &[u64],
     order: &mut [u16],
 ) -> u64
-    ensures answer { result ≡ numbered (order_answer method (job places booked curves (was wants)) (was order)) }
-    ensures order { after order ≡ order_list method (job places booked curves (was wants)) (was order) }
+    ensures answer { result ≡ numbered (order_answer method (job places booked curves wants.now) order.old) }
+    ensures order { order.new ≡ order_list method (job places booked curves wants.now) order.old }
 {
     counted(ordering::order_tests(rig(places, booked, curves), method, wants, order))
 }
@@ -182,11 +182,11 @@ pub extern "C" fn curveplan_plan_order(
     loads: &mut [u64],
     end: &mut u64,
 ) -> u64
-    ensures answer { result ≡ numbered (count_of (plan_answer (job places booked curves (was wants)) held (was order) (set_lists (was drops) (was loads)))) }
-    ensures lists { set_lists (after drops) (after loads)
-        ≡ plan_lists (job places booked curves (was wants)) held (was order) (set_lists (was drops) (was loads)) }
-    ensures end { after end
-        ≡ leaves_one (end_of (plan_answer (job places booked curves (was wants)) held (was order) (set_lists (was drops) (was loads)))) (was end) }
+    ensures answer { result ≡ numbered (count_of (plan_answer (job places booked curves wants.now) held order.now (set_lists drops.old loads.old))) }
+    ensures lists { set_lists drops.new loads.new
+        ≡ plan_lists (job places booked curves wants.now) held order.now (set_lists drops.old loads.old) }
+    ensures end { end.new
+        ≡ leaves_one (end_of (plan_answer (job places booked curves wants.now) held order.now (set_lists drops.old loads.old))) end.old }
 {
     with_end(
         planning::plan(
@@ -213,7 +213,7 @@ pub extern "C" fn curveplan_check_plan(
     loads: &[u64],
     end: u64,
 ) -> u64
-    ensures { result ≡ numbered (checking (job places booked curves (was wants)) held (was order) (plan_of (was drops) (was loads) end)) }
+    ensures { result ≡ numbered (checking (job places booked curves wants.now) held order.now (plan_of drops.now loads.now end)) }
 {
     counted(planning::check_plan(
         rig(places, booked, curves),
@@ -240,9 +240,9 @@ pub extern "C" fn curveplan_write_plan(
     out: &mut [u8],
 ) -> u64
     ensures answer { result
-        ≡ numbered (write_plan_answer (job places booked curves (was wants)) held (was order) (plan_of (was drops) (was loads) end) (was out)) }
-    ensures bytes { after out
-        ≡ write_plan_buffer (job places booked curves (was wants)) held (was order) (plan_of (was drops) (was loads) end) (was out) }
+        ≡ numbered (write_plan_answer (job places booked curves wants.now) held order.now (plan_of drops.now loads.now end) out.old) }
+    ensures bytes { out.new
+        ≡ write_plan_buffer (job places booked curves wants.now) held order.now (plan_of drops.now loads.now end) out.old }
 {
     counted(plan_bytes::write_plan(
         rig(places, booked, curves),
@@ -266,11 +266,11 @@ pub extern "C" fn curveplan_read_plan(
     loads: &mut [u64],
     end: &mut u64,
 ) -> u64
-    ensures answer { result ≡ numbered (count_of (read_plan_answer curves tests (was plan) (was order) (set_lists (was drops) (was loads)))) }
-    ensures order { after order ≡ read_plan_order curves tests (was plan) (was order) (set_lists (was drops) (was loads)) }
-    ensures lists { set_lists (after drops) (after loads) ≡ read_plan_lists curves tests (was plan) (was order) (set_lists (was drops) (was loads)) }
-    ensures end { after end
-        ≡ leaves_one (end_of (read_plan_answer curves tests (was plan) (was order) (set_lists (was drops) (was loads)))) (was end) }
+    ensures answer { result ≡ numbered (count_of (read_plan_answer curves tests plan.now order.old (set_lists drops.old loads.old))) }
+    ensures order { order.new ≡ read_plan_order curves tests plan.now order.old (set_lists drops.old loads.old) }
+    ensures lists { set_lists drops.new loads.new ≡ read_plan_lists curves tests plan.now order.old (set_lists drops.old loads.old) }
+    ensures end { end.new
+        ≡ leaves_one (end_of (read_plan_answer curves tests plan.now order.old (set_lists drops.old loads.old))) end.old }
 {
     with_end(
         plan_bytes::read_plan(curves, tests, plan, order, drops, loads),
@@ -286,23 +286,23 @@ pub extern "C" fn curveplan_step_bytes(
     plan: &[u8],
     position: usize,
 ) -> StepPart
-    ensures { result ≡ step_part curves tests (was plan) position }
+    ensures { result ≡ step_part curves tests plan.now position }
 {
     plan_bytes::step_part(curves, tests, plan, position)
 }
 
 #[unsafe(no_mangle)]
 pub extern "C" fn curveplan_sheet(job: &[u8], out: &mut [u8]) -> u64
-    ensures answer { result ≡ numbered (sheet_answer (was job) (was out)) }
-    ensures text { after out ≡ sheet_buffer (was job) (was out) }
+    ensures answer { result ≡ numbered (sheet_answer job.now out.old) }
+    ensures text { out.new ≡ sheet_buffer job.now out.old }
 {
     counted(report::write_report(job, out))
 }
 
 #[unsafe(no_mangle)]
 pub extern "C" fn curveplan_audit(job: &[u8], plan: &[u8], out: &mut [u8]) -> u64
-    ensures answer { result ≡ numbered (audit_answer (was job) (was plan) (was out)) }
-    ensures text { after out ≡ audit_buffer (was job) (was plan) (was out) }
+    ensures answer { result ≡ numbered (audit_answer job.now plan.now out.old) }
+    ensures text { out.new ≡ audit_buffer job.now plan.now out.old }
 {
     counted(report::audit::write_audit(job, plan, out))
 }
@@ -317,8 +317,8 @@ pub extern "C" fn curveplan_all_sizes(
     order: &[u16],
     counts: &mut [u16; 64],
 ) -> u64
-    ensures answer { result ≡ passing (sizing curves (was wants) (was order)) }
-    ensures counts { after counts ≡ leaves_counts (sizing curves (was wants) (was order)) (was counts) }
+    ensures answer { result ≡ passing (sizing curves wants.now order.now) }
+    ensures counts { counts.new ≡ leaves_counts (sizing curves wants.now order.now) counts.old }
 {
     let sizes = sizing::all_sizes(curves, wants, order);
     let answer = sizes.answer;
@@ -340,7 +340,7 @@ pub extern "C" fn curveplan_fewest_places(
     order: &[u16],
     loads: usize,
 ) -> u64
-    ensures { result ≡ numbered (mapped places_number (fewest curves (was wants) (was order) loads)) }
+    ensures { result ≡ numbered (mapped places_number (fewest curves wants.now order.now loads)) }
 {
     match sizing::fewest_places(curves, wants, order, loads) {
         Places::Fewest(p) => p as u64,
@@ -367,8 +367,8 @@ pub extern "C" fn curveplan_size_table(
     loads: usize,
     out: &mut [u8],
 ) -> u64
-    ensures answer { result ≡ numbered (table_answer (was job) (asks asked loads) (was out)) }
-    ensures text { after out ≡ table_buffer (was job) (asks asked loads) (was out) }
+    ensures answer { result ≡ numbered (table_answer job.now (asks asked loads) out.old) }
+    ensures text { out.new ≡ table_buffer job.now (asks asked loads) out.old }
 {
     counted(report::sizes::write_size_table(job, wanted(asked, loads), out))
 }
@@ -377,7 +377,7 @@ pub extern "C" fn curveplan_size_table(
 
 // What a look shows, and a commit answers: 0 for none, 1 for the step of a test, 2 for the end step, or the refusal; and the step's drops and loads.
 #[repr(C)]
-#[derive(Drop)]
+#[derive(Clone, Copy)]
 pub struct StepShown {
     pub answer: u64,
     pub drops: u64,
@@ -433,7 +433,7 @@ const WANTS: usize = 4;
 // Writes the numbers of a state.
 fn put_state(state: State, list: &mut [u64])
     requires { length list.old ≡ 260 }
-    ensures { after list ≡ numbers_of state }
+    ensures { list.new ≡ numbers_of state }
 {
     let wants = state.wants;
     list[CAPACITY] = state.capacity as u64;
@@ -457,8 +457,8 @@ pub extern "C" fn curveplan_make_state(
     order: &[u16],
     state: &mut [u64; 260],
 ) -> u64
-    ensures answer { result ≡ numbered (tests_made (making (job places booked curves (was wants)) held (was order))) }
-    ensures state { after state ≡ leaves_state (making (job places booked curves (was wants)) held (was order)) (was state) }
+    ensures answer { result ≡ numbered (tests_made (making (job places booked curves wants.now) held order.now)) }
+    ensures state { state.new ≡ leaves_state (making (job places booked curves wants.now) held order.now) state.old }
 {
     let made = stepping::make_state(rig(places, booked, curves), wants, held, order);
     let answer = made.answer;
@@ -475,7 +475,7 @@ pub extern "C" fn curveplan_make_state(
 // The wants of the steps, where the numbers of a state stand.
 fn step_wants(state: &[u64]) -> &[u64]
     requires { length state.now ≡ 260 }
-    ensures { result.now ≡ step_wants (state_of (was state)) }
+    ensures { result.now ≡ step_wants (state_of state.now) }
 {
     let end = WANTS + stepping::steps_of(state[TESTS] as usize);
     &state[WANTS..end]
@@ -483,7 +483,7 @@ fn step_wants(state: &[u64]) -> &[u64]
 
 fn look_in(state: &[u64]) -> NextStep
     requires { length state.now ≡ 260 }
-    ensures { result ≡ look (state_of (was state)) }
+    ensures { result ≡ look (state_of state.now) }
 {
     stepping::look_at(
         state[CAPACITY] as usize,
@@ -495,8 +495,8 @@ fn look_in(state: &[u64]) -> NextStep
 
 fn commit_in(state: &mut [u64], position: usize) -> CommitAnswer
     requires { length state.old ≡ 260 }
-    ensures answer { commit_outcome result ≡ commit (state_of (was state)) position }
-    ensures state { after state ≡ numbers_of (after_commit (state_of (was state)) position) }
+    ensures answer { commit_outcome result ≡ commit (state_of state.old) position }
+    ensures state { state.new ≡ numbers_of (after_commit (state_of state.old) position) }
 {
     let held = state[HELD];
     let done = state[COMMITTED] as usize;
@@ -516,15 +516,15 @@ fn commit_in(state: &mut [u64], position: usize) -> CommitAnswer
 
 #[unsafe(no_mangle)]
 pub extern "C" fn curveplan_look(state: &[u64; 260]) -> StepShown
-    ensures { result ≡ step_of (done (look (state_of (was state)))) }
+    ensures { result ≡ step_of (done (look (state_of state.now))) }
 {
     shown(look_in(state))
 }
 
 #[unsafe(no_mangle)]
 pub extern "C" fn curveplan_commit(state: &mut [u64; 260], position: usize) -> StepShown
-    ensures answer { result ≡ step_of (commit (state_of (was state)) position) }
-    ensures state { after state ≡ numbers_of (after_commit (state_of (was state)) position) }
+    ensures answer { result ≡ step_of (commit (state_of state.old) position) }
+    ensures state { state.new ≡ numbers_of (after_commit (state_of state.old) position) }
 {
     answered(commit_in(state, position))
 }
@@ -538,7 +538,7 @@ pub extern "C" fn curveplan_examine(
     curves: usize,
     wants: &[u64],
 ) -> u64
-    ensures { result ≡ passing (job_known (job places booked curves (was wants))) }
+    ensures { result ≡ passing (job_known (job places booked curves wants.now)) }
 {
     examined(job::examine_job(rig(places, booked, curves), 0, wants))
 }
@@ -551,7 +551,7 @@ pub extern "C" fn curveplan_examine_by(
     method: usize,
     wants: &[u64],
 ) -> u64
-    ensures { result ≡ passing (job_known_by method (job places booked curves (was wants))) }
+    ensures { result ≡ passing (job_known_by method (job places booked curves wants.now)) }
 {
     examined(job::examine_job(rig(places, booked, curves), method, wants))
 }
@@ -565,7 +565,7 @@ pub extern "C" fn curveplan_examine_counts(curves: usize, tests: usize) -> u64
 
 #[unsafe(no_mangle)]
 pub extern "C" fn curveplan_examine_sizes(capacity: usize, wants: &[u64]) -> u64
-    ensures { result ≡ passing (wants_fit capacity (was wants)) }
+    ensures { result ≡ passing (wants_fit capacity wants.now) }
 {
     examined(job::examine_sizes(capacity, wants))
 }
@@ -581,8 +581,8 @@ pub extern "C" fn curveplan_read_group(
     curves: usize,
     set: &mut u64,
 ) -> u64
-    ensures answer { result ≡ passing (group_at (was rest) at group curves) }
-    ensures set { after set ≡ leaves_one (group_at (was rest) at group curves) (was set) }
+    ensures answer { result ≡ passing (group_at rest.now at group curves) }
+    ensures set { set.new ≡ leaves_one (group_at rest.now at group curves) set.old }
 {
     match job_bytes::set_bytes::read_group(rest, at, group, curves) {
         GroupRead::Owed => SCALE,
@@ -612,7 +612,7 @@ pub extern "C" fn curveplan_set_len(s: u64) -> u64
 #[unsafe(no_mangle)]
 pub extern "C" fn curveplan_put_set(s: u64, out: &mut [u8]) -> u64
     ensures count { result ≡ length (set_bytes s) }
-    ensures bytes { after out ≡ leaves (mapped (λ _. set_bytes s) (room (length (was out)) (length (set_bytes s)))) (was out) }
+    ensures bytes { out.new ≡ leaves (mapped (λ _. set_bytes s) (room (length out.old) (length (set_bytes s)))) out.old }
 {
     job_bytes::set_bytes::put_set(s, out) as u64
 }
@@ -693,21 +693,21 @@ pub extern "C" fn curveplan_below(n: usize) -> u64
 
 #[unsafe(no_mangle)]
 pub extern "C" fn curveplan_reverse(xs: &mut [u16])
-    ensures { after xs ≡ reverse (was xs) }
+    ensures { xs.new ≡ reverse xs.old }
 {
     packages::reverse(xs);
 }
 
 #[unsafe(no_mangle)]
 pub extern "C" fn curveplan_listed_order(tests: usize, order: &mut [u16])
-    ensures { after order ≡ entered (up_to tests) (was order) }
+    ensures { order.new ≡ entered (up_to tests) order.old }
 {
     packages::listed_order(tests, order);
 }
 
 #[unsafe(no_mangle)]
 pub extern "C" fn curveplan_package_order(capacity: usize, wants: &[u64], order: &mut [u16])
-    ensures { after order ≡ entered (packages capacity (was wants)) (was order) }
+    ensures { order.new ≡ entered (packages capacity wants.now) order.old }
 {
     packages::package_order(capacity, wants, order);
 }

@@ -1,6 +1,6 @@
+#![tactic(auto)]
 // The job of a rig: its head, the refusals, what the library's functions answer, and the examination of handed numbers and lists.
 ghost use Rattle.std.specs.Prelude.{◌≡◌, ◌≤◌, length};
-ghost use Rattle.lists.specs.Lent.{was};
 ghost use Rattle.job.specs.Refusal.{number, figure, examined_outcome};
 ghost use Rattle.job.specs.Words.{job_of, capacity};
 ghost use Rattle.job.specs.Handed.{between, is_method, numbers_known, wants_known, wants_fit, booked_known, booked_below, held_known, job_known_by, counts_known};
@@ -24,7 +24,7 @@ pub const OLD_METHOD: usize = 2;
 
 // Why a call is refused: the rows of document 01's table in its order, each with the figure that is returned beside its number, and those of 02 behind them.
 // Row 5 is withdrawn (02, wish 3). The comment gives the table's own word.
-#[derive(Drop)]
+#[derive(Clone, Copy)]
 pub enum Refusal {
     // 1, cut
     Truncated(usize),
@@ -101,7 +101,7 @@ pub fn figure_of(r: Refusal) -> u64
 }
 
 // What a rig offers a list of tests: the places of its drive, how many of them the drive keeps for its own prefetching, and the number of curves.
-#[derive(Drop)]
+#[derive(Clone, Copy)]
 pub struct Rig {
     pub places: usize,
     pub booked: usize,
@@ -119,7 +119,7 @@ pub fn capacity(rig: Rig) -> usize
 }
 
 // The numbers of a job's bytes.
-#[derive(Drop)]
+#[derive(Clone, Copy)]
 pub struct Head {
     pub rig: Rig,
     pub tests: usize,
@@ -127,21 +127,21 @@ pub struct Head {
 }
 
 // What reading a job answers.
-#[derive(Drop)]
+#[derive(Clone, Copy)]
 pub enum JobRead {
     Read(Head),
     Refused(Refusal),
 }
 
 // What an examination of handed numbers and lists answers.
-#[derive(Drop)]
+#[derive(Clone, Copy)]
 pub enum Examined {
     Passed,
     Refused(Refusal),
 }
 
 // What a call answers that counts its result: entries, bytes or loads.
-#[derive(Drop)]
+#[derive(Clone, Copy)]
 pub enum Counted {
     Count(usize),
     Refused(Refusal),
@@ -193,7 +193,7 @@ fn is_method(method: usize) -> bool
 // 10, 4 + t: "wants of test t name a foreign curve".
 fn examine_wants(curves: usize, wants: &[u64]) -> Examined
     requires { (curves ≤ 64) × (length wants.now ≤ 256) }
-    ensures { examined_outcome result ≡ wants_known curves (was wants) }
+    ensures { examined_outcome result ≡ wants_known curves wants.now }
 {
     let all = bitset::below(curves);
     let mut t = 0;
@@ -229,7 +229,7 @@ fn examine_booked(rig: Rig) -> Examined
 
 // 10 and 13, of a job and a method: what writing a job is handed. With method 0, of a job alone.
 pub fn examine_job(rig: Rig, method: usize, wants: &[u64]) -> Examined
-    ensures { examined_outcome result ≡ job_known_by method (job_of rig (was wants)) }
+    ensures { examined_outcome result ≡ job_known_by method (job_of rig wants.now) }
 {
     if let Examined::Refused(r) = examine_numbers(rig, wants.len()) {
         return Examined::Refused(r);
@@ -259,7 +259,7 @@ fn examine_held(curves: usize, held: u64) -> Examined
 
 // 7: "a test wants more curves than places", with the lowest such test; `most` is what the drive can hold.
 pub fn examine_sizes(most: usize, wants: &[u64]) -> Examined
-    ensures { examined_outcome result ≡ wants_fit most (was wants) }
+    ensures { examined_outcome result ≡ wants_fit most wants.now }
 {
     let mut t = 0;
     while t < wants.len() {
@@ -273,7 +273,7 @@ pub fn examine_sizes(most: usize, wants: &[u64]) -> Examined
 
 // 7, of a rig: by places less booked.
 fn examine_fit(rig: Rig, wants: &[u64]) -> Examined
-    ensures { examined_outcome result ≡ wants_fit (capacity rig) (was wants) }
+    ensures { examined_outcome result ≡ wants_fit (capacity rig) wants.now }
 {
     let most = capacity(rig);
     examine_sizes(most, wants)
@@ -282,7 +282,7 @@ fn examine_fit(rig: Rig, wants: &[u64]) -> Examined
 // 8: "first position with a number out of range or seen before, or first missing or surplus position, the smaller".
 fn examine_order(tests: usize, order: &[u16]) -> Examined
     requires { tests ≤ 256 }
-    ensures { examined_outcome result ≡ order_known tests (was order) }
+    ensures { examined_outcome result ≡ order_known tests order.now }
 {
     let mut seen = [false; MOST_TESTS];
     let mut i: usize = 0;
@@ -310,7 +310,7 @@ fn examine_order(tests: usize, order: &[u16]) -> Examined
 
 // Of what ordering is handed: 10, 13, 7.
 pub fn examine_ordering(rig: Rig, method: usize, wants: &[u64]) -> Examined
-    ensures { examined_outcome result ≡ ordering_known method (job_of rig (was wants)) }
+    ensures { examined_outcome result ≡ ordering_known method (job_of rig wants.now) }
 {
     if let Examined::Refused(r) = examine_job(rig, method, wants) {
         return Examined::Refused(r);
@@ -320,7 +320,7 @@ pub fn examine_ordering(rig: Rig, method: usize, wants: &[u64]) -> Examined
 
 // Of what the plan check is handed, but for the plan: 10, 13, 14, 8.
 pub fn examine_checking(rig: Rig, wants: &[u64], held: u64, order: &[u16]) -> Examined
-    ensures { examined_outcome result ≡ checking_known (job_of rig (was wants)) held (was order) }
+    ensures { examined_outcome result ≡ checking_known (job_of rig wants.now) held order.now }
 {
     if let Examined::Refused(r) = examine_job(rig, 0, wants) {
         return Examined::Refused(r);
@@ -333,7 +333,7 @@ pub fn examine_checking(rig: Rig, wants: &[u64], held: u64, order: &[u16]) -> Ex
 
 // Of what planning is handed: 10, 13, 14, 8, 7.
 pub fn examine_planning(rig: Rig, wants: &[u64], held: u64, order: &[u16]) -> Examined
-    ensures { examined_outcome result ≡ planning_known (job_of rig (was wants)) held (was order) }
+    ensures { examined_outcome result ≡ planning_known (job_of rig wants.now) held order.now }
 {
     if let Examined::Refused(r) = examine_checking(rig, wants, held, order) {
         return Examined::Refused(r);
@@ -343,7 +343,7 @@ pub fn examine_planning(rig: Rig, wants: &[u64], held: u64, order: &[u16]) -> Ex
 
 // Of an order alone, for as many tests as it has entries: 10, 8.
 pub fn examine_order_alone(order: &[u16]) -> Examined
-    ensures { examined_outcome result ≡ order_alone_known (was order) }
+    ensures { examined_outcome result ≡ order_alone_known order.now }
 {
     if MOST_TESTS < order.len() {
         return Examined::Refused(Refusal::BadArgument(2));
@@ -353,7 +353,7 @@ pub fn examine_order_alone(order: &[u16]) -> Examined
 
 // Of what the walk for every drive size is handed, 02, wish 9: 10, 8.
 pub fn examine_sizing(curves: usize, wants: &[u64], order: &[u16]) -> Examined
-    ensures { examined_outcome result ≡ sizing_known curves (was wants) (was order) }
+    ensures { examined_outcome result ≡ sizing_known curves wants.now order.now }
 {
     if let Examined::Refused(r) = examine_counts(curves, wants.len()) {
         return Examined::Refused(r);

@@ -1,3 +1,4 @@
+#![tactic(auto)]
 // The bytes of sets of curves and of jobs: read and written.
 mod fields; // fields.rt: the table of the head's fields
 pub mod reading; // reading.rt: job bytes, read

@@ -1,6 +1,5 @@
 // Job bytes, read: the head, then one record for each test.
 ghost use Rattle.std.specs.Prelude.{◌≡◌, not, ◌&&◌, List, [], ◌++◌, ℕ, ◌+◌, ◌*◌, ◌≤◌, length, take, drop, eqb};
-ghost use Rattle.lists.specs.Lent.{was, after};
 ghost use Rattle.job.specs.Handed.{between};
 ghost use Rattle.job.specs.Refusal.{done, mapped, read_outcome, count_outcome};
 ghost use Rattle.job_bytes.specs.SetBytes.{Got, got};
@@ -14,7 +13,7 @@ use job::{Counted, Examined, Head, JobRead, Refusal, Rig, examine_capacity};
 // "Two-byte numbers have the low byte first": the number of so many bytes at a position.
 fn number_at(job: &[u8], at: usize, width: usize) -> usize
     requires { (width ≤ 8) × (at + width ≤ length job.now) }
-    ensures { read_number width at (drop at (was job)) ≡ done (got result (at + width) (drop (at + width) (was job))) }
+    ensures { read_number width at (drop at job.now) ≡ done (got result (at + width) (drop (at + width) job.now)) }
 {
     let mut value: usize = 0;
     let mut k = width;
@@ -41,8 +40,8 @@ fn holds(field: Field, value: usize) -> bool
 // A field, if its bit stands: "cut before value". The next one begins at `at + stands * width`.
 fn read_field(job: &[u8], at: usize, stands: usize, field: Field) -> Counted
     requires { (stands ≤ 1) × (field.width ≤ 8) × (at ≤ length job.now) }
-    ensures { read_field field stands at (drop at (was job))
-        ≡ mapped (λ v. got v (at + stands * field.width) (drop (at + stands * field.width) (was job))) (count_outcome result) }
+    ensures { read_field field stands at (drop at job.now)
+        ≡ mapped (λ v. got v (at + stands * field.width) (drop (at + stands * field.width) job.now)) (count_outcome result) }
 {
     if stands == 0 {
         return Counted::Count(field.absent);
@@ -68,7 +67,7 @@ fn method_read(value: usize) -> usize
 // A head of its fields' values.
 fn head_of(values: &[usize]) -> Head
     requires { 5 ≤ length values.now }
-    ensures { result ≡ head_of (was values) }
+    ensures { result ≡ head_of values.now }
 {
     Head {
         rig: Rig {
@@ -84,7 +83,7 @@ fn head_of(values: &[usize]) -> Head
 // The head: "The first byte is a bit map; then only the fields whose bit stands, in bit order." Their values go to `values`; answers where the head ends.
 fn read_fields(job: &[u8], values: &mut [usize]) -> Counted
     requires { length values.old ≡ length fields }
-    ensures { head_fields (was job) ≡ mapped (λ n. got (head_of (after values)) n (drop n (was job))) (count_outcome result) }
+    ensures { head_fields job.now ≡ mapped (λ n. got (head_of values.new) n (drop n job.now)) (count_outcome result) }
 {
     if job.len() == 0 {
         return Counted::Refused(Refusal::Truncated(0));
@@ -116,9 +115,9 @@ fn read_fields(job: &[u8], values: &mut [usize]) -> Counted
 // middle of a test's groups as well."
 fn read_records(job: &[u8], start: usize, tests: usize, curves: usize, list: &mut [u64]) -> Counted
     requires { (start ≤ length job.now) × (tests ≤ length list.old) × (curves ≤ 64) }
-    ensures end { count_outcome result ≡ mapped (λ g. g.next) (read_records curves tests [] start (drop start (was job))) }
-    ensures sets { (g : Got (List ℕ)) → read_records curves tests [] start (drop start (was job)) ≡ done g
-        → take tests (after list) ≡ g.value }
+    ensures end { count_outcome result ≡ mapped (λ g. g.next) (read_records curves tests [] start (drop start job.now)) }
+    ensures sets { (g : Got (List ℕ)) → read_records curves tests [] start (drop start job.now) ≡ done g
+        → take tests list.new ≡ g.value }
 {
     let mut answer = Examined::Passed;
     let mut at = start;
@@ -170,7 +169,7 @@ fn read_records(job: &[u8], start: usize, tests: usize, curves: usize, list: &mu
 // The first n numbers of `from` go to the front of `to`.
 fn copy_front(to: &mut [u64], from: &[u64], n: usize)
     requires { (n ≤ length from.now) × (n ≤ length to.old) }
-    ensures { after to ≡ take n (was from) ++ drop n (was to) }
+    ensures { to.new ≡ take n from.now ++ drop n to.old }
 {
     let mut i = 0;
     while i < n {
@@ -182,8 +181,8 @@ fn copy_front(to: &mut [u64], from: &[u64], n: usize)
 // The tests behind a head that was read, from `start` on: the records, 6, 9.
 fn read_tests(job: &[u8], head: Head, start: usize, wants: &mut [u64]) -> JobRead
     requires { read_head job.now ≡ done (got head start (drop start job.now)) }
-    ensures answer { read_outcome result ≡ read_job_answer (was job) (was wants) }
-    ensures lent { after wants ≡ read_job_wants (was job) (was wants) }
+    ensures answer { read_outcome result ≡ read_job_answer job.now wants.old }
+    ensures lent { wants.new ≡ read_job_wants job.now wants.old }
 {
     let tests = head.tests;
     let mut list = [0u64; job::MOST_TESTS];
@@ -204,8 +203,8 @@ fn read_tests(job: &[u8], head: Head, start: usize, wants: &mut [u64]) -> JobRea
 
 // Reads job bytes; on success the wants of the tests stand at the front of `wants`.
 pub fn read_job(job: &[u8], wants: &mut [u64]) -> JobRead
-    ensures answer { read_outcome result ≡ read_job_answer (was job) (was wants) }
-    ensures lent { after wants ≡ read_job_wants (was job) (was wants) }
+    ensures answer { read_outcome result ≡ read_job_answer job.now wants.old }
+    ensures lent { wants.new ≡ read_job_wants job.now wants.old }
 {
     let mut values = [0usize; FIELDS];
     match read_fields(job, &mut values) {

@@ -3,12 +3,11 @@
 ghost use Rattle.std.specs.Prelude.{◌≡◌, [], ◌∷◌, ◌++◌, ℕ, ◌+◌, ◌≤◌, ◌<◌, min, length, drop};
 ghost use Rattle.std.proofs.lemmas.List.Edits.{sets};
 ghost use Rattle.bitset.specs.Set.{bit};
-ghost use Rattle.lists.specs.Lent.{was, after};
 ghost use Rattle.job.specs.Refusal.{mapped, room, leaves};
 ghost use Rattle.job_bytes.specs.SetBytes.{group_map, set_bytes, group_outcome, read_group};
 
 // What stands where the byte of a group is due.
-#[derive(Drop)]
+#[derive(Clone, Copy)]
 pub enum GroupRead {
     // the group's curves
     Curves(u64),
@@ -24,7 +23,7 @@ pub enum GroupRead {
 // no curves.
 pub fn read_due(rest: &[u8], at: usize, map: u8, group: usize, curves: usize) -> GroupRead
     ensures { (owed empty unknown i : ℕ) → group_outcome owed empty unknown i result
-        ≡ mapped (λ g. g.value) (read_group owed empty unknown (min curves 64) (bit group map) group i (drop at (was rest))) }
+        ≡ mapped (λ g. g.value) (read_group owed empty unknown (min curves 64) (bit group map) group i (drop at rest.now)) }
 {
     if 8 <= group {
         return GroupRead::Curves(0);
@@ -50,7 +49,7 @@ pub fn read_due(rest: &[u8], at: usize, map: u8, group: usize, curves: usize) ->
 // The byte of a group, at a position of the bytes. A u64 has curves below 64 alone, so a number of curves above 64 counts as 64.
 pub fn read_group(rest: &[u8], at: usize, group: usize, curves: usize) -> GroupRead
     ensures { (owed empty unknown i : ℕ) → group_outcome owed empty unknown i result
-        ≡ mapped (λ g. g.value) (read_group owed empty unknown (min curves 64) 1 group i (drop at (was rest))) }
+        ≡ mapped (λ g. g.value) (read_group owed empty unknown (min curves 64) 1 group i (drop at rest.now)) }
 {
     if group < 8 {
         return read_due(rest, at, 1 << group, group, curves);
@@ -67,8 +66,8 @@ pub fn read_group(rest: &[u8], at: usize, group: usize, curves: usize) -> GroupR
 // Writes a set's bytes from `to` on, where ten bytes are free, with a zero byte behind them that the next may be written over; answers where they end.
 // Always eight rounds, without a branch: the byte of a group without curves is written over by the next, and the group map is gathered on the way.
 pub fn put_set_at(s: u64, to: usize, out: &mut [u8]) -> usize
-    ensures room { to + 10 ≤ length (was out) → (result ≡ to + length (set_bytes s)) × (after out ≡ sets (was out) to (set_bytes s ++ (0 ∷ []))) }
-    ensures none { length (was out) < to + 10 → (result ≡ to) × (after out ≡ was out) }
+    ensures room { to + 10 ≤ length out.old → (result ≡ to + length (set_bytes s)) × (out.new ≡ sets out.old to (set_bytes s ++ (0 ∷ []))) }
+    ensures none { length out.old < to + 10 → (result ≡ to) × (out.new ≡ out.old) }
 {
     if out.len() < 10 {
         return to;
@@ -116,7 +115,7 @@ pub fn set_len(s: u64) -> usize
 
 // The bytes of `from` go to the front of `to`, if they fit.
 pub fn put_front(from: &[u8], to: &mut [u8])
-    ensures { after to ≡ leaves (mapped (λ _. was from) (room (length (was to)) (length (was from)))) (was to) }
+    ensures { to.new ≡ leaves (mapped (λ _. from.now) (room (length to.old) (length from.now))) to.old }
 {
     if to.len() < from.len() {
         return;
@@ -131,7 +130,7 @@ pub fn put_front(from: &[u8], to: &mut [u8])
 // Writes a set's bytes to the beginning of `out`, where they fit, and answers how many they are.
 pub fn put_set(s: u64, out: &mut [u8]) -> usize
     ensures count { result ≡ length (set_bytes s) }
-    ensures bytes { after out ≡ leaves (mapped (λ _. set_bytes s) (room (length (was out)) (length (set_bytes s)))) (was out) }
+    ensures bytes { out.new ≡ leaves (mapped (λ _. set_bytes s) (room (length out.old) (length (set_bytes s)))) out.old }
 {
     let mut own = [0u8; 10];
     let n = put_set_at(s, 0, &mut own);

@@ -1,7 +1,6 @@
 // Job bytes, written: the head, then one record for each test.
 ghost use Rattle.std.specs.Prelude.{◌≡◌, [], ◌∷◌, ◌++◌, ◌+◌, ◌*◌, ◌≤◌, length, get_or};
 ghost use Rattle.std.proofs.lemmas.List.Edits.{sets};
-ghost use Rattle.lists.specs.Lent.{was, after};
 ghost use Rattle.job.specs.Refusal.{count_outcome};
 ghost use Rattle.job.specs.Words.{job_of};
 ghost use Rattle.job_bytes.specs.JobBytes.{fields, number_bytes, head_bytes, record_bytes, write_job_answer, write_job_buffer};
@@ -11,7 +10,7 @@ use crate::set_bytes::{put_front, put_set_at};
 use job::{Counted, Examined, Refusal, Rig, examine_job};
 
 // What the values of a head come to: its map, where a field's bit stands unless it holds its absent value, and how many bytes it takes.
-#[derive(Drop)]
+#[derive(Clone, Copy)]
 struct Shape {
     map: u8,
     len: usize,
@@ -19,8 +18,8 @@ struct Shape {
 
 fn head_shape(values: &[usize]) -> Shape
     requires { length values.now ≡ length fields }
-    ensures map { result.map ≡ get_or (head_bytes (was values)) 0 0 }
-    ensures len { (result.len ≡ length (head_bytes (was values))) × (result.len ≤ 1 + 8 * length fields) }
+    ensures map { result.map ≡ get_or (head_bytes values.now) 0 0 }
+    ensures len { (result.len ≡ length (head_bytes values.now)) × (result.len ≤ 1 + 8 * length fields) }
 {
     let mut map: u8 = 0;
     let mut len: usize = 1;
@@ -40,7 +39,7 @@ fn head_shape(values: &[usize]) -> Shape
 // Writes a number of so many bytes from `at` on, the low byte first.
 fn put_number(value: usize, width: usize, at: usize, out: &mut [u8])
     requires { at + width ≤ length out.old }
-    ensures { after out ≡ sets (was out) at (number_bytes width value) }
+    ensures { out.new ≡ sets out.old at (number_bytes width value) }
 {
     let mut rest = value;
     let mut k = 0;
@@ -54,7 +53,7 @@ fn put_number(value: usize, width: usize, at: usize, out: &mut [u8])
 // Writes a head, whose map is handed over, to the beginning of `out`.
 fn put_head(values: &[usize], map: u8, out: &mut [u8])
     requires { (length values.now ≡ length fields) × (map ≡ get_or (head_bytes values.now) 0 0) × (length (head_bytes values.now) ≤ length out.old) }
-    ensures { after out ≡ sets (was out) 0 (head_bytes (was values)) }
+    ensures { out.new ≡ sets out.old 0 (head_bytes values.now) }
 {
     out[0] = map;
     let mut at: usize = 1;
@@ -73,8 +72,8 @@ fn put_head(values: &[usize], map: u8, out: &mut [u8])
 // Writes the records from `at` on, and a zero byte behind them; answers where they end.
 fn put_records(wants: &[u64], at: usize, out: &mut [u8]) -> usize
     requires { at + 9 * length wants.now + 1 ≤ length out.old }
-    ensures end { result ≡ at + length (record_bytes (was wants)) }
-    ensures bytes { after out ≡ sets (was out) at (record_bytes (was wants) ++ (0 ∷ [])) }
+    ensures end { result ≡ at + length (record_bytes wants.now) }
+    ensures bytes { out.new ≡ sets out.old at (record_bytes wants.now ++ (0 ∷ [])) }
 {
     let mut to = at;
     let mut t = 0;
@@ -91,8 +90,8 @@ const MOST_BYTES: usize = 1 + 8 * FIELDS + 9 * job::MOST_TESTS + 1;
 
 // Writes the bytes of a job to the beginning of `out`, and answers how many they are.
 pub fn write_job(rig: Rig, method: usize, wants: &[u64], out: &mut [u8]) -> Counted
-    ensures answer { count_outcome result ≡ write_job_answer method (job_of rig (was wants)) (was out) }
-    ensures lent { after out ≡ write_job_buffer method (job_of rig (was wants)) (was out) }
+    ensures answer { count_outcome result ≡ write_job_answer method (job_of rig wants.now) out.old }
+    ensures lent { out.new ≡ write_job_buffer method (job_of rig wants.now) out.old }
 {
     if let Examined::Refused(r) = examine_job(rig, method, wants) {
         return Counted::Refused(r);

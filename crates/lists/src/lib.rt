@@ -1,10 +1,10 @@
+#![tactic(auto)]
 // Lists of 64-bit numbers in place.
 ghost use Rattle.std.specs.Prelude.{◌≡◌, get_or, set};
-ghost use Rattle.lists.specs.Lent.{was, after};
 
 // The entry at a position; 0 beyond the list.
 pub fn entry(list: &[u64], i: usize) -> u64
-    ensures { result ≡ get_or (was list) i 0 }
+    ensures { result ≡ get_or list.now i 0 }
 {
     if list.len() <= i {
         return 0;
@@ -14,7 +14,7 @@ pub fn entry(list: &[u64], i: usize) -> u64
 
 // Stores an entry; nothing beyond the list.
 pub fn put(list: &mut [u64], i: usize, value: u64)
-    ensures { after list ≡ set (was list) i value }
+    ensures { list.new ≡ set list.old i value }
 {
     if i < list.len() {
         list[i] = value;

@@ -1,6 +1,6 @@
+#![tactic(auto)]
 // The orders of the tests.
 ghost use Rattle.std.specs.Prelude.{◌≡◌, ◌≤◌, length};
-ghost use Rattle.lists.specs.Lent.{was, after};
 ghost use Rattle.job.specs.Refusal.{count_outcome, overwritten};
 ghost use Rattle.job.specs.Words.{job_of};
 ghost use Rattle.ordering.specs.Methods.{order_by};
@@ -13,7 +13,7 @@ mod growing;
 // The order of the method.
 fn write_order(capacity: usize, method: usize, wants: &[u64], order: &mut [u16])
     requires { (length wants.now ≤ 256) × (length wants.now ≤ length order.old) }
-    ensures { after order ≡ overwritten (order_by method capacity (was wants)) (was order) }
+    ensures { order.new ≡ overwritten (order_by method capacity wants.now) order.old }
 {
     if method == 0 {
         packages::listed_order(wants.len(), order);
@@ -29,8 +29,8 @@ fn write_order(capacity: usize, method: usize, wants: &[u64], order: &mut [u16])
 // Orders the tests: "10 in its own order, then for ordering 7, 9". Answers the number of tests, which are in the first entries of the lent list; nothing
 // lent changes under a refusal.
 pub fn order_tests(rig: Rig, method: usize, wants: &[u64], order: &mut [u16]) -> Counted
-    ensures answer { count_outcome result ≡ order_answer method (job_of rig (was wants)) (was order) }
-    ensures list { after order ≡ order_list method (job_of rig (was wants)) (was order) }
+    ensures answer { count_outcome result ≡ order_answer method (job_of rig wants.now) order.old }
+    ensures list { order.new ≡ order_list method (job_of rig wants.now) order.old }
 {
     if let Examined::Refused(r) = job::examine_ordering(rig, method, wants) {
         return Counted::Refused(r);

@@ -1,9 +1,9 @@
+#![tactic(auto)]
 // Method 3 of "Orders": packages with both rounds, heads, tails and flipping. The packages lie one behind the other in a list of tests. Beside it stand the
 // length of each package, its curves, how many these are, and its rating: 256 times its score, plus its partner. The partner is the package behind it that
 // would be the best second one of a pair with it, and the score is one more than the number of curves that the two have in common. A partner of 0 is none, or
 // not known yet: then no package behind it gives a higher score. What a package has in common with others is counted for all of them at once.
 ghost use Rattle.std.specs.Prelude.{◌≡◌, cond, List, ◌++◌, map, reverse, ℕ, suc, ◌+◌, ◌-◌, ◌/◌, ◌%◌, ◌≤◌, ◌<◌, length, get_or, take, drop, ltb};
-ghost use Rattle.lists.specs.Lent.{was, after};
 ghost use Rattle.bitset.specs.Set.{◌∪◌, size};
 ghost use Rattle.job.specs.Refusal.{overwritten};
 ghost use Rattle.lists.specs.Choice.{nobody, keep, best_of};
@@ -13,14 +13,14 @@ ghost use Rattle.packages.specs.ContractWords.{at, sum_of, turned, joined_entry,
 ghost use Rattle.packages.specs.ContractWords.{within, Rated, AllRated, moved_up, Sized};
 
 // Two places in the list of packages; no pair where the second is 0.
-#[derive(Drop)]
+#[derive(Clone, Copy)]
 pub struct PackagePair {
     pub first: usize,
     pub second: usize,
 }
 
 // A way to join two packages: how many curves the parts that meet have in common, and which of the two packages are reversed.
-#[derive(Drop)]
+#[derive(Clone, Copy)]
 pub struct Meeting {
     pub common: usize,
     pub first: bool,
@@ -36,7 +36,7 @@ fn shared(a: u64, b: u64) -> usize
 
 // The curves of a package's head, "its longest opening run of tests whose union is at most the places".
 fn head(wants: &[u64], places: usize, tests: &[u16]) -> u64
-    ensures { result ≡ head (was wants) places (was tests) }
+    ensures { result ≡ head wants.now places tests.now }
 {
     let mut run: u64 = 0;
     let mut k: usize = 0;
@@ -53,7 +53,7 @@ fn head(wants: &[u64], places: usize, tests: &[u16]) -> u64
 
 // The curves of its tail, "likewise from the end".
 fn tail(wants: &[u64], places: usize, tests: &[u16]) -> u64
-    ensures { result ≡ tail (was wants) places (was tests) }
+    ensures { result ≡ tail wants.now places tests.now }
 {
     let mut run: u64 = 0;
     let mut k = tests.len();
@@ -77,8 +77,8 @@ fn more(a: Meeting, b: Meeting) -> Meeting
 
 // "Compare tail-head, tail-tail, head-head, head-tail (first package named first)": which of the packages a and b are reversed.
 fn flips(wants: &[u64], places: usize, a: &[u16], b: &[u16]) -> Meeting
-    ensures { flipped (was wants) places (was a) (was b)
-        ≡ turned result.first (was a) ++ turned result.second (was b) }
+    ensures { flipped wants.now places a.now b.now
+        ≡ turned result.first a.now ++ turned result.second b.now }
 {
     let a_head = head(wants, places, a);
     let a_tail = tail(wants, places, a);
@@ -117,8 +117,8 @@ fn ways(
     from: usize,
 ) -> Meeting
     requires { (a ≤ length part.now) × (from ≤ length part.now) }
-    ensures { join_by flipping (was wants) places (take a (was part)) (drop from (was part))
-        ≡ turned result.first (take a (was part)) ++ turned result.second (drop from (was part)) }
+    ensures { join_by flipping wants.now places (take a part.now) (drop from part.now)
+        ≡ turned result.first (take a part.now) ++ turned result.second (drop from part.now) }
 {
     if flipping {
         flips(wants, places, &part[..a], &part[from..])
@@ -133,7 +133,7 @@ fn ways(
 
 // Reverses a list in place. What lies between i and j is still to be reversed.
 pub fn reverse(xs: &mut [u16])
-    ensures { after xs ≡ reverse (was xs) }
+    ensures { xs.new ≡ reverse xs.old }
 {
     let mut i: usize = 0;
     let mut j = xs.len();
@@ -147,7 +147,7 @@ pub fn reverse(xs: &mut [u16])
 }
 
 fn reverse_if(turn: bool, xs: &mut [u16])
-    ensures { after xs ≡ turned turn (was xs) }
+    ensures { xs.new ≡ turned turn xs.old }
 {
     if turn {
         reverse(xs);
@@ -157,7 +157,7 @@ fn reverse_if(turn: bool, xs: &mut [u16])
 // Exchanges the first k entries and the rest, in place: the reverse of two reversed parts.
 fn exchange(xs: &mut [u16], k: usize)
     requires { k ≤ length xs.old }
-    ensures { after xs ≡ drop k (was xs) ++ take k (was xs) }
+    ensures { xs.new ≡ drop k xs.old ++ take k xs.old }
 {
     reverse(&mut xs[..k]);
     reverse(&mut xs[k..]);
@@ -167,8 +167,8 @@ fn exchange(xs: &mut [u16], k: usize)
 // "The second's tests go behind the first's": the first has a tests at the start of the part, the second b at its end.
 fn join_tests(flipping: bool, wants: &[u64], places: usize, part: &mut [u16], a: usize, b: usize)
     requires { a + b ≤ length part.old }
-    ensures { (x y z : List ℕ) → was part ≡ x ++ (y ++ z) → length x ≡ a → length z ≡ b
-        → after part ≡ join_by flipping (was wants) places x z ++ y }
+    ensures { (x y z : List ℕ) → part.old ≡ x ++ (y ++ z) → length x ≡ a → length z ≡ b
+        → part.new ≡ join_by flipping wants.now places x z ++ y }
 {
     let from = part.len() - b;
     let way = ways(flipping, wants, places, part, a, from);
@@ -180,7 +180,7 @@ fn join_tests(flipping: bool, wants: &[u64], places: usize, part: &mut [u16], a:
 // The number of tests in packages of these lengths.
 fn total(lengths: &[u64]) -> usize
     requires { sum_of lengths.now ≤ 256 }
-    ensures { result ≡ sum_of (was lengths) }
+    ensures { result ≡ sum_of lengths.now }
 {
     let mut sum: usize = 0;
     let mut k: usize = 0;
@@ -194,7 +194,7 @@ fn total(lengths: &[u64]) -> usize
 // Sets one entry and takes another out; those behind it move up.
 fn join_entry(xs: &mut [u64], first: usize, second: usize, value: u64)
     requires { (first < length xs.old) × (second < length xs.old) }
-    ensures { take (length (was xs) - 1) (after xs) ≡ joined_entry (was xs) first second value }
+    ensures { take (length xs.old - 1) xs.new ≡ joined_entry xs.old first second value }
 {
     xs[first] = value;
     let mut k = second;
@@ -207,7 +207,7 @@ fn join_entry(xs: &mut [u64], first: usize, second: usize, value: u64)
 // Writes how many curves a set has in common with each of the others.
 fn write_common(set: u64, others: &[u64], counts: &mut [u16])
     requires { length others.now ≤ length counts.old }
-    ensures { after counts ≡ overwritten (map (common set) (was others)) (was counts) }
+    ensures { counts.new ≡ overwritten (map (common set) others.now) counts.old }
 {
     let mut j: usize = 0;
     while j < others.len() {
@@ -219,7 +219,7 @@ fn write_common(set: u64, others: &[u64], counts: &mut [u16])
 // What the package k has in common with itself and with each package behind it, each count in that package's place.
 fn count_behind(curves: &[u64], counts: &mut [u16], k: usize)
     requires { (k < length curves.now) × (length curves.now ≤ length counts.old) }
-    ensures { (j : ℕ) → k ≤ j → j < length (was curves) → get_or (after counts) j 0 ≡ common (get_or (was curves) k 0) (get_or (was curves) j 0) }
+    ensures { (j : ℕ) → k ≤ j → j < length curves.now → get_or counts.new j 0 ≡ common (get_or curves.now k 0) (get_or curves.now j 0) }
 {
     write_common(curves[k], &curves[k..], &mut counts[k..]);
 }
@@ -242,9 +242,9 @@ fn best_partner(
     first: usize,
 ) -> u64
     requires { (first < length curves.now) × Sized curves.now sizes.now counts.old }
-    ensures partner { best_of (eligible (within bound) (was curves)) (closer (was curves)) (at first) (length (was curves)) nobody
+    ensures partner { best_of (eligible (within bound) curves.now) (closer curves.now) (at first) (length curves.now) nobody
         ≡ keep (ltb 0 (result % 256)) (at first (result % 256)) nobody }
-    ensures score { result / 256 ≡ cond (ltb 0 (result % 256)) (1 + common (get_or (was curves) first 0) (get_or (was curves) (result % 256) 0)) 0 }
+    ensures score { result / 256 ≡ cond (ltb 0 (result % 256)) (1 + common (get_or curves.now first 0) (get_or curves.now (result % 256) 0)) 0 }
 {
     count_behind(curves, counts, first);
     let mut second: usize = 0;
@@ -272,7 +272,7 @@ fn best_partners(
     ratings: &mut [u64],
 )
     requires { (length ratings.old ≡ length curves.now) × Sized curves.now sizes.now counts.old }
-    ensures { AllRated bound (was curves) (after ratings) }
+    ensures { AllRated bound curves.now ratings.new }
 {
     let mut k: usize = 0;
     while k < curves.len() {
@@ -283,8 +283,8 @@ fn best_partners(
 
 // The place of the highest score, "ties to the earlier first".
 fn highest(ratings: &[u64]) -> usize
-    ensures most { (k : ℕ) → get_or (was ratings) k 0 / 256 ≤ get_or (was ratings) result 0 / 256 }
-    ensures earliest { (k : ℕ) → k < result → get_or (was ratings) k 0 / 256 < get_or (was ratings) result 0 / 256 }
+    ensures most { (k : ℕ) → get_or ratings.now k 0 / 256 ≤ get_or ratings.now result 0 / 256 }
+    ensures earliest { (k : ℕ) → k < result → get_or ratings.now k 0 / 256 < get_or ratings.now result 0 / 256 }
 {
     let mut first: usize = 0;
     let mut most: u64 = 0;
@@ -311,8 +311,8 @@ fn closest(
 ) -> PackagePair
     requires ratings_len { (length ratings.old ≡ length curves.now) × Sized curves.now sizes.now counts.old }
     requires all_rated { AllRated bound curves.now ratings.old }
-    ensures pair { best_pair (within bound) (was curves) (length (was curves)) ≡ keep (ltb 0 result.second) (at result.first result.second) nobody }
-    ensures rated { AllRated bound (was curves) (after ratings) }
+    ensures pair { best_pair (within bound) curves.now (length curves.now) ≡ keep (ltb 0 result.second) (at result.first result.second) nobody }
+    ensures rated { AllRated bound curves.now ratings.new }
 {
     loop {
         let first = highest(ratings);
@@ -342,9 +342,9 @@ fn moved(second: usize, rating: u64) -> u64
 // The ratings of the packages behind the joined one.
 fn renew_behind(ratings: &mut [u64], first: usize, second: usize)
     requires { first < length ratings.old }
-    ensures behind { (k : ℕ) → first < k → k < length (was ratings)
-        → get_or (after ratings) k 0 ≡ moved_up second (get_or (was ratings) k 0) }
-    ensures before { (k : ℕ) → k ≤ first → get_or (after ratings) k 0 ≡ get_or (was ratings) k 0 }
+    ensures behind { (k : ℕ) → first < k → k < length ratings.old
+        → get_or ratings.new k 0 ≡ moved_up second (get_or ratings.old k 0) }
+    ensures before { (k : ℕ) → k ≤ first → get_or ratings.new k 0 ≡ get_or ratings.old k 0 }
 {
     let mut row = first + 1;
     while row < ratings.len() {
@@ -396,11 +396,11 @@ fn renew_before(
 )
     requires first_lt_second { (first < second) × (second ≤ length curves.now) × (length ratings.old ≡ suc (length curves.now)) }
     requires sized { Sized curves.now sizes.now counts.old }
-    ensures before { (cs : List ℕ) → length cs ≡ suc (length (was curves))
-        → was curves ≡ joined_curves cs first second
-        → (k : ℕ) → k < first → Rated (within bound) cs k (get_or (was ratings) k 0)
-        → Rated (within bound) (was curves) k (get_or (after ratings) k 0) }
-    ensures behind { (k : ℕ) → first ≤ k → get_or (after ratings) k 0 ≡ get_or (was ratings) k 0 }
+    ensures before { (cs : List ℕ) → length cs ≡ suc (length curves.now)
+        → curves.now ≡ joined_curves cs first second
+        → (k : ℕ) → k < first → Rated (within bound) cs k (get_or ratings.old k 0)
+        → Rated (within bound) curves.now k (get_or ratings.new k 0) }
+    ensures behind { (k : ℕ) → first ≤ k → get_or ratings.new k 0 ≡ get_or ratings.old k 0 }
 {
     write_common(curves[first], &curves[..first], counts);
     let mut row: usize = 0;
@@ -424,9 +424,9 @@ fn renew_ratings(
 )
     requires first_lt_second { (first < second) × (second ≤ length curves.now) × (length ratings.old ≡ suc (length curves.now)) }
     requires sized { Sized curves.now sizes.now counts.old }
-    ensures { (cs : List ℕ) → length cs ≡ suc (length (was curves))
-        → was curves ≡ joined_curves cs first second
-        → AllRated bound cs (was ratings) → AllRated bound (was curves) (after ratings) }
+    ensures { (cs : List ℕ) → length cs ≡ suc (length curves.now)
+        → curves.now ≡ joined_curves cs first second
+        → AllRated bound cs ratings.old → AllRated bound curves.now ratings.new }
 {
     let own = best_partner(bound, curves, sizes, counts, first);
     join_entry(ratings, first, second, own);
@@ -447,9 +447,9 @@ fn join_curves(
     requires first_lt_second { (first < second) × (second < length curves.old) × (length ratings.old ≡ length curves.old) }
     requires sized_2 { Sized curves.old sizes.old counts.old }
     requires all_rated { AllRated bound curves.old ratings.old }
-    ensures sets { take (length (was curves) - 1) (after curves) ≡ joined_curves (was curves) first second }
-    ensures sized { take (length (was curves) - 1) (after sizes) ≡ map size (take (length (was curves) - 1) (after curves)) }
-    ensures rated { AllRated bound (take (length (was curves) - 1) (after curves)) (after ratings) }
+    ensures sets { take (length curves.old - 1) curves.new ≡ joined_curves curves.old first second }
+    ensures sized { take (length curves.old - 1) sizes.new ≡ map size (take (length curves.old - 1) curves.new) }
+    ensures rated { AllRated bound (take (length curves.old - 1) curves.new) ratings.new }
 {
     let left = curves.len() - 1;
     let joined = bitset::union(curves[first], curves[second]);
@@ -469,7 +469,7 @@ fn join_curves(
 // The sizes of the packages' curves.
 fn sizes_of(curves: &[u64]) -> [u64; 256]
     requires { length curves.now ≤ 256 }
-    ensures { (length result ≡ 256) × (take (length (was curves)) result ≡ map size (was curves)) }
+    ensures { (length result ≡ 256) × (take (length curves.now) result ≡ map size curves.now) }
 {
     let mut sizes = [0u64; 256];
     let mut k: usize = 0;
@@ -483,7 +483,7 @@ fn sizes_of(curves: &[u64]) -> [u64; 256]
 // The wants as the curves of the first packages.
 fn first_curves(wants: &[u64]) -> [u64; 256]
     requires { length wants.now ≤ 256 }
-    ensures { (length result ≡ 256) × (take (length (was wants)) result ≡ was wants) }
+    ensures { (length result ≡ 256) × (take (length wants.now) result ≡ wants.now) }
 {
     let mut curves = [0u64; 256];
     let mut t: usize = 0;
@@ -497,7 +497,7 @@ fn first_curves(wants: &[u64]) -> [u64; 256]
 // Writes 0, 1, .., one number for each test.
 fn as_listed(tests: usize, order: &mut [u16])
     requires { (tests ≤ 256) × (tests ≤ length order.old) }
-    ensures { after order ≡ overwritten (up_to tests) (was order) }
+    ensures { order.new ≡ overwritten (up_to tests) order.old }
 {
     let mut t: usize = 0;
     while t < tests {
@@ -508,7 +508,7 @@ fn as_listed(tests: usize, order: &mut [u16])
 
 // "0, as listed", of at most 256 tests: writes their numbers to the beginning of `order`, where they fit.
 pub fn listed_order(tests: usize, order: &mut [u16])
-    ensures { after order ≡ entered (up_to tests) (was order) }
+    ensures { order.new ≡ entered (up_to tests) order.old }
 {
     if 256 < tests {
         return;
@@ -530,9 +530,9 @@ fn join_packages(
     second: usize,
 )
     requires { (first < second) × (second < length lengths.old) × (sum_of lengths.old ≤ 256) × (sum_of lengths.old ≤ length order.old) }
-    ensures joined { (ps : List (List ℕ)) (rest : List ℕ) → Laid ps rest (was order) (was lengths)
-        → Laid (joined (join_by flipping (was wants) places) ps (at first second)) rest (after order) (take (length (was lengths) - 1) (after lengths)) }
-    ensures sum { sum_of (take (length (was lengths) - 1) (after lengths)) ≡ sum_of (was lengths) }
+    ensures joined { (ps : List (List ℕ)) (rest : List ℕ) → Laid ps rest order.old lengths.old
+        → Laid (joined (join_by flipping wants.now places) ps (at first second)) rest order.new (take (length lengths.old - 1) lengths.new) }
+    ensures sum { sum_of (take (length lengths.old - 1) lengths.new) ≡ sum_of lengths.old }
 {
     let a = lengths[first];
     let b = lengths[second];
@@ -567,10 +567,10 @@ fn join_all(
 ) -> usize
     requires { (length lengths.old ≤ 256) × (length curves.old ≡ length lengths.old) × (sum_of lengths.old ≤ 256)
         × (sum_of lengths.old ≤ length order.old) }
-    ensures left { (result ≤ length (was lengths)) × (sum_of (take result (after lengths)) ≡ sum_of (was lengths)) }
-    ensures round { (ps : List (List ℕ)) (rest : List ℕ) → Laid ps rest (was order) (was lengths) → was curves ≡ map (curves_of (was wants)) ps
-        → Laid (round_of flipping (was wants) places ps) rest (after order) (take result (after lengths))
-        × (take result (after curves) ≡ map (curves_of (was wants)) (round_of flipping (was wants) places ps)) }
+    ensures left { (result ≤ length lengths.old) × (sum_of (take result lengths.new) ≡ sum_of lengths.old) }
+    ensures round { (ps : List (List ℕ)) (rest : List ℕ) → Laid ps rest order.old lengths.old → curves.old ≡ map (curves_of wants.now) ps
+        → Laid (round_of flipping wants.now places ps) rest order.new (take result lengths.new)
+        × (take result curves.new ≡ map (curves_of wants.now) (round_of flipping wants.now places ps)) }
 {
     let bound = round_bound(flipping, places);
     let mut left = lengths.len();
@@ -622,7 +622,7 @@ fn join_all(
 // Method 3: "Each test begins as a package, in list order", and then the two rounds.
 fn order_by_packages(places: usize, wants: &[u64], order: &mut [u16])
     requires { (length wants.now ≤ 256) × (length wants.now ≤ length order.old) }
-    ensures { after order ≡ overwritten (packages places (was wants)) (was order) }
+    ensures { order.new ≡ overwritten (packages places wants.now) order.old }
 {
     let tests = wants.len();
     as_listed(tests, order);
@@ -648,7 +648,7 @@ fn order_by_packages(places: usize, wants: &[u64], order: &mut [u16])
 
 // "3, packages", of at most 256 tests: writes the tests to the beginning of `order`, where they fit.
 pub fn package_order(places: usize, wants: &[u64], order: &mut [u16])
-    ensures { after order ≡ entered (packages places (was wants)) (was order) }
+    ensures { order.new ≡ entered (packages places wants.now) order.old }
 {
     if 256 < wants.len() {
         return;

@@ -1,7 +1,7 @@
+#![tactic(auto)]
 // Plan bytes: written, read, and one step fetched by its position.
 ghost use Rattle.std.specs.Prelude.{◌≡◌, [], ◌∷◌, ◌++◌, ℕ, ◌+◌, ◌-◌, ◌*◌, ◌≤◌, ◌<◌, length, get_or, drop};
 ghost use Rattle.std.proofs.lemmas.List.Edits.{sets};
-ghost use Rattle.lists.specs.Lent.{was, after};
 ghost use Rattle.job_bytes.specs.SetBytes.{stands, read_groups};
 ghost use Rattle.job.specs.Refusal.{done, mapped, count_outcome, fitting, leaves};
 ghost use Rattle.job.specs.Words.{job_of};
@@ -16,7 +16,7 @@ use job_bytes::set_bytes::{GroupRead, put_front, put_set_at, read_due};
 use planning::{PlanCounted, check_plan, examine_sets};
 
 // What stands where a set is due.
-#[derive(Drop)]
+#[derive(Clone, Copy)]
 enum SetRead {
     // the set, and the position behind it
     Set(u64, usize),
@@ -25,7 +25,7 @@ enum SetRead {
 }
 
 // What stands where a step is due.
-#[derive(Drop)]
+#[derive(Clone, Copy)]
 enum StepRead {
     // the test, the drops, the loads, and the position behind the step
     Step(u16, u64, u64, usize),
@@ -34,7 +34,7 @@ enum StepRead {
 }
 
 // What stands behind the last test.
-#[derive(Drop)]
+#[derive(Clone, Copy)]
 enum EndRead {
     // the end set, 0 for none
     End(u64),
@@ -44,7 +44,7 @@ enum EndRead {
 // The groups of a set, behind its group map.
 fn read_groups(plan: &[u8], start: usize, groups: u8, curves: usize) -> SetRead
     requires { (curves ≤ 64) × (start ≤ length plan.now) }
-    ensures { set_outcome (was plan) result ≡ read_groups 11 11 11 curves 8 0 groups 0 start (drop start (was plan)) }
+    ensures { set_outcome plan.now result ≡ read_groups 11 11 11 curves 8 0 groups 0 start (drop start plan.now) }
 {
     let mut next = start;
     let mut set: u64 = 0;
@@ -67,7 +67,7 @@ fn read_groups(plan: &[u8], start: usize, groups: u8, curves: usize) -> SetRead
 // A set, if its bit stands: "A set is written as a group map and group bytes, neither zero."
 fn read_set(plan: &[u8], at: usize, stands: u8, curves: usize) -> SetRead
     requires { curves ≤ 64 }
-    ensures { (tests : ℕ) → set_outcome (was plan) result ≡ read_set curves tests stands at (drop at (was plan)) }
+    ensures { (tests : ℕ) → set_outcome plan.now result ≡ read_set curves tests stands at (drop at plan.now) }
 {
     if stands == 0 {
         return SetRead::Set(0, at);
@@ -84,7 +84,7 @@ fn read_set(plan: &[u8], at: usize, stands: u8, curves: usize) -> SetRead
 // One step: a map, then the drops, the loads and the test. "Bit 2 always stands." "A test or curve that the job lacks is malformed".
 fn read_step(plan: &[u8], at: usize, curves: usize, tests: usize) -> StepRead
     requires { curves ≤ 64 }
-    ensures { step_outcome (was plan) at result ≡ read_step curves tests at (drop at (was plan)) }
+    ensures { step_outcome plan.now at result ≡ read_step curves tests at (drop at plan.now) }
 {
     if plan.len() <= at {
         return StepRead::Fault(at);
@@ -117,7 +117,7 @@ fn read_step(plan: &[u8], at: usize, curves: usize, tests: usize) -> StepRead
 // 02, wish 1: behind the last test the end step, or nothing: "bits 1 and 2 clear, bit 0 set". Nothing stands behind it.
 fn read_end(plan: &[u8], at: usize, curves: usize) -> EndRead
     requires { curves ≤ 64 }
-    ensures { (tests : ℕ) → end_outcome result ≡ read_end curves tests at (drop at (was plan)) }
+    ensures { (tests : ℕ) → end_outcome result ≡ read_end curves tests at (drop at plan.now) }
 {
     if plan.len() <= at {
         return EndRead::End(0);
@@ -139,7 +139,7 @@ fn read_end(plan: &[u8], at: usize, curves: usize) -> EndRead
 // 11: the steps, "as many steps as tests", and what stands behind them.
 fn examine_steps(curves: usize, tests: usize, plan: &[u8]) -> EndRead
     requires { curves ≤ 64 }
-    ensures { end_outcome result ≡ mapped (λ c. c.end) (read_plan_bytes curves tests (was plan)) }
+    ensures { end_outcome result ≡ mapped (λ c. c.end) (read_plan_bytes curves tests plan.now) }
 {
     let mut at: usize = 0;
     let mut passed: usize = 0;
@@ -159,7 +159,7 @@ fn examine_steps(curves: usize, tests: usize, plan: &[u8]) -> EndRead
 
 // 10 and 11: whether the bytes are a plan of so many curves and tests, and its end set.
 fn examine_plan(curves: usize, tests: usize, plan: &[u8]) -> EndRead
-    ensures { end_outcome result ≡ mapped (λ c. c.end) (plan_steps curves tests (was plan)) }
+    ensures { end_outcome result ≡ mapped (λ c. c.end) (plan_steps curves tests plan.now) }
 {
     match examine_counts(curves, tests) {
         Examined::Refused(r) => EndRead::Refused(r),
@@ -178,9 +178,9 @@ fn fill_lists(
 )
     requires counts { (curves ≤ 64) × (tests ≤ length order.old) × (tests ≤ length drops.old) × (tests ≤ length loads.old) }
     requires reads { mapped (λ _. tt) (read_plan_bytes curves tests plan.now) ≡ done (tt {0}) }
-    ensures tests { after order ≡ leaves (mapped tests_of (read_plan_bytes curves tests (was plan))) (was order) }
-    ensures drops { after drops ≡ leaves (mapped (λ c. (plan_in c).drops) (read_plan_bytes curves tests (was plan))) (was drops) }
-    ensures loads { after loads ≡ leaves (mapped (λ c. (plan_in c).loads) (read_plan_bytes curves tests (was plan))) (was loads) }
+    ensures tests { order.new ≡ leaves (mapped tests_of (read_plan_bytes curves tests plan.now)) order.old }
+    ensures drops { drops.new ≡ leaves (mapped (λ c. (plan_in c).drops) (read_plan_bytes curves tests plan.now)) drops.old }
+    ensures loads { loads.new ≡ leaves (mapped (λ c. (plan_in c).loads) (read_plan_bytes curves tests plan.now)) loads.old }
 {
     let mut at: usize = 0;
     let mut k: usize = 0;
@@ -210,9 +210,9 @@ pub fn read_plan(
     drops: &mut [u64],
     loads: &mut [u64],
 ) -> PlanCounted
-    ensures answer { plan_outcome result ≡ read_plan_answer curves tests (was plan) (was order) (set_lists (was drops) (was loads)) }
-    ensures order { after order ≡ read_plan_order curves tests (was plan) (was order) (set_lists (was drops) (was loads)) }
-    ensures lists { set_lists (after drops) (after loads) ≡ read_plan_lists curves tests (was plan) (was order) (set_lists (was drops) (was loads)) }
+    ensures answer { plan_outcome result ≡ read_plan_answer curves tests plan.now order.old (set_lists drops.old loads.old) }
+    ensures order { order.new ≡ read_plan_order curves tests plan.now order.old (set_lists drops.old loads.old) }
+    ensures lists { set_lists drops.new loads.new ≡ read_plan_lists curves tests plan.now order.old (set_lists drops.old loads.old) }
 {
     match examine_plan(curves, tests, plan) {
         EndRead::Refused(r) => PlanCounted::Refused(r),
@@ -234,7 +234,7 @@ pub fn read_plan(
 
 // A part of the plan bytes: where it begins, and how many bytes it has.
 #[repr(C)]
-#[derive(Drop)]
+#[derive(Clone, Copy)]
 pub struct StepPart {
     pub start: usize,
     pub count: usize,
@@ -243,8 +243,8 @@ pub struct StepPart {
 // Where the step at a position lies in the bytes of a plan that reads; else at their end, and empty. The end step goes from behind the last test to the end.
 fn find_step(curves: usize, tests: usize, plan: &[u8], position: usize) -> StepPart
     requires { curves ≤ 64 }
-    ensures part { result ≡ or_empty (was plan) (fetched (was plan) position (read_plan_bytes curves tests (was plan))) }
-    ensures inside { result.start + result.count ≤ length (was plan) }
+    ensures part { result ≡ or_empty plan.now (fetched plan.now position (read_plan_bytes curves tests plan.now)) }
+    ensures inside { result.start + result.count ≤ length plan.now }
 {
     let size = plan.len();
     let mut start = size;
@@ -291,8 +291,8 @@ fn find_step(curves: usize, tests: usize, plan: &[u8], position: usize) -> StepP
 // Where the step at a position lies, or the end of the bytes: "the plan has no such step, its bytes would get refusal 11, or the handed counts are out of
 // range".
 pub fn step_part(curves: usize, tests: usize, plan: &[u8], position: usize) -> StepPart
-    ensures part { result ≡ step_part curves tests (was plan) position }
-    ensures inside { result.start + result.count ≤ length (was plan) }
+    ensures part { result ≡ step_part curves tests plan.now position }
+    ensures inside { result.start + result.count ≤ length plan.now }
 {
     match examine_counts(curves, tests) {
         Examined::Refused(_) => StepPart {
@@ -305,9 +305,9 @@ pub fn step_part(curves: usize, tests: usize, plan: &[u8], position: usize) -> S
 
 // "A step's bytes can be fetched by position: the answer is that part of the caller's plan bytes, or the empty part at their end".
 pub fn step_bytes(curves: usize, tests: usize, plan: &[u8], position: usize) -> &[u8]
-    ensures bytes { result.now ≡ step_at curves tests (was plan) position }
+    ensures bytes { result.now ≡ step_at curves tests plan.now position }
     ensures block { result.ref_ptr.0 ≡ plan.entry.ref_ptr.0 }
-    ensures place { result.ref_ptr.1 ≡ (step_part curves tests (was plan) position).start + plan.entry.ref_ptr.1 }
+    ensures place { result.ref_ptr.1 ≡ (step_part curves tests plan.now position).start + plan.entry.ref_ptr.1 }
 {
     let part = step_part(curves, tests, plan, position);
     let start = part.start;
@@ -319,7 +319,7 @@ pub fn step_bytes(curves: usize, tests: usize, plan: &[u8], position: usize) -> 
 fn put_field(s: u64, to: usize, out: &mut [u8]) -> usize
     requires { to + 10 ≤ length out.old }
     ensures end { result ≡ to + length (set_field s) }
-    ensures bytes { after out ≡ sets (was out) to (set_field s ++ (0 ∷ [])) }
+    ensures bytes { out.new ≡ sets out.old to (set_field s ++ (0 ∷ [])) }
 {
     if s == 0 {
         out[to] = 0;
@@ -346,7 +346,7 @@ fn step_map(drops: u64, loads: u64) -> u8
 fn put_step(test: u16, drops: u64, loads: u64, to: usize, out: &mut [u8]) -> usize
     requires { (test < 256) × (to + 20 ≤ length out.old) }
     ensures end { result ≡ to + length (step_bytes (record { test = test; drops = drops; loads = loads })) }
-    ensures bytes { after out ≡ sets (was out) to (step_bytes (record { test = test; drops = drops; loads = loads })) }
+    ensures bytes { out.new ≡ sets out.old to (step_bytes (record { test = test; drops = drops; loads = loads })) }
 {
     out[to] = step_map(drops, loads);
     let behind = put_field(drops, to + 1, out);
@@ -360,8 +360,8 @@ fn put_steps(order: &[u16], drops: &[u64], loads: &[u64], out: &mut [u8]) -> usi
     requires tests { (i : ℕ) → i < length order.now → get_or order.now i 0 < 256 }
     requires sets { (length drops.now ≡ length order.now) × (length loads.now ≡ length order.now) }
     requires fits { 20 * length order.now ≤ length out.old }
-    ensures count { result ≡ length (steps_bytes (steps (was order) (was drops) (was loads))) }
-    ensures bytes { after out ≡ sets (was out) 0 (steps_bytes (steps (was order) (was drops) (was loads))) }
+    ensures count { result ≡ length (steps_bytes (steps order.now drops.now loads.now)) }
+    ensures bytes { out.new ≡ sets out.old 0 (steps_bytes (steps order.now drops.now loads.now)) }
 {
     let mut to: usize = 0;
     let mut i: usize = 0;
@@ -376,7 +376,7 @@ fn put_steps(order: &[u16], drops: &[u64], loads: &[u64], out: &mut [u8]) -> usi
 fn put_end(end: u64, to: usize, out: &mut [u8]) -> usize
     requires { to + 11 ≤ length out.old }
     ensures end { result ≡ to + length (end_bytes end) }
-    ensures bytes { after out ≡ sets (was out) to (end_bytes end ++ (0 ∷ [])) }
+    ensures bytes { out.new ≡ sets out.old to (end_bytes end ++ (0 ∷ [])) }
 {
     if end == 0 {
         out[to] = 0;
@@ -391,8 +391,8 @@ fn put_plan(order: &[u16], drops: &[u64], loads: &[u64], end: u64, out: &mut [u8
     requires tests { (i : ℕ) → i < length order.now → get_or order.now i 0 < 256 }
     requires sets { (length drops.now ≡ length order.now) × (length loads.now ≡ length order.now) }
     requires fits { 20 * length order.now + 11 ≤ length out.old }
-    ensures count { result ≡ length (plan_bytes (was order) (plan_of (was drops) (was loads) end)) }
-    ensures bytes { after out ≡ sets (was out) 0 (plan_bytes (was order) (plan_of (was drops) (was loads) end) ++ (0 ∷ [])) }
+    ensures count { result ≡ length (plan_bytes order.now (plan_of drops.now loads.now end)) }
+    ensures bytes { out.new ≡ sets out.old 0 (plan_bytes order.now (plan_of drops.now loads.now end) ++ (0 ∷ [])) }
 {
     let to = put_steps(order, drops, loads, out);
     put_end(end, to, out)
@@ -406,8 +406,8 @@ fn write_fitting(order: &[u16], drops: &[u64], loads: &[u64], end: u64, out: &mu
     requires tests { (i : ℕ) → i < length order.now → get_or order.now i 0 < 256 }
     requires sets { (length drops.now ≡ length order.now) × (length loads.now ≡ length order.now) }
     requires few { length order.now ≤ 256 }
-    ensures answer { count_outcome result ≡ mapped length (fitting (plan_bytes (was order) (plan_of (was drops) (was loads) end)) (length (was out))) }
-    ensures bytes { after out ≡ leaves (fitting (plan_bytes (was order) (plan_of (was drops) (was loads) end)) (length (was out))) (was out) }
+    ensures answer { count_outcome result ≡ mapped length (fitting (plan_bytes order.now (plan_of drops.now loads.now end)) (length out.old)) }
+    ensures bytes { out.new ≡ leaves (fitting (plan_bytes order.now (plan_of drops.now loads.now end)) (length out.old)) out.old }
 {
     // "Nothing lent changes under a refusal": the bytes go to a buffer of our own, and are copied once their number is known to fit
     let mut bytes = [0u8; MOST_BYTES];
@@ -430,8 +430,8 @@ pub fn write_plan(
     end: u64,
     out: &mut [u8],
 ) -> Counted
-    ensures answer { count_outcome result ≡ write_plan_answer (job_of rig (was wants)) held (was order) (plan_of (was drops) (was loads) end) (was out) }
-    ensures bytes { after out ≡ write_plan_buffer (job_of rig (was wants)) held (was order) (plan_of (was drops) (was loads) end) (was out) }
+    ensures answer { count_outcome result ≡ write_plan_answer (job_of rig wants.now) held order.now (plan_of drops.now loads.now end) out.old }
+    ensures bytes { out.new ≡ write_plan_buffer (job_of rig wants.now) held order.now (plan_of drops.now loads.now end) out.old }
 {
     if let Counted::Refused(r) = check_plan(rig, wants, held, order, drops, loads, end) {
         return Counted::Refused(r);
@@ -441,8 +441,8 @@ pub fn write_plan(
 
 // Writes the steps of lists that were made here and an end set, without the check, and answers the count of their bytes: 10, 8, 12 and 9 of the lists alone.
 pub fn write_steps(order: &[u16], drops: &[u64], loads: &[u64], end: u64, out: &mut [u8]) -> Counted
-    ensures answer { count_outcome result ≡ write_steps_answer (was order) (plan_of (was drops) (was loads) end) (was out) }
-    ensures bytes { after out ≡ write_steps_buffer (was order) (plan_of (was drops) (was loads) end) (was out) }
+    ensures answer { count_outcome result ≡ write_steps_answer order.now (plan_of drops.now loads.now end) out.old }
+    ensures bytes { out.new ≡ write_steps_buffer order.now (plan_of drops.now loads.now end) out.old }
 {
     if let Examined::Refused(r) = examine_order_alone(order) {
         return Counted::Refused(r);

@@ -1,3 +1,4 @@
+#![tactic(auto)]
 // Document 01's examples of plans and orders, and two of 02, run; each answer is proved to be the paper's.
 ghost use Rattle.std.specs.Prelude.{◌≡◌, true};
 

@@ -1,6 +1,6 @@
+#![tactic(auto)]
 // From a job's bytes to an order of its tests and a plan for it: reading, ordering, planning.
 ghost use Rattle.std.specs.Prelude.{◌≡◌, ◌≤◌, length};
-ghost use Rattle.lists.specs.Lent.{was, after};
 ghost use Rattle.job.specs.Refusal.{mapped, leaves};
 ghost use Rattle.planning.specs.Plan.{set_lists, leaves_plan, plan_outcome};
 ghost use Rattle.planned.specs.Planned.{order_request, order_and_plan, plan_job};
@@ -11,7 +11,7 @@ use job::{Counted, Head, JobRead, MOST_TESTS, Refusal};
 use planning::PlanCounted;
 
 // What comes of a job's bytes: its head, and the load count and the end set of its plan, or the refusal.
-#[derive(Drop)]
+#[derive(Clone, Copy)]
 pub enum JobPlanned {
     Planned(Head, usize, u64),
     Refused(Refusal),
@@ -27,10 +27,10 @@ fn order_and_plan(
 ) -> PlanCounted
     requires tests { (head.tests ≤ 256) × (length wants.now ≡ head.tests) }
     requires lists { (256 ≤ length order.old) × (256 ≤ length drops.old) × (256 ≤ length loads.old) }
-    ensures count { plan_outcome result ≡ mapped counted (order_and_plan (record { head = head; wants = was wants })) }
-    ensures order { after order ≡ leaves (order_request (record { head = head; wants = was wants })) (was order) }
-    ensures plan { set_lists (after drops) (after loads)
-        ≡ leaves_plan (λ p. p.plan) (order_and_plan (record { head = head; wants = was wants })) (set_lists (was drops) (was loads)) }
+    ensures count { plan_outcome result ≡ mapped counted (order_and_plan (record { head = head; wants = wants.now })) }
+    ensures order { order.new ≡ leaves (order_request (record { head = head; wants = wants.now })) order.old }
+    ensures plan { set_lists drops.new loads.new
+        ≡ leaves_plan (λ p. p.plan) (order_and_plan (record { head = head; wants = wants.now })) (set_lists drops.old loads.old) }
 {
     let n = head.tests;
     if let Counted::Refused(r) = ordering::order_tests(head.rig, head.method, wants, order) {
@@ -50,9 +50,9 @@ fn read_and_plan(
     loads: &mut [u64],
 ) -> JobPlanned
     requires { (256 ≤ length wants.old) × (256 ≤ length order.old) × (256 ≤ length drops.old) × (256 ≤ length loads.old) }
-    ensures answer { planned_outcome result ≡ mapped told (plan_job (was job)) }
-    ensures lists { lists_of (after wants) (after order) (set_lists (after drops) (after loads))
-        ≡ leaves_lists (was job) (lists_of (was wants) (was order) (set_lists (was drops) (was loads))) }
+    ensures answer { planned_outcome result ≡ mapped told (plan_job job.now) }
+    ensures lists { lists_of wants.new order.new (set_lists drops.new loads.new)
+        ≡ leaves_lists job.now (lists_of wants.old order.old (set_lists drops.old loads.old)) }
 {
     match job_bytes::read_job(job, wants) {
         JobRead::Refused(r) => JobPlanned::Refused(r),
@@ -74,9 +74,9 @@ pub fn plan_job(
     drops: &mut [u64],
     loads: &mut [u64],
 ) -> JobPlanned
-    ensures answer { planned_outcome result ≡ plan_job_answer (was job) (lists_of (was wants) (was order) (set_lists (was drops) (was loads))) }
-    ensures lists { lists_of (after wants) (after order) (set_lists (after drops) (after loads))
-        ≡ plan_job_lists (was job) (lists_of (was wants) (was order) (set_lists (was drops) (was loads))) }
+    ensures answer { planned_outcome result ≡ plan_job_answer job.now (lists_of wants.old order.old (set_lists drops.old loads.old)) }
+    ensures lists { lists_of wants.new order.new (set_lists drops.new loads.new)
+        ≡ plan_job_lists job.now (lists_of wants.old order.old (set_lists drops.old loads.old)) }
 {
     if wants.len() < MOST_TESTS {
         return JobPlanned::Refused(Refusal::BufferTooSmall(MOST_TESTS));

@@ -1,7 +1,7 @@
+#![tactic(auto)]
 // Plans of a job: the examination of an order, our plan, and the plan check. The rules of one drive are those of `drive`.
 ghost use Rattle.std.specs.Prelude.{◌≡◌, ◌≤◌, min, length};
 ghost use Rattle.std.proofs.lemmas.List.Edits.{sets};
-ghost use Rattle.lists.specs.Lent.{was, after};
 ghost use Rattle.job.specs.Refusal.{examined_outcome, count_outcome};
 ghost use Rattle.job.specs.Words.{job_of};
 ghost use Rattle.drive.specs.Steps.{curve_count};
@@ -14,7 +14,7 @@ use drive::Checked;
 use job::{Counted, Examined, Refusal, Rig};
 
 // What a call answers that makes or reads a plan: a count, of loads or of steps, and the end set, 0 for none.
-#[derive(Drop)]
+#[derive(Clone, Copy)]
 pub enum PlanCounted {
     Count(usize, u64),
     Refused(Refusal),
@@ -41,7 +41,7 @@ pub fn examine_sets(tests: usize, drops: usize, loads: usize) -> Examined
 
 // The steps' wants, "the order giving the steps' tests", into the first entries of the list lent, as far as it has entries.
 pub fn in_order(wants: &[u64], order: &[u16], steps: &mut [u64])
-    ensures { after steps ≡ sets (was steps) 0 (in_order (was wants) (was order)) }
+    ensures { steps.new ≡ sets steps.old 0 (in_order wants.now order.now) }
 {
     let mut i: usize = 0;
     while i < order.len() {
@@ -53,7 +53,7 @@ pub fn in_order(wants: &[u64], order: &[u16], steps: &mut [u64])
 // The number of curves in all sets of a list together.
 fn count_curves(sets: &[u64]) -> usize
     requires { length sets.now ≤ 256 }
-    ensures { result ≡ curve_count (was sets) }
+    ensures { result ≡ curve_count sets.now }
 {
     let mut count: usize = 0;
     let mut i: usize = 0;
@@ -75,7 +75,7 @@ pub fn check_plan(
     loads: &[u64],
     end: u64,
 ) -> Counted
-    ensures { count_outcome result ≡ checking (job_of rig (was wants)) held (was order) (plan_of (was drops) (was loads) end) }
+    ensures { count_outcome result ≡ checking (job_of rig wants.now) held order.now (plan_of drops.now loads.now end) }
 {
     if let Examined::Refused(r) = job::examine_checking(rig, wants, held, order) {
         return Counted::Refused(r);
@@ -109,8 +109,8 @@ pub fn plan_tests(
     drops: &mut [u64],
     loads: &mut [u64],
 ) -> PlanCounted
-    ensures answer { plan_outcome result ≡ tests_answer capacity (was wants) held (was order) (set_lists (was drops) (was loads)) }
-    ensures lists { set_lists (after drops) (after loads) ≡ tests_lists capacity (was wants) held (was order) (set_lists (was drops) (was loads)) }
+    ensures answer { plan_outcome result ≡ tests_answer capacity wants.now held order.now (set_lists drops.old loads.old) }
+    ensures lists { set_lists drops.new loads.new ≡ tests_lists capacity wants.now held order.now (set_lists drops.old loads.old) }
 {
     let tests = order.len();
     if job::MOST_TESTS < tests {
@@ -138,9 +138,9 @@ pub fn plan(
     drops: &mut [u64],
     loads: &mut [u64],
 ) -> PlanCounted
-    ensures answer { plan_outcome result ≡ plan_answer (job_of rig (was wants)) held (was order) (set_lists (was drops) (was loads)) }
-    ensures lists { set_lists (after drops) (after loads) ≡ plan_lists (job_of rig (was wants)) held (was order) (set_lists (was drops) (was loads)) }
-    ensures demand3 { Demand3 (job_of rig (was wants)) held (was order) (plan_outcome result) (set_lists (after drops) (after loads)) }
+    ensures answer { plan_outcome result ≡ plan_answer (job_of rig wants.now) held order.now (set_lists drops.old loads.old) }
+    ensures lists { set_lists drops.new loads.new ≡ plan_lists (job_of rig wants.now) held order.now (set_lists drops.old loads.old) }
+    ensures demand3 { Demand3 (job_of rig wants.now) held order.now (plan_outcome result) (set_lists drops.new loads.new) }
 {
     if let Examined::Refused(r) = job::examine_planning(rig, wants, held, order) {
         return PlanCounted::Refused(r);

@@ -1,6 +1,5 @@
 // A plan from anywhere, beside the fewest loads that its order allows: "my sheet has 41 loads; can the same list be run with 40?"
 ghost use Rattle.std.specs.Prelude.{◌≡◌, ◌≤◌, length};
-ghost use Rattle.lists.specs.Lent.{was, after};
 ghost use Rattle.job.specs.Refusal.{done, mapped, count_outcome, overwritten};
 ghost use Rattle.job.specs.Words.{job_of};
 ghost use Rattle.drive.specs.Steps.{load_count};
@@ -17,7 +16,7 @@ use planning::PlanCounted;
 pub const AUDIT_BYTES: usize = 128;
 
 // What an audit answers: the load count of the plan and the fewest, or which of the two was refused.
-#[derive(Drop)]
+#[derive(Clone, Copy)]
 pub enum Audited {
     Counts(usize, usize),
     PlanRefused(Refusal),
@@ -28,7 +27,7 @@ pub enum Audited {
 fn beside_fewest(head: Head, wants: &[u64], order: &[u16], count: usize) -> Audited
     requires { (length wants.now ≡ head.tests) × (head.tests ≤ 256) }
     ensures { audited_outcome result
-        ≡ done (mapped (λ p. record { loads = count; fewest = load_count p }) (planning (job_of head.rig (was wants)) 0 (was order) head.tests)) }
+        ≡ done (mapped (λ p. record { loads = count; fewest = load_count p }) (planning (job_of head.rig wants.now) 0 order.now head.tests)) }
 {
     let mut drops = [0u64; MOST_TESTS];
     let mut loads = [0u64; MOST_TESTS];
@@ -48,7 +47,7 @@ fn audit_steps(
     end: u64,
 ) -> Audited
     requires { (length wants.now ≡ head.tests) × (head.tests ≤ 256) }
-    ensures { audited_outcome result ≡ done (audit_steps (record { head = head; wants = was wants }) (was order) (plan_of (was drops) (was loads) end)) }
+    ensures { audited_outcome result ≡ done (audit_steps (record { head = head; wants = wants.now }) order.now (plan_of drops.now loads.now end)) }
 {
     match planning::check_plan(head.rig, wants, 0, order, drops, loads, end) {
         Counted::Refused(r) => Audited::PlanRefused(r),
@@ -59,7 +58,7 @@ fn audit_steps(
 // A plan's bytes for a job that was read.
 fn audit_plan(head: Head, wants: &[u64], plan: &[u8]) -> Audited
     requires { (length wants.now ≡ head.tests) × (head.tests ≤ 256) }
-    ensures { audited_outcome result ≡ done (audit_plan (record { head = head; wants = was wants }) (was plan)) }
+    ensures { audited_outcome result ≡ done (audit_plan (record { head = head; wants = wants.now }) plan.now) }
 {
     let n = head.tests;
     let mut order = [0u16; MOST_TESTS];
@@ -75,7 +74,7 @@ fn audit_plan(head: Head, wants: &[u64], plan: &[u8]) -> Audited
 
 // A job's bytes and a plan's bytes.
 fn audit(job: &[u8], plan: &[u8]) -> Audited
-    ensures { audited_outcome result ≡ audit (was job) (was plan) }
+    ensures { audited_outcome result ≡ audit job.now plan.now }
 {
     let mut wants = [0u64; MOST_TESTS];
     match job_bytes::read_job(job, &mut wants) {
@@ -89,7 +88,7 @@ fn audit(job: &[u8], plan: &[u8]) -> Audited
 
 fn put_counts(out: &mut [u8], loads: usize, fewest: usize) -> usize
     requires { fewest ≤ loads }
-    ensures { Wrote (was out) 0 (audit_text (done (done (record { loads = loads; fewest = fewest })))) (after out) result }
+    ensures { Wrote out.old 0 (audit_text (done (done (record { loads = loads; fewest = fewest })))) out.new result }
 {
     let mut to = put_text(out, 0, b"loads ");
     to = put_number(out, to, loads, b"\nfewest ");
@@ -100,7 +99,7 @@ fn put_counts(out: &mut [u8], loads: usize, fewest: usize) -> usize
 // The counts as text, where the buffer has room for it.
 fn write_counts(loads: usize, fewest: usize, out: &mut [u8]) -> Counted
     requires { fewest ≤ loads }
-    ensures { Filled (audit_text (done (done (record { loads = loads; fewest = fewest })))) (was out) (count_outcome result) (after out) }
+    ensures { Filled (audit_text (done (done (record { loads = loads; fewest = fewest })))) out.old (count_outcome result) out.new }
 {
     let mut none = [0u8; 1];
     let needed = put_counts(&mut none, loads, fewest);
@@ -112,8 +111,8 @@ fn write_counts(loads: usize, fewest: usize, out: &mut [u8]) -> Counted
 
 // The audit of a plan's bytes for a job's bytes, as text in a lent buffer.
 pub fn write_audit(job: &[u8], plan: &[u8], out: &mut [u8]) -> Counted
-    ensures answer { count_outcome result ≡ audit_answer (was job) (was plan) (was out) }
-    ensures bytes { after out ≡ audit_buffer (was job) (was plan) (was out) }
+    ensures answer { count_outcome result ≡ audit_answer job.now plan.now out.old }
+    ensures bytes { out.new ≡ audit_buffer job.now plan.now out.old }
 {
     match audit(job, plan) {
         Audited::JobRefused(r) => write_refusal(b"", r, out),
@@ -124,8 +123,8 @@ pub fn write_audit(job: &[u8], plan: &[u8], out: &mut [u8]) -> Counted
 
 // The whole audit of a plan's bytes for a job's bytes, for every input, and how many bytes it has.
 pub fn audit_text(job: &[u8], plan: &[u8], text: &mut [u8; AUDIT_BYTES]) -> usize
-    ensures count { result ≡ length (audit_text (audit (was job) (was plan))) }
-    ensures bytes { after text ≡ overwritten (audit_text (audit (was job) (was plan))) (was text) }
+    ensures count { result ≡ length (audit_text (audit job.now plan.now)) }
+    ensures bytes { text.new ≡ overwritten (audit_text (audit job.now plan.now)) text.old }
 {
     match write_audit(job, plan, text) {
         Counted::Count(n) => n,

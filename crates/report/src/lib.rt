@@ -1,6 +1,6 @@
+#![tactic(auto)]
 // The text of the sheet, as bytes in a lent buffer.
 ghost use Rattle.std.specs.Prelude.{◌≡◌, [], ◌∷◌, ◌++◌, ◌+◌, ◌^◌, ◌≤◌, ◌<◌, length};
-ghost use Rattle.lists.specs.Lent.{was, after};
 ghost use Rattle.report.specs.Report.{text, decimal, set_text, step_text, steps_text, end_text, head_text, plan_text, printed};
 ghost use Rattle.report.specs.Report.{sheet, sheet_answer, sheet_buffer};
 ghost use Rattle.report.specs.ContractWords.{Wrote, shown, Filled};
@@ -23,7 +23,7 @@ pub const SHEET_BYTES: usize = 105_000;
 
 fn put_byte(out: &mut [u8], at: usize, b: u8) -> usize
     requires { at + 1 < 2 ^ 64 }
-    ensures { Wrote (was out) at (b ∷ []) (after out) result }
+    ensures { Wrote out.old at (b ∷ []) out.new result }
 {
     if at < out.len() {
         out[at] = b;
@@ -33,7 +33,7 @@ fn put_byte(out: &mut [u8], at: usize, b: u8) -> usize
 
 fn put_text(out: &mut [u8], at: usize, text: &[u8]) -> usize
     requires { at + length text.now < 2 ^ 64 }
-    ensures { Wrote (was out) at (was text) (after out) result }
+    ensures { Wrote out.old at text.now out.new result }
 {
     let mut to = at;
     let mut i = 0;
@@ -47,7 +47,7 @@ fn put_text(out: &mut [u8], at: usize, text: &[u8]) -> usize
 // A number in decimal digits.
 fn put_decimal(out: &mut [u8], at: usize, n: usize) -> usize
     requires { at + length (decimal n) < 2 ^ 64 }
-    ensures { Wrote (was out) at (decimal n) (after out) result }
+    ensures { Wrote out.old at (decimal n) out.new result }
 {
     let mut to = at;
     if 10 <= n {
@@ -59,7 +59,7 @@ fn put_decimal(out: &mut [u8], at: usize, n: usize) -> usize
 // A number and the text behind it.
 fn put_number(out: &mut [u8], at: usize, n: usize, text: &[u8]) -> usize
     requires { at + length (decimal n ++ text.now) < 2 ^ 64 }
-    ensures { Wrote (was out) at (decimal n ++ was text) (after out) result }
+    ensures { Wrote out.old at (decimal n ++ text.now) out.new result }
 {
     let to = put_decimal(out, at, n);
     put_text(out, to, text)
@@ -68,7 +68,7 @@ fn put_number(out: &mut [u8], at: usize, n: usize, text: &[u8]) -> usize
 // The curves of a set "in rising order", or "none", each behind a space.
 fn put_set(out: &mut [u8], at: usize, s: u64) -> usize
     requires { at + length (set_text s) < 2 ^ 64 }
-    ensures { Wrote (was out) at (set_text s) (after out) result }
+    ensures { Wrote out.old at (set_text s) out.new result }
 {
     if s == 0 {
         return put_text(out, at, b" none");
@@ -93,7 +93,7 @@ fn put_step(
     loads: u64,
 ) -> usize
     requires { at + length (step_text position (record { test = test; drops = drops; loads = loads })) < 2 ^ 64 }
-    ensures { Wrote (was out) at (step_text position (record { test = test; drops = drops; loads = loads })) (after out) result }
+    ensures { Wrote out.old at (step_text position (record { test = test; drops = drops; loads = loads })) out.new result }
 {
     let mut to = put_number(out, at, position, b": test ");
     to = put_number(out, to, test, b" drop");
@@ -107,7 +107,7 @@ fn put_step(
 fn put_steps(out: &mut [u8], at: usize, order: &[u16], drops: &[u64], loads: &[u64]) -> usize
     requires drops_len { (length drops.now ≡ length order.now) × (length loads.now ≡ length order.now) }
     requires loads_bound { at + length (steps_text 0 (steps order.now drops.now loads.now)) < 2 ^ 64 }
-    ensures { Wrote (was out) at (steps_text 0 (steps (was order) (was drops) (was loads))) (after out) result }
+    ensures { Wrote out.old at (steps_text 0 (steps order.now drops.now loads.now)) out.new result }
 {
     let mut to = at;
     let mut i = 0;
@@ -121,7 +121,7 @@ fn put_steps(out: &mut [u8], at: usize, order: &[u16], drops: &[u64], loads: &[u
 // 02, wish 1: the line of the end step, where something is held at the end.
 fn put_end(out: &mut [u8], at: usize, position: usize, end: u64) -> usize
     requires { at + length (end_text position end) < 2 ^ 64 }
-    ensures { Wrote (was out) at (end_text position end) (after out) result }
+    ensures { Wrote out.old at (end_text position end) out.new result }
 {
     if end == 0 {
         return at;
@@ -134,7 +134,7 @@ fn put_end(out: &mut [u8], at: usize, position: usize, end: u64) -> usize
 // "test count, places and method", the places less booked
 fn put_head(out: &mut [u8], at: usize, head: Head) -> usize
     requires { at + length (head_text (shown head [] [] [] 0)) < 2 ^ 64 }
-    ensures { Wrote (was out) at (head_text (shown head [] [] [] 0)) (after out) result }
+    ensures { Wrote out.old at (head_text (shown head [] [] [] 0)) out.new result }
 {
     let capacity = job::capacity(head.rig);
     let mut to = put_number(out, at, head.tests, b" tests, ");
@@ -145,7 +145,7 @@ fn put_head(out: &mut [u8], at: usize, head: Head) -> usize
 // "the load count"
 fn put_loads(out: &mut [u8], at: usize, count: usize) -> usize
     requires { at + length (text "loads " ++ decimal count ++ text "\n") < 2 ^ 64 }
-    ensures { Wrote (was out) at (text "loads " ++ decimal count ++ text "\n") (after out) result }
+    ensures { Wrote out.old at (text "loads " ++ decimal count ++ text "\n") out.new result }
 {
     let to = put_text(out, at, b"loads ");
     put_number(out, to, count, b"\n")
@@ -163,7 +163,7 @@ fn put_plan(
     requires drops_len { (length drops.now ≡ length order.now) × (length loads.now ≡ length order.now) }
     requires count_value { count ≡ curve_count loads.now }
     requires end_len_bound { length (plan_text (shown head order.now drops.now loads.now end)) < 2 ^ 64 }
-    ensures { Wrote (was out) 0 (plan_text (shown head (was order) (was drops) (was loads) end)) (after out) result }
+    ensures { Wrote out.old 0 (plan_text (shown head order.now drops.now loads.now end)) out.new result }
 {
     let mut to = put_head(out, 0, head);
     to = put_steps(out, to, order, drops, loads);
@@ -174,7 +174,7 @@ fn put_plan(
 // "A refusal prints only `refused 7 at 0` with its own figures", behind the words that say of what: none on the sheet.
 fn put_refusal(out: &mut [u8], of: &[u8], number: usize, figure: usize) -> usize
     requires { length of.now ≤ 256 }
-    ensures { Wrote (was out) 0 (was of ++ printed (refused number figure)) (after out) result }
+    ensures { Wrote out.old 0 (of.now ++ printed (refused number figure)) out.new result }
 {
     let mut to = put_text(out, 0, of);
     to = put_text(out, to, b"refused ");
@@ -195,7 +195,7 @@ fn write_plan(
     requires drops_len { (length drops.now ≡ length order.now) × (length loads.now ≡ length order.now) }
     requires count_value { count ≡ curve_count loads.now }
     requires tests_bound { (head.tests ≤ 256) × (capacity head.rig ≤ 64) × (head.method ≤ 3) × (length order.now ≤ 256) }
-    ensures { Filled (plan_text (shown head (was order) (was drops) (was loads) end)) (was out) (count_outcome result) (after out) }
+    ensures { Filled (plan_text (shown head order.now drops.now loads.now end)) out.old (count_outcome result) out.new }
 {
     let mut none = [0u8; 1];
     let needed = put_plan(&mut none, head, order, drops, loads, end, count);
@@ -208,7 +208,7 @@ fn write_plan(
 // The line of a refusal, where the buffer has room for it.
 fn write_refusal(of: &[u8], r: Refusal, out: &mut [u8]) -> Counted
     requires { length of.now ≤ 256 }
-    ensures { Filled (was of ++ printed (refused (number r) (figure r))) (was out) (count_outcome result) (after out) }
+    ensures { Filled (of.now ++ printed (refused (number r) (figure r))) out.old (count_outcome result) out.new }
 {
     let number = job::number_of(r) as usize;
     let figure = job::figure_of(r) as usize;
@@ -223,8 +223,8 @@ fn write_refusal(of: &[u8], r: Refusal, out: &mut [u8]) -> Counted
 // "prints test count, places and method; for each step its position, test, drops and loads in rising order; the load count": of a job's bytes, in a lent
 // buffer.
 pub fn write_report(job: &[u8], out: &mut [u8]) -> Counted
-    ensures answer { count_outcome result ≡ sheet_answer (was job) (was out) }
-    ensures bytes { after out ≡ sheet_buffer (was job) (was out) }
+    ensures answer { count_outcome result ≡ sheet_answer job.now out.old }
+    ensures bytes { out.new ≡ sheet_buffer job.now out.old }
 {
     let mut wants = [0u64; MOST_TESTS];
     let mut order = [0u16; MOST_TESTS];
@@ -241,8 +241,8 @@ pub fn write_report(job: &[u8], out: &mut [u8]) -> Counted
 
 // The whole sheet of a job's bytes, for every input, and how many bytes it has.
 pub fn sheet_text(job: &[u8], text: &mut [u8; SHEET_BYTES]) -> usize
-    ensures count { result ≡ length (sheet (was job)) }
-    ensures bytes { after text ≡ overwritten (sheet (was job)) (was text) }
+    ensures count { result ≡ length (sheet job.now) }
+    ensures bytes { text.new ≡ overwritten (sheet job.now) text.old }
 {
     match write_report(job, text) {
         Counted::Count(n) => n,

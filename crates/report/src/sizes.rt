@@ -1,7 +1,6 @@
 // The table of drive sizes: 02, wish 9, "Purchasing compares drives." It shows the loads that a drive of each size needs for a job's list, in the order of its
 // method, and for a wanted count the fewest places.
 ghost use Rattle.std.specs.Prelude.{◌≡◌, ◌+◌, ◌^◌, ◌≤◌, ◌<◌, length, get_or};
-ghost use Rattle.lists.specs.Lent.{was, after};
 ghost use Rattle.lists.specs.Choice.{found};
 ghost use Rattle.job.specs.Refusal.{read_outcome, count_outcome, overwritten};
 ghost use Rattle.report.specs.ContractWords.{Wrote, Filled, SizedAs};
@@ -19,14 +18,14 @@ pub const TABLE_BYTES: usize = 2_048;
 const MOST_DIGITS: usize = 5;
 
 // The count of loads that is asked for, or that none is.
-#[derive(Drop)]
+#[derive(Clone, Copy)]
 pub enum Wanted {
     Loads(usize),
     NotAsked,
 }
 
 // What comes of a job's bytes: its head or the refusal, and the load counts for 1 to 64 places; under a refusal marks.
-#[derive(Drop)]
+#[derive(Clone, Copy)]
 struct JobSized {
     answer: JobRead,
     counts: [u16; 64],
@@ -37,7 +36,7 @@ struct JobSized {
 // Ordering, and the counts of the list in that order.
 fn size_list(head: Head, wants: &[u64]) -> JobSized
     requires { (length wants.now ≡ head.tests) × (head.tests ≤ 256) }
-    ensures { SizedAs (size_request (record { head = head; wants = was wants })) (read_outcome result.answer) result.counts }
+    ensures { SizedAs (size_request (record { head = head; wants = wants.now })) (read_outcome result.answer) result.counts }
 {
     let n = head.tests;
     let mut order = [0u16; MOST_TESTS];
@@ -64,7 +63,7 @@ fn size_list(head: Head, wants: &[u64]) -> JobSized
 
 // Reading before that.
 fn size_job(job: &[u8]) -> JobSized
-    ensures { SizedAs (size_job (was job)) (read_outcome result.answer) result.counts }
+    ensures { SizedAs (size_job job.now) (read_outcome result.answer) result.counts }
 {
     let mut wants = [0u64; MOST_TESTS];
     match job_bytes::read_job(job, &mut wants) {
@@ -84,7 +83,7 @@ fn size_job(job: &[u8]) -> JobSized
 // The line of a size: its places, and its loads, or that it is too small for some test.
 fn put_size(out: &mut [u8], at: usize, places: usize, entry: u16) -> usize
     requires { at + length (size_text places entry) < 2 ^ 64 }
-    ensures { Wrote (was out) at (size_text places entry) (after out) result }
+    ensures { Wrote out.old at (size_text places entry) out.new result }
 {
     let to = put_number(out, at, places, b" places: ");
     if entry == MARK {
@@ -97,7 +96,7 @@ fn put_size(out: &mut [u8], at: usize, places: usize, entry: u16) -> usize
 fn put_sizes(out: &mut [u8], at: usize, counts: &[u16]) -> usize
     requires counts_len { length counts.now ≡ 64 }
     requires counts_bound { at + length (sizes_text (get_or counts.now 63 0) 1 counts.now) < 2 ^ 64 }
-    ensures { Wrote (was out) at (sizes_text (get_or (was counts) 63 0) 1 (was counts)) (after out) result }
+    ensures { Wrote out.old at (sizes_text (get_or counts.now 63 0) 1 counts.now) out.new result }
 {
     let least = counts[63];
     let mut to = at;
@@ -116,7 +115,7 @@ fn put_sizes(out: &mut [u8], at: usize, counts: &[u16]) -> usize
 // The line of a wanted count, and the fewest places for it.
 fn put_fewest(out: &mut [u8], at: usize, loads: usize, counts: &[u16]) -> usize
     requires { at + length (wanted_text (found loads) counts.now) < 2 ^ 64 }
-    ensures { Wrote (was out) at (wanted_text (found loads) (was counts)) (after out) result }
+    ensures { Wrote out.old at (wanted_text (found loads) counts.now) out.new result }
 {
     let mut to = put_text(out, at, b"at most ");
     to = put_number(out, to, loads, b" loads: ");
@@ -129,7 +128,7 @@ fn put_fewest(out: &mut [u8], at: usize, loads: usize, counts: &[u16]) -> usize
 // The same, where a count is asked for.
 fn put_wanted(out: &mut [u8], at: usize, wanted: Wanted, counts: &[u16]) -> usize
     requires { at + length (wanted_text (wanted_found wanted) counts.now) < 2 ^ 64 }
-    ensures { Wrote (was out) at (wanted_text (wanted_found wanted) (was counts)) (after out) result }
+    ensures { Wrote out.old at (wanted_text (wanted_found wanted) counts.now) out.new result }
 {
     match wanted {
         Wanted::Loads(loads) => put_fewest(out, at, loads, counts),
@@ -140,7 +139,7 @@ fn put_wanted(out: &mut [u8], at: usize, wanted: Wanted, counts: &[u16]) -> usiz
 fn put_table(out: &mut [u8], head: Head, counts: &[u16], wanted: Wanted) -> usize
     requires counts_len { length counts.now ≡ 64 }
     requires counts_len_bound { length (table_text (wanted_found wanted) (record { head = head; counts = counts.now })) < 2 ^ 64 }
-    ensures { Wrote (was out) 0 (table_text (wanted_found wanted) (record { head = head; counts = was counts })) (after out) result }
+    ensures { Wrote out.old 0 (table_text (wanted_found wanted) (record { head = head; counts = counts.now })) out.new result }
 {
     let mut to = put_number(out, 0, head.tests, b" tests, method ");
     to = put_number(out, to, head.method, b"\n");
@@ -152,7 +151,7 @@ fn put_table(out: &mut [u8], head: Head, counts: &[u16], wanted: Wanted) -> usiz
 // The table, where the buffer has room for it.
 fn write_table(head: Head, counts: &[u16], wanted: Wanted, out: &mut [u8]) -> Counted
     requires { length counts.now ≡ 64 }
-    ensures { Filled (table_text (wanted_found wanted) (record { head = head; counts = was counts })) (was out) (count_outcome result) (after out) }
+    ensures { Filled (table_text (wanted_found wanted) (record { head = head; counts = counts.now })) out.old (count_outcome result) out.new }
 {
     let mut none = [0u8; 1];
     let needed = put_table(&mut none, head, counts, wanted);
@@ -164,8 +163,8 @@ fn write_table(head: Head, counts: &[u16], wanted: Wanted, out: &mut [u8]) -> Co
 
 // The table of a job's bytes, in a lent buffer.
 pub fn write_size_table(job: &[u8], wanted: Wanted, out: &mut [u8]) -> Counted
-    ensures answer { count_outcome result ≡ table_answer (was job) (wanted_found wanted) (was out) }
-    ensures bytes { after out ≡ table_buffer (was job) (wanted_found wanted) (was out) }
+    ensures answer { count_outcome result ≡ table_answer job.now (wanted_found wanted) out.old }
+    ensures bytes { out.new ≡ table_buffer job.now (wanted_found wanted) out.old }
 {
     let sized = size_job(job);
     let answer = sized.answer;
@@ -180,8 +179,8 @@ pub fn write_size_table(job: &[u8], wanted: Wanted, out: &mut [u8]) -> Counted
 
 // The whole table of a job's bytes, for every input, and how many bytes it has.
 pub fn size_table_text(job: &[u8], wanted: Wanted, text: &mut [u8; TABLE_BYTES]) -> usize
-    ensures count { result ≡ length (size_table (was job) (wanted_found wanted)) }
-    ensures bytes { after text ≡ overwritten (size_table (was job) (wanted_found wanted)) (was text) }
+    ensures count { result ≡ length (size_table job.now (wanted_found wanted)) }
+    ensures bytes { text.new ≡ overwritten (size_table job.now (wanted_found wanted)) text.old }
 {
     match write_size_table(job, wanted, text) {
         Counted::Count(n) => n,
@@ -193,7 +192,7 @@ pub fn size_table_text(job: &[u8], wanted: Wanted, text: &mut [u8; TABLE_BYTES])
 
 // The count that a word names: one to five decimal digits, and nothing else.
 pub fn wanted_in(word: &[u8]) -> Wanted
-    ensures { wanted_found result ≡ count_in (was word) }
+    ensures { wanted_found result ≡ count_in word.now }
 {
     if word.len() < 1 {
         return Wanted::NotAsked;

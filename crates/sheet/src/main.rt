@@ -1,5 +1,5 @@
+#![tactic(auto)]
 // Prints the sheet of the job on standard input.
-ghost use Rattle.lists.specs.Lent.{after};
 ghost use Rattle.io.specs.Counts.{IsPrefixLen};
 ghost use Rattle.report.specs.Report.{sheet};
 ghost use Rattle.report.specs.Input.{Enough};
@@ -11,8 +11,8 @@ const JOB_INPUT: usize = 2_312;
 
 // Reads standard input, as much as can matter: whatever the whole of it is, its sheet is that of the bytes read.
 fn read_input(job: &mut [u8; JOB_INPUT]) -> usize
-    ensures count { IsPrefixLen result (after job) }
-    ensures enough { Enough sheet result (after job) }
+    ensures count { IsPrefixLen result job.new }
+    ensures enough { Enough sheet result job.new }
 {
     io::read_full(STDIN_FILENO, job)
 }

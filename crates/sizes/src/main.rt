@@ -1,6 +1,6 @@
+#![tactic(auto)]
 // Prints the table of drive sizes for the job on standard input: sizes [LOADS] < JOB. With a count of loads, also the fewest places for it.
 ghost use Rattle.std.specs.Prelude.{ℕ};
-ghost use Rattle.lists.specs.Lent.{after};
 ghost use Rattle.lists.specs.Choice.{Found};
 ghost use Rattle.io.specs.Counts.{IsPrefixLen};
 ghost use Rattle.report.specs.SizeTable.{size_table};
@@ -14,8 +14,8 @@ const JOB_INPUT: usize = 2_312;
 
 // Reads standard input, as much as can matter: whatever the whole of it is, and whatever count is asked for, its table is that of the bytes read.
 fn read_input(job: &mut [u8; JOB_INPUT]) -> usize
-    ensures count { IsPrefixLen result (after job) }
-    ensures enough { (wanted : Found ℕ) → Enough (λ whole. size_table whole wanted) result (after job) }
+    ensures count { IsPrefixLen result job.new }
+    ensures enough { (wanted : Found ℕ) → Enough (λ whole. size_table whole wanted) result job.new }
 {
     io::read_full(STDIN_FILENO, job)
 }

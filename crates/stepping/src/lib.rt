@@ -1,6 +1,6 @@
+#![tactic(auto)]
 // A list of tests that is carried out step by step: 02, wish 7, "Look, then commit". The host looks at the next step, and commits it when the drive has moved.
 ghost use Rattle.std.specs.Prelude.{◌≡◌, min};
-ghost use Rattle.lists.specs.Lent.{was};
 ghost use Rattle.job.specs.Refusal.{count_outcome};
 ghost use Rattle.job.specs.Words.{job_of};
 ghost use Rattle.stepping.specs.Stepping.{look_at, is_done, held_behind, commit_at, look, commit, after_commit, making, tests_made, nothing, state_made};
@@ -11,7 +11,7 @@ use job::{Counted, Examined, Refusal, Rig};
 
 // Where a list stands, 02's "state": how many curves the drive can hold, those it holds, how many steps were committed, the end step among them, and the wants
 // of the steps in their order, in the first of so many entries as there are tests.
-#[derive(Drop)]
+#[derive(Clone, Copy)]
 pub struct State {
     pub capacity: usize,
     pub held: u64,
@@ -22,7 +22,7 @@ pub struct State {
 
 // The next step, as a look shows it: that of a test, the end step with its drops, or none. They are told apart, since a test's step may have no drops and loads
 // and has to be committed all the same.
-#[derive(Drop)]
+#[derive(Clone, Copy)]
 pub enum NextStep {
     Step(Sets),
     End(u64),
@@ -30,21 +30,21 @@ pub enum NextStep {
 }
 
 // What making a state answers: the number of tests, and the state; under a refusal one that is done.
-#[derive(Drop)]
+#[derive(Clone, Copy)]
 pub struct Made {
     pub answer: Counted,
     pub state: State,
 }
 
 // What a commit answers: the step that was carried out.
-#[derive(Drop)]
+#[derive(Clone, Copy)]
 pub enum CommitAnswer {
     Carried(NextStep),
     Refused(Refusal),
 }
 
 // What a commit answers, and the state that it leaves.
-#[derive(Drop)]
+#[derive(Clone, Copy)]
 pub struct Committed {
     pub answer: CommitAnswer,
     pub state: State,
@@ -54,7 +54,7 @@ pub struct Committed {
 
 // The next step at a position, with so much held.
 pub fn look_at(capacity: usize, held: u64, position: usize, wants: &[u64]) -> NextStep
-    ensures { result ≡ look_at capacity held position (was wants) }
+    ensures { result ≡ look_at capacity held position wants.now }
 {
     let tests = wants.len();
     if position < tests {
@@ -100,7 +100,7 @@ pub fn commit_at(
     wants: &[u64],
     position: usize,
 ) -> CommitAnswer
-    ensures { commit_outcome result ≡ commit_at capacity held committed (was wants) position }
+    ensures { commit_outcome result ≡ commit_at capacity held committed wants.now position }
 {
     if position == committed {
         let next = look_at(capacity, held, committed, wants);
@@ -139,8 +139,8 @@ fn nothing() -> State
 
 // Makes a state of a list, an order of its tests and the curves held. "refused as in planning": 10, 13, 14, 8, 7.
 pub fn make_state(rig: Rig, wants: &[u64], held: u64, order: &[u16]) -> Made
-    ensures answer { count_outcome result.answer ≡ tests_made (making (job_of rig (was wants)) held (was order)) }
-    ensures state { result.state ≡ state_made (making (job_of rig (was wants)) held (was order)) }
+    ensures answer { count_outcome result.answer ≡ tests_made (making (job_of rig wants.now) held order.now) }
+    ensures state { result.state ≡ state_made (making (job_of rig wants.now) held order.now) }
 {
     if let Examined::Refused(r) = job::examine_planning(rig, wants, held, order) {
         return Made {
