@@ -6,8 +6,8 @@ use native.Mathlib.Omega.{arith}
 use lib.ListN.{length, drop, length-map}
 use Rattle.lists.specs.Choice.{Found}
 use Rattle.drive.specs.declared.Sets.{Sets}
-use Rattle.drive.specs.Steps.{Move, drops_of, loads_of, wants_of, sets_of, moves}
-use Rattle.drive.specs.Plan.{plan_from}
+use Rattle.drive.specs.Steps.{Move, moved, drops_of, loads_of, wants_of, sets_of, moves}
+use Rattle.drive.specs.Plan.{next, plan_from}
 
 -- the moves that want ws and have these sets
 abbrev pub moves_of : List ℕ → List Sets → List Move
@@ -48,4 +48,4 @@ loads_of_lem (w ∷ ws) ds (l ∷ ls) e = ap {B = List ℕ} (λ x. l ∷ x) (loa
 pub length_plan : (pick : ℕ → List ℕ → Found ℕ) (capacity h : ℕ) (ws : List ℕ) → length (plan_from pick capacity h ws) ≡ length ws
 unfolding plan_from
 length_plan pick capacity h [] = refl
-length_plan pick capacity h (w ∷ ws) = ap suc (length_plan pick capacity _ ws)
+length_plan pick capacity h (w ∷ ws) = ap suc (length_plan pick capacity (moved h (next pick capacity h w ws)) ws)

@@ -1,4 +1,3 @@
--- `write_later` meets its contract. The invariant: what the steps from i on want is united, and the entries from i on are written.
 use Prim.Native.Nat.{ℕ, ◌-◌, ◌+◌, ◌≤◌, ◌<◌}
 use mathlib.Core.Path.{◌≡◌, refl, sym, ap, ◌∙◌}
 use mathlib.Core.List.{List}
@@ -9,25 +8,11 @@ use lib.ListN.{length, get_or, drop, set, length-set}
 use lib.Seq.{get_or-set_same, get_or-set_other}
 use Rattle.drive.specs.Steps.{together}
 use Rattle.drive.proofs.Turns.{together_end, together_back}
-use Rattle.drive.proofs.write_later.Statement.{statement}
-use Rattle.drive.proofs.write_later.Tie as tie
+use Rattle.drive.proofs.write_later.Goals as goal
 
-abbrev invariant_loop : tie.invariant_loop
-invariant_loop wants list₀ all₀ i₀ list all i =
-    record {
-      turns : i ≤ length wants;
-      long : length list ≡ length list₀;
-      is : all ≡ together (drop i wants);
-      written : (j : ℕ) → i ≤ j → j < length wants → j < length list₀ → get_or list j 0 ≡ together (drop (j + 1) wants);
-      kept : (j : ℕ) → length wants ≤ j → get_or list j 0 ≡ get_or list₀ j 0;
-    }
-
-abbrev decreases_loop : tie.decreases_loop
-decreases_loop wants list₀ all₀ i₀ list all i = i
-
-loop_holds : tie.Need-loop-init invariant_loop decreases_loop
-loop_holds c =
-    let w = c.before.before.args.wants.now in
+pub loop-i-init : goal.loop-i-init
+loop-i-init c =
+    let w = c.args.wants.now in
     record { turns = omega arith; long = refl; is = sym (together_end w (length w) (omega arith)); written = λ j l h. absurd (omega arith); kept = λ j h. refl }
 
 -- the entry of step i - 1 is written
@@ -45,29 +30,26 @@ module _ (wants list list₀ : List ℕ) (i u : ℕ) (p : 0 < i) (h : i ≤ leng
   kept_too : ((j : ℕ) → length wants ≤ j → get_or list j 0 ≡ get_or list₀ j 0) → (j : ℕ) → length wants ≤ j → get_or (set list (i - 1) u) j 0 ≡ get_or list₀ j 0
   kept_too old j l = get_or-set_other list (i - 1) j u 0 (λ f. omega arith) ∙ old j l
 
-loop_again : tie.Need-loop-preserved invariant_loop decreases_loop
-loop_again c =
-    let l = c.before.before.before.before.before.before in
-    let q = l.before.loop in
-    let a = l.before.before.before.before.args in
+pub loop-i-preserved : goal.loop-i-preserved
+loop-i-preserved c =
+    let q = c.loop-i in
+    let a = c.args in
     let w = a.wants.now in
-    let p = l.loop-test.true in
-    rw c.before.before.before.before.put.ensures
+    let p = c.loop-i-test.true in
+    rw c.put.ensures
     record {
       turns = omega (arith, q.invariant.turns);
       long = length-set q.list (q.i - 1) q.all ∙ q.invariant.long;
-      is = c.union.ensures ∙ together_back w q.i q.all p q.invariant.turns q.invariant.is;
+      is = c.union-all.ensures ∙ together_back w q.i q.all p q.invariant.turns q.invariant.is;
       written = written_too w q.list a.list.now q.i q.all p q.invariant.turns q.invariant.long q.invariant.is q.invariant.written;
       kept = kept_too w q.list a.list.now q.i q.all p q.invariant.turns q.invariant.long q.invariant.is q.invariant.kept;
     }
 
-same_length : tie.Need-same-length invariant_loop decreases_loop
-same_length c = c.before.loop.invariant.long
+pub shape_of-list : goal.shape_of-list
+shape_of-list c = c.loop-i.invariant.long
 
-returns : tie.Need-returns invariant_loop decreases_loop
-returns c = let q = c.before.loop in (λ j. q.invariant.written j (omega (arith, c.loop-test.false)), q.invariant.kept)
+pub returns : goal.returns
+returns c = let q = c.loop-i in record { by_index = λ j. q.invariant.written j (omega (arith, c.loop-i-test.false)); by_index_2 = q.invariant.kept }
 
-pub write_later_spec : {M : Type 1} → statement M
-write_later_spec =
-    tie.close (tie.spec invariant_loop decreases_loop loop_holds (λ c. search rules) (λ c κs. tt) (λ c. search rules) (λ c. omega arith) (λ c κs. tt)
-    (λ c. search rules) loop_again same_length returns)
+pub bounds-wants-i : goal.bounds-wants-i
+bounds-wants-i c = omega arith

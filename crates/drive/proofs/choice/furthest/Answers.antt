@@ -1,0 +1,27 @@
+-- `furthest` meets its contract.
+use Prim.Native.Nat.{ℕ}
+use mathlib.Core.Path.{◌≡◌, refl, sym, ◌∙◌}
+use mathlib.Core.Bool.{true, false≢true}
+use native.Mathlib.Omega.{arith}
+use borrow.Author.Rules.{rules}
+use Rattle.drive.specs.declared.choice.NextUse.TheVariants.{At, Never}
+use Rattle.drive.specs.Uses.{further}
+use Rattle.drive.proofs.Staying.{first_of_same}
+use Rattle.drive.proofs.choice.furthest.Goals as goal
+
+pub returns-then-never-eq0 : goal.returns-then-never-eq0
+returns-then-never-eq0 c =
+    let f = c.first_to_go.ensures in
+    record { by_index = λ ws h. absurd (omega (arith, c.if-never-eq0.true)); by_index_2 = λ ws z h used. first_of_same ws _ _ _ (f.same_value h) f.by_index used }
+
+pub returns-then-further : goal.returns-then-further
+returns-then-further c =
+    let f = c.first_to_go-2.ensures in
+    record { by_index = λ ws h used. first_of_same ws _ _ _ (f.same_value h) f.by_index used; by_index_2 = λ ws z. absurd (c.if-never-eq0.false z) }
+
+never_further : (m : ℕ) → further Never (At m) ≡ true
+unfolding further
+never_further m = refl
+
+pub returns : goal.returns
+returns c = absurd (false≢true (sym c.if-further.false ∙ c.further.ensures ∙ never_further _))

@@ -1,0 +1,10 @@
+-- `later` meets its contract.
+use Prim.Native.Nat.{◌+◌}
+use borrow.Author.Rules.{rules}
+use borrow.Author.Rules.{part_to_end}
+use Rattle.drive.proofs.later.Reads as reads
+use Rattle.drive.proofs.later.Lts as lts
+use Rattle.drive.proofs.later.Goals as goal
+
+pub returns : goal.returns
+returns c = let a = c.args in part_to_end a.wants.now (a.i + 1)

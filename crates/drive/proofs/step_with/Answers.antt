@@ -1,0 +1,6 @@
+-- `step_with` meets its contract.
+use borrow.Author.Rules.{rules}
+use Rattle.drive.proofs.step_with.Goals as goal
+
+pub returns : goal.returns
+returns c = rw (c.drops_with.ensures, c.without.ensures)
