@@ -5,8 +5,7 @@ use Prim.Native.Nat.{ℕ}
 use lib.Dec.{leb}
 use borrow.Author.Tests.{eq-eqb, ne_eqb}
 use Rattle.job.specs.Handed.{is_method}
-use Rattle.job.proofs.is_method.Statement.{statement}
-use Rattle.job.proofs.is_method.Tie as tie
+use Rattle.job.proofs.is_method.Goals as goal
 
 none : (method : ℕ) → method ≡ 2 → false ≡ is_method method
 unfolding is_method
@@ -16,11 +15,8 @@ other : (method : ℕ) → (method ≡ 2 → ⊥) → leb method 3 ≡ is_method
 unfolding is_method
 other method d = rw (ne_eqb method 2 d) refl
 
-returns : tie.Need-returns
-returns c = none _ c.if1.true
+pub returns-then-method-eq-OLD_METHOD : goal.returns-then-method-eq-OLD_METHOD
+returns-then-method-eq-OLD_METHOD c = none _ c.if-method-eq-OLD_METHOD.true
 
-returns_2 : tie.Need-returns-2
-returns_2 c = other _ c.if1.false
-
-pub is_method_spec : {M : Type 1} → statement M
-is_method_spec = tie.close (tie.spec returns returns_2)
+pub returns-else-method-eq-OLD_METHOD : goal.returns-else-method-eq-OLD_METHOD
+returns-else-method-eq-OLD_METHOD c = other _ c.if-method-eq-OLD_METHOD.false

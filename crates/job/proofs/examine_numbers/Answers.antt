@@ -1,0 +1,14 @@
+-- `job::examine_numbers` meets its contract.
+use mathlib.Core.Path.{sym, ◌∙◌}
+use borrow.Author.Tests.{not-true, not-false}
+use Rattle.job.specs.Refusal.{examined_outcome}
+use Rattle.job.proofs.Examination.{bad_places, numbers_counts}
+use borrow.Author.Rules.{rules}
+use Rattle.job.proofs.examine_numbers.Goals as goal
+
+pub returns-then-not-in_bounds : goal.returns-then-not-in_bounds
+unfolding examined_outcome
+returns-then-not-in_bounds c = sym (bad_places _ _ (sym c.in_bounds.ensures ∙ c.if-not-in_bounds.true))
+
+pub returns : goal.returns
+returns c = c.examine_counts.ensures ∙ sym (numbers_counts _ _ (sym c.in_bounds.ensures ∙ c.if-not-in_bounds.false))

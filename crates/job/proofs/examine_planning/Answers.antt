@@ -1,0 +1,18 @@
+-- `job::examine_planning` meets its contract.
+use mathlib.Core.Path.{sym, ◌∙◌}
+use borrow.Author.Rules.{rules}
+use Rattle.job.specs.Refusal.{examined_outcome}
+use Rattle.job.specs.Calls.{planning_known}
+use Rattle.job.proofs.Laws.{done_both}
+use Rattle.job.proofs.Examination.{refused_both, examined_refused, examined_passed}
+use Rattle.job.proofs.examine_planning.Goals as goal
+
+pub returns-in-Refused : goal.returns-in-Refused
+unfolding examined_outcome planning_known
+returns-in-Refused c = sym (refused_both _ _ _ _ (examined_refused _ _ _ c.in-Refused.is c.examine_checking.ensures))
+
+pub returns : goal.returns
+unfolding planning_known
+returns c =
+    c.examine_fit.ensures
+    ∙ sym (done_both _ _ (examined_passed _ _ c.in_default.is c.examine_checking.ensures))
