@@ -24,7 +24,7 @@ use Rattle.planning.proofs.Demand3.{given}
 kept_before : {capacity all h : ℕ} {ms : List Move} (k : ℕ) → AllKept capacity all h ms → AllKept capacity all h (take k ms)
 kept_before zero ok = AllKept.none
 kept_before (suc k) AllKept.none = AllKept.none
-kept_before (suc k) (AllKept.step ok r) = AllKept.step ok (kept_before k r)
+kept_before {h = h} (suc k) (AllKept.step {m = m} ok r) = AllKept.step ok (kept_before {h = moved h m.sets} k r)
 
 sets_before : (k : ℕ) (ms : List Move) → sets_of (take k ms) ≡ take k (sets_of ms)
 sets_before zero ms = refl
