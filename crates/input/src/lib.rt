@@ -1,0 +1,32 @@
+#![tactic(auto)]
+// Reading as much of an input as a buffer takes.
+ghost use Rattle.std.specs.Prelude.{◌≤◌, length};
+ghost use Rattle.input.specs.Counts.{IsPrefixLen};
+
+use std::io::Read;
+
+// One read; 0 where the input has ended or the read fails.
+fn read_some<R: Read>(input: &mut R, buf: &mut [u8]) -> usize
+    ensures { result ≤ length buf.new }
+{
+    match input.read(buf) {
+        Ok(n) => n,
+        Err(_) => 0,
+    }
+}
+
+// Reads until the buffer is full, the input ends or a read fails, and returns how many bytes it put at the start of the buffer. On an empty buffer it makes no
+// call.
+pub fn read_full<R: Read>(input: &mut R, buf: &mut [u8]) -> usize
+    ensures { IsPrefixLen result buf.new }
+{
+    let mut done = 0;
+    while done < buf.len() {
+        let n = read_some(input, &mut buf[done..]);
+        if n == 0 {
+            break;
+        }
+        done += n;
+    }
+    done
+}
