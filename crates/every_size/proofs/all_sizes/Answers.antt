@@ -5,7 +5,7 @@ use Prim.Native.Nat.{ℕ, ◌-◌, ◌≤◌, min}
 use native.Mathlib.Omega.{arith}
 use borrow.Author.Rules.{rules}
 use lib.Dec.{leb}
-use lib.ListN.{length, get_or, take, drop, length-take}
+use lib.ListN.{length, get_or, take, drop}
 use Rattle.drive.specs.Steps.{load_count}
 use Rattle.drive.specs.Plan.{furthest, plan_from}
 use Rattle.every_size.specs.Sizes.{largest, or_mark, count_for, all_sizes}
@@ -21,12 +21,6 @@ ends c =
       | then-n-end w ↦ omega (arith, w.if-n-end.true, w.end-is)
       | else-n-end w ↦ omega (arith, w.if-n-end.false, w.end-is)
     ]
-
-pub slice_bounds-steps-end : goal.slice_bounds-steps-end
-slice_bounds-steps-end c = let w = c.args.wants.now in omega (arith, ends (goal.at.slice_bounds-steps-end c).Joined-n-end, length-take c.if-n-end.end w)
-
-pub loads_by_slot-loads-requires : goal.loads_by_slot-loads-requires
-loads_by_slot-loads-requires c = let w = c.args.wants.now in omega (arith, ends (goal.at.loads_by_slot-loads-requires c).Joined-n-end, length-take c.if-n-end.end w)
 
 counted : (ws loads counts : List ℕ) (most : ℕ) → most ≡ largest ws → length counts ≡ 64
     → ((p : ℕ) → 1 ≤ p → p ≤ 64 → sum (drop p loads) ≡ load_count (plan_from (furthest 64) p 0 ws))

@@ -8,9 +8,6 @@ use Rattle.every_size.proofs.entries.Goals as goal
 pub loop-p-init : goal.loop-p-init
 loop-p-init c = record { few = omega arith; entered = entered_start _ _ c.requires.0 }
 
-pub bounds-loads-p : goal.bounds-loads-p
-bounds-loads-p c = omega (arith, c.loop-p.invariant.few, c.requires.0)
-
 pub overflow_add-total : goal.overflow_add-total
 overflow_add-total c =
     let xs = c.args.loads.now in
@@ -21,9 +18,6 @@ overflow_add-total c =
       sum_le xs c.loop-p.p,
       c.requires.1,
     )
-
-pub bounds-counts-at : goal.bounds-counts-at
-bounds-counts-at c = omega (arith, c.loop-p.invariant.few, c.loop-p-test.true)
 
 pub loop-p-preserved : goal.loop-p-preserved
 loop-p-preserved c =
@@ -40,6 +34,3 @@ loop-p-preserved c =
         entered = rw w.counts-is (entered_mark q.invariant.entered pos q.invariant.few long (lt-leb _ _ w.if-most-p.false));
       }
     ]
-
-pub returns : goal.returns
-returns c = λ p o m. c.loop-p.invariant.entered.made p (omega (arith, c.loop-p-test.false)) m

@@ -1,11 +1,8 @@
-use mathlib.Core.Path.{refl, sym, ◌∙◌}
+use mathlib.Core.Path.{sym, ◌∙◌}
 use native.Mathlib.Omega.{arith}
 use Rattle.every_size.specs.Sizes.{size_found}
 use Rattle.every_size.proofs.Sizes.{fewest_here, fewest_later, fewest_none}
 use Rattle.every_size.proofs.fewest_places.Goals as goal
-
-pub loop-i-init : goal.loop-i-init
-loop-i-init c = record { turns = omega arith; first = refl }
 
 pub returns-then-serves : goal.returns-then-serves
 unfolding size_found

@@ -1,8 +1,6 @@
-use Prim.Native.Nat.{ℕ}
-use mathlib.Core.Path.{◌≡◌, sym, ap, ◌∙◌}
+use mathlib.Core.Path.{sym}
 use native.Mathlib.Omega.{arith}
-use lib.ListN.{length, drop}
-use Rattle.every_size.specs.Sizes.{largest}
+use lib.ListN.{length}
 use Rattle.every_size.proofs.Sizes.{largest_back, largest_end}
 use Rattle.every_size.proofs.largest.Goals as goal
 
@@ -26,15 +24,3 @@ loop-i-preserved c =
       turns = omega arith;
       is = omega (arith, q.invariant.is, c.size-n.ensures, c.if-most-n.false, largest_back w q.i c.loop-i-test.true q.invariant.turns);
     }
-
-pub returns : goal.returns
-returns c =
-    let q = c.loop-i in
-    let none : q.i ≡ 0 = omega (arith, c.loop-i-test.false) in
-    q.invariant.is ∙ ap (λ (i : ℕ). largest (drop i c.args.wants.now)) none
-
-pub loop-i-smaller-then-most-n : goal.loop-i-smaller-then-most-n
-loop-i-smaller-then-most-n c = omega arith
-
-pub loop-i-smaller : goal.loop-i-smaller
-loop-i-smaller c = omega arith

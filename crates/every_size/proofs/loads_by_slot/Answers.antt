@@ -21,27 +21,15 @@ loop-i-init c =
       walking = walking_start _ _ (λ k l. get_or-replicate {A = ℕ} 64 k 64 0 l) refl;
     }
 
-pub bounds-laters-i : goal.bounds-laters-i
-bounds-laters-i c = omega (arith, c.loop-i-test.true, c.requires)
-
-pub slice_bounds-step-end-in-loop-i : goal.slice_bounds-step-end-in-loop-i
-slice_bounds-step-end-in-loop-i c = sym c.loop-i.invariant.long_slots
-
-pub slice_bounds-step-end-in-loop-i-2 : goal.slice_bounds-step-end-in-loop-i-2
-slice_bounds-step-end-in-loop-i-2 c = sym c.loop-i.invariant.long_loads
-
-pub step-requires : goal.step-requires
-step-requires c =
+pub step-requires-clause-used_value : goal.step-requires-clause-used_value
+step-requires-clause-used_value c =
     let i = c.loop-i.invariant in
     let more = c.loop-i-test.true in
     let w = c.args.wants.now in
-    let wide = c.type_inv.wants c.loop-i.i in record {
-      in_bounds = (omega (arith, i.long_slots), omega (arith, i.long_loads));
-      used_value = (
-        i.ahead c.loop-i.i more ∙ ap together (sym (part_to_end w (c.loop-i.i + 1))),
-        (i.walking.slotted.most, omega (arith, i.walking.few, more, c.requires, size_le 64 (get_or w c.loop-i.i 0) (omega (arith, wide)))),
-      );
-    }
+    let wide = c.type_inv.wants c.loop-i.i in (
+      i.ahead c.loop-i.i more ∙ ap together (sym (part_to_end w (c.loop-i.i + 1))),
+      (i.walking.slotted.most, omega (arith, i.walking.few, more, c.requires, size_le 64 (get_or w c.loop-i.i 0) (omega (arith, wide)))),
+    )
 
 pub loop-i-preserved : goal.loop-i-preserved
 loop-i-preserved c =
@@ -63,10 +51,5 @@ loop-i-preserved c =
           (st.ensures.loaded i.walking.hold s) st.ensures.more);
     }
 
-pub returns : goal.returns
-returns c =
-    let q = c.loop-i in
-    record { by_index = walking_end q.invariant.walking c.loop-i-test.false; result_bound = omega (arith, q.invariant.walking.few, q.invariant.turns, c.requires) }
-
-pub slice_bounds-write_later-end : goal.slice_bounds-write_later-end
-slice_bounds-write_later-end c = refl
+pub returns-clause-by_index : goal.returns-clause-by_index
+returns-clause-by_index c = walking_end c.loop-i.invariant.walking c.loop-i-test.false

@@ -5,7 +5,6 @@ use borrow.Author.Rules.{rules}
 use lib.ListN.{length-set}
 use Rattle.bitset.specs.Set.{◌∪◌, ◌∖◌}
 use Rattle.bitset.proofs.Bits.{bit-∪, bit-∖, bit_empty, same_by_bits}
-use Rattle.bitset.proofs.Element.{lowest_lt}
 use Rattle.drive.proofs.Walk.{walk_start, walk_on, walk_size}
 use Rattle.every_size.proofs.Places.{place_next}
 use Rattle.every_size.proofs.place_group.Goals.{After-lowest-c}
@@ -30,23 +29,6 @@ loop-left-init c =
 
 some_left : (c : After-lowest-c) → 0 < c.loop-left.left
 some_left c = omega (arith, c.loop-left-test.true)
-
-small : (c : After-lowest-c) → c.lowest-c.result < 64
-small c =
-    let the_some_left : 0 < c.loop-left.left = omega (arith, c.loop-left-test.true) in
-    let q = c.loop-left in rw c.lowest-c.ensures (lowest_lt 64 q.left (the_some_left) q.invariant.range)
-
-pub offset_bounds-slots-c : goal.offset_bounds-slots-c
-offset_bounds-slots-c c = omega (arith, small (goal.at.offset_bounds-slots-c c).After-lowest-c)
-
-pub bounds-slots-c : goal.bounds-slots-c
-bounds-slots-c c = omega (arith, small (goal.at.bounds-slots-c c).After-lowest-c, c.loop-left.invariant.long, c.requires)
-
-pub offset_bounds-slots-c-in-loop-left : goal.offset_bounds-slots-c-in-loop-left
-offset_bounds-slots-c-in-loop-left c = omega (arith, small (goal.at.offset_bounds-slots-c-in-loop-left c).After-lowest-c)
-
-pub bounds-slots-c-in-loop-left : goal.bounds-slots-c-in-loop-left
-bounds-slots-c-in-loop-left c = omega (arith, small (goal.at.bounds-slots-c-in-loop-left c).After-lowest-c, c.loop-left.invariant.long, c.requires)
 
 pub loop-left-smaller : goal.loop-left-smaller
 loop-left-smaller c =
@@ -75,9 +57,6 @@ loop-left-preserved c =
           (place_next wait next i.walked (some_left (goal.at.loop-left-preserved c).After-lowest-c) i.range i.vacant_range (omega (arith, i.long, c.requires))
           (i.places hold w' seen others placed ws before wait next at));
     }
-
-pub shape_of-slots : goal.shape_of-slots
-shape_of-slots c = c.loop-left.invariant.long
 
 pub returns : goal.returns
 returns c =

@@ -45,9 +45,6 @@ offset_bounds-later-k c = let h = within (goal.at.offset_bounds-later-k c).In-lo
 pub bounds-later-k : goal.bounds-later-k
 bounds-later-k c = within (goal.at.bounds-later-k c).In-loop-left
 
-pub place_group-free-requires : goal.place_group-free-requires
-place_group-free-requires c = omega (arith, c.loop-left.invariant.long, c.requires.1)
-
 pub overflow_add-k : goal.overflow_add-k
 overflow_add-k c = omega (arith, within (goal.at.overflow_add-k c).In-loop-left, c.well_formed)
 
@@ -69,9 +66,6 @@ loop-left-preserved c =
           λ hold w seen e wait. rw (← (placed_next at c.requires.0 (within (goal.at.loop-left-preserved c).In-loop-left) hit.ensures))
           (p.ensures hold w seen c.args.others (c.args.others ∖ q.left) c.args.later.now _ wait none (q.invariant.places hold w seen e wait));
     }
-
-pub shape_of-slots : goal.shape_of-slots
-shape_of-slots c = c.loop-left.invariant.long
 
 pub returns : goal.returns
 returns c =
