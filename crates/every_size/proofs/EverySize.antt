@@ -1,14 +1,12 @@
 -- The walk along a list for every drive size: behind each step the slots say what each drive holds, and the loads so far with those to come are the single
 -- plan's.
-use mathlib.Core.Path.{◌≡◌, refl, sym, ap, ◌∙◌}
-use mathlib.Core.List.{List, [], ◌∷◌}
-use Prim.Native.Nat.{ℕ, zero, suc, ◌+◌, ◌-◌, ◌*◌, ◌^◌, ◌≤◌, ◌<◌, min}
+use mathlib.Core.Path.{◌≡◌, refl, ◌∙◌}
+use mathlib.Core.List.{List, ◌∷◌}
+use Prim.Native.Nat.{ℕ, zero, suc, ◌+◌, ◌*◌, ◌^◌, ◌≤◌, ◌<◌}
 use native.Mathlib.Omega.{arith}
 use native.Mathlib.Decide.{dec_le}
-use native.Mathlib.Numerals.{add-one}
-use lib.ListN.{length, get_or, drop, replicate, length-replicate, get_or-replicate, get_or-eq_default, drop_of_length-le}
-use lib.Seq.{drop-cons}
-use Rattle.bitset.specs.Set.{◌∪◌, ◌∖◌, size, bit}
+use lib.ListN.{length, get_or, drop, replicate, get_or-eq_default, drop_of_length-le}
+use Rattle.bitset.specs.Set.{◌∪◌, ◌∖◌, size}
 use Rattle.bitset.proofs.Bits.{bit_empty}
 use Rattle.bitset.proofs.Laws.{size_le}
 use Rattle.drive.specs.Steps.{curve_count, load_count}

@@ -3,11 +3,11 @@ use mathlib.Core.Path.{◌≡◌, refl, sym, ap, ◌∙◌}
 use mathlib.Core.List.{List, [], ◌∷◌}
 use Prim.Native.Nat.{ℕ, zero, suc, ◌+◌, ◌-◌, ◌^◌, ◌≤◌, ◌<◌, min}
 use native.Mathlib.Omega.{arith}
-use native.Mathlib.Decide.{ℕ_discrete, dec_le}
+use native.Mathlib.Decide.{ℕ_discrete}
 use lib.ListN.{length, get_or, drop, set}
 use lib.Seq.{get_or-set_same, get_or-set_other}
 use Rattle.bitset.specs.Set.{◌∩◌, ◌∖◌, size, bit}
-use Rattle.bitset.proofs.Bits.{bitwise, bit-∩, bit-∖, bit_single, bit_other, bit_empty, same_by_bits, size_empty, sizes_eq}
+use Rattle.bitset.proofs.Bits.{bitwise, bit-∖, bit_other, bit_empty, same_by_bits, size_empty, sizes_eq}
 use Rattle.bitset.proofs.Parts.{◌≼◌, single-≼, size_single_of, rest_same}
 use Rattle.every_size.specs.ContractWords.{sum, holds_at}
 

@@ -1,15 +1,14 @@
 -- The others get their slots, those with the soonest next use first; and one step of the walk for all drive sizes.
 use mathlib.Core.Path.{◌≡◌, refl, sym, ap, ◌∙◌, subst}
-use mathlib.Core.Logic.{◌⊎◌, inl, inr, ⊎_elim}
+use mathlib.Core.Logic.{◌⊎◌, inl, inr}
 use mathlib.Core.List.{List, [], ◌∷◌}
 use Prim.Native.Nat.{ℕ, zero, suc, ◌+◌, ◌-◌, ◌%◌, ◌^◌, ◌≤◌, ◌<◌, min}
 use native.Mathlib.Omega.{arith}
 use native.Mathlib.Decide.{ℕ_discrete, dec_le}
-use native.Mathlib.Numerals.{add-one}
 use lib.Count.{count_trailing_zeros, ones-ones}
 use lib.ListN.{length, get_or, drop, set}
 use Rattle.bitset.specs.Set.{◌∩◌, ◌∪◌, ◌∖◌, size, bit, below}
-use Rattle.bitset.proofs.Bits.{bitwise, bit-∩, bit-∪, bit-∖, bit_empty, bit_single, bit_other, same_by_bits, size_empty, sizes_eq}
+use Rattle.bitset.proofs.Bits.{bitwise, bit-∩, bit-∪, bit-∖, bit_empty, bit_other, same_by_bits, sizes_eq}
 use Rattle.bitset.proofs.Element.{∈-lt, lowest_le, lowest_in, shl_some, shl_none}
 use Rattle.bitset.proofs.Parts.{◌≼◌, bit_below, single-≼, in_range}
 use Rattle.drive.specs.declared.choice.NextUse.{NextUse}

@@ -11,19 +11,19 @@ use mathlib.Core.List.{List, [], ◌∷◌}
 use Prim.Native.Nat.{ℕ, zero, suc, ◌+◌, ◌-◌, ◌^◌, ◌≤◌, ◌<◌, min}
 use native.Mathlib.Omega.{arith}
 use native.Mathlib.Decide.{ℕ_discrete, dec_le}
-use lib.Count.{count_trailing_zeros, trailing_of_zero, trailing_le, ones-ones}
+use lib.Count.{count_trailing_zeros, trailing_of_zero, trailing_le}
 use lib.ListN.{length, get_or, set}
 use lib.Seq.{get_or-set_same, get_or-set_other}
 use Rattle.bitset.specs.Set.{◌∩◌, ◌∪◌, ◌∖◌, size, bit, below}
-use Rattle.bitset.proofs.Bits.{bitwise, bit-∩, bit-∪, bit-∖, bit_empty, bit_single, bit_other, bit_beyond, same_by_bits, size_empty, sizes_le, sizes_eq}
-use Rattle.bitset.proofs.Element.{size_remove, lowest_in, lowest_lt, lowest_least}
+use Rattle.bitset.proofs.Bits.{bitwise, bit-∩, bit-∪, bit-∖, bit_empty, bit_single, bit_other, same_by_bits, size_empty, sizes_le, sizes_eq}
+use Rattle.bitset.proofs.Element.{size_remove, lowest_in, lowest_least}
 use Rattle.bitset.proofs.Laws.{∖-lt}
 use Rattle.bitset.proofs.Parts.{◌≼◌, bit_below, size_single_of, single_apart, rest_same}
 use Rattle.drive.specs.declared.choice.NextUse.{NextUse}
 use Rattle.drive.specs.declared.choice.NextUse.TheVariants.{At, Never}
-use Rattle.drive.specs.Steps.{moved, together}
+use Rattle.drive.specs.Steps.{together}
 use Rattle.drive.specs.Uses.{next_use}
-use Rattle.drive.specs.Plan.{furthest, drops_for, next}
+use Rattle.drive.specs.Plan.{furthest, drops_for}
 use Rattle.drive.specs.ContractWords.{GoesBefore}
 use Rattle.every_size.specs.ContractWords.{holds_at, held_next, Waiting, Placing}
 use Rattle.drive.proofs.Groups.{together_never, together_used}

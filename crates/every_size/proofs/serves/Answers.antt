@@ -5,8 +5,7 @@ use Prim.Native.Nat.{ℕ}
 use lib.Dec.{leb}
 use borrow.Author.Tests.{ne_eqb, eq-eqb}
 use Rattle.every_size.specs.Sizes.{mark, serves}
-use Rattle.every_size.proofs.serves.Statement.{statement}
-use Rattle.every_size.proofs.serves.Tie as tie
+use Rattle.every_size.proofs.serves.Goals as goal
 
 marked : (loads entry : ℕ) → entry ≡ mark → false ≡ serves loads entry
 unfolding serves
@@ -16,11 +15,8 @@ unmarked : (loads entry : ℕ) → (entry ≡ mark → ⊥) → leb entry loads 
 unfolding serves
 unmarked loads entry e = rw (ne_eqb entry mark e) refl
 
-returns : tie.Need-returns
-returns c = marked c.before.args.loads _ c.if1.true
+pub returns-then-entry-eq-MARK : goal.returns-then-entry-eq-MARK
+returns-then-entry-eq-MARK c = marked c.args.loads _ c.if-entry-eq-MARK.true
 
-returns_2 : tie.Need-returns-2
-returns_2 c = unmarked c.before.args.loads _ c.if1.false
-
-pub serves_spec : {M : Type 1} → statement M
-serves_spec = tie.close (tie.spec returns returns_2)
+pub returns : goal.returns
+returns c = unmarked c.args.loads _ c.if-entry-eq-MARK.false
