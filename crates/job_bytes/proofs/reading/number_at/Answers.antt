@@ -12,7 +12,7 @@ unfolding read_number
 loop-k-init c = let z : c.args.width - c.args.width ≡ 0 = omega arith in rw z (omega arith, omega arith, refl)
 
 pub overflow_cast-value : goal.overflow_cast-value
-overflow_cast-value c = omega (arith, c.shared_slice_known-1.given (c.args.at + (c.loop-k.k - 1)))
+overflow_cast-value c = omega (arith, c.type_inv.job (c.args.at + (c.loop-k.k - 1)))
 
 pub overflow_mul-value : goal.overflow_mul-value
 overflow_mul-value c = let l : 8 * (c.args.width - c.loop-k.k) ≤ 56 = omega arith in omega (arith, pow_mono l)
@@ -20,7 +20,7 @@ overflow_mul-value c = let l : 8 * (c.args.width - c.loop-k.k) ≤ 56 = omega ar
 pub overflow_add-value-in-loop-k : goal.overflow_add-value-in-loop-k
 overflow_add-value-in-loop-k c =
     let l : 8 * (c.args.width - c.loop-k.k) ≤ 56 = omega arith in
-    omega (arith, pow_mono l, c.shared_slice_known-1.given (c.args.at + (c.loop-k.k - 1)))
+    omega (arith, pow_mono l, c.type_inv.job (c.args.at + (c.loop-k.k - 1)))
 
 pub loop-k-preserved : goal.loop-k-preserved
 loop-k-preserved c =
@@ -29,7 +29,7 @@ loop-k-preserved c =
     let i = a.at + (l.k - 1) in
     let w : a.width - (l.k - 1) ≡ suc (a.width - l.k) = omega arith in
     let n : a.at + l.k ≡ suc i = omega arith in
-    let v = byte_more (a.width - l.k) l.value (get_or a.job.now i 0) l.invariant.1 (omega (arith, c.shared_slice_known-1.given i)) in
+    let v = byte_more (a.width - l.k) l.value (get_or a.job.now i 0) l.invariant.1 (omega (arith, c.type_inv.job i)) in
     rw w (omega arith, v, number_more a.job.now (a.width - l.k) i l.value (a.at + a.width) (omega arith) (rw n at l.invariant.2))
 
 pub returns : goal.returns

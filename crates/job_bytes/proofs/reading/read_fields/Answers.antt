@@ -31,7 +31,7 @@ unfolding mapped count_outcome
 returns-then-job-eq0 c = head_none c.args.job.now c.if-job-eq0.true
 
 pub overflow_cast-map : goal.overflow_cast-map
-overflow_cast-map c = omega (arith, c.shared_slice_known-2-1.given 0)
+overflow_cast-map c = omega (arith, c.type_inv.job 0)
 
 pub returns-then-map-ge-MAPS : goal.returns-then-map-ge-MAPS
 unfolding mapped count_outcome
