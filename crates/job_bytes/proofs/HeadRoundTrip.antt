@@ -12,7 +12,7 @@ use lib.Pow.{pow-add}
 use lib.ListN.{length, get_or, length-append}
 use borrow.Author.Tests.{ltb-true, leb-true, lt-ltb, le-leb, eq-eqb, ne_eqb, not-true}
 use Rattle.job.specs.declared.Head.{Head}
-use Rattle.job.specs.Refusal.{done, refused, ◌>>=◌, ◌>>◌, demand}
+use Rattle.job.specs.Refusal.{done, ◌>>=◌, ◌>>◌, demand}
 use Rattle.job.specs.Handed.{between, booked_below}
 use Rattle.job.specs.Words.{IsMethod}
 use Rattle.job_bytes.specs.declared.fields.Field.{Field}

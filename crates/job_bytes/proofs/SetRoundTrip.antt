@@ -1,7 +1,7 @@
 -- A set of curves that is written reads back, and bytes that read as a set are those that are written for it.
 use mathlib.Core.Path.{◌≡◌, refl, sym, ap, ◌∙◌, subst}
 use mathlib.Core.List.{List, [], ◌∷◌, ◌++◌}
-use Prim.Native.Nat.{ℕ, zero, suc, ◌+◌, ◌-◌, ◌*◌, ◌/◌, ◌%◌, ◌^◌, ◌≤◌, ◌<◌}
+use Prim.Native.Nat.{ℕ, zero, suc, ◌+◌, ◌*◌, ◌/◌, ◌%◌, ◌^◌, ◌≤◌, ◌<◌}
 use native.Mathlib.Omega.{arith}
 use native.Mathlib.Nat.{add-mul, mul_assoc, mul_comm, mul-le-mul_right}
 use native.Mathlib.Decide.{dec_le}
@@ -12,7 +12,7 @@ use lib.ListN.{length}
 use borrow.Author.Tests.{ltb-true, lt-ltb}
 use Rattle.bitset.specs.Set.{◌∪◌, bit, inside}
 use Rattle.bitset.proofs.Bits.{bit_suc, bit_beyond, same_by_bits}
-use Rattle.job.specs.Refusal.{Outcome, done, refused, ◌>>=◌, ◌>>◌, demand}
+use Rattle.job.specs.Refusal.{Outcome, done, ◌>>=◌, ◌>>◌, demand}
 use Rattle.job.specs.Handed.{all_curves}
 pub use Rattle.job_bytes.specs.SetBytes.{Bytes}
 use Rattle.job_bytes.specs.SetBytes.{group_of, stands, group_bytes, group_map, Got, got, byte_at, read_group, read_groups}

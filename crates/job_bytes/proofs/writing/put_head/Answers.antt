@@ -1,0 +1,94 @@
+use mathlib.Core.Path.{refl, sym, ap, ◌∙◌}
+use Prim.Native.Nat.{◌+◌}
+use native.Mathlib.Omega.{arith}
+use lib.ListN.{length, get_or, length-set}
+use lib.Seq.{length-sets}
+use Rattle.job_bytes.specs.JobBytes.{number_bytes, head_bytes}
+use Rattle.job_bytes.proofs.Encoding.{sets_append}
+use Rattle.job_bytes.proofs.HeadRoundTrip.{fields_bytes}
+use Rattle.job_bytes.proofs.Heads.{rows}
+use Rattle.job_bytes.proofs.JobWritten.{number_length, bytes_from, absent_bytes, stands_bytes, stands_long, none, head_length}
+use Rattle.job_bytes.proofs.writing.put_head.Goals as goal
+
+pub bounds-out-0 : goal.bounds-out-0
+bounds-out-0 c = omega (arith, head_length c.args.values.now, c.requires.2)
+
+pub loop-j-init : goal.loop-j-init
+loop-j-init c =
+    record {
+      turns = omega arith;
+      long = refl;
+      fits = simp length-set
+          (omega (arith, head_length c.args.values.now, c.requires.2));
+      goes = refl;
+    }
+
+pub row-field-requires : goal.row-field-requires
+row-field-requires c = omega (arith, rows)
+
+pub offset_bounds-values-j : goal.offset_bounds-values-j
+offset_bounds-values-j c = omega (arith, rows)
+
+pub bounds-values-j : goal.bounds-values-j
+bounds-values-j c = omega (arith, rows)
+
+pub overflow_add-j : goal.overflow_add-j
+overflow_add-j c = omega (arith, rows)
+
+pub put_number-requires : goal.put_number-requires
+put_number-requires c =
+    let r = c.row-field in
+    let more = stands_long c.args.values.now c.loop-j.j r.result r.ensures.0 (omega (arith, rows))
+    c.if-value-field.true in
+    omega (arith, c.loop-j.invariant.long, c.loop-j.invariant.fits)
+
+pub overflow_add-at : goal.overflow_add-at
+overflow_add-at c =
+    let a = c.args in
+    omega (arith, c.row-field.ensures.1, c.loop-j.invariant.fits, length-set a.out.now 0 a.map)
+
+pub loop-j-smaller-then-value-field : goal.loop-j-smaller-then-value-field
+loop-j-smaller-then-value-field c = omega (arith, rows)
+
+pub loop-j-preserved-then-value-field : goal.loop-j-preserved-then-value-field
+loop-j-preserved-then-value-field c =
+    let l = c.loop-j in
+    let vs = c.args.values.now in
+    let r = c.row-field in
+    let v = get_or vs l.j 0 in
+    let w = r.result.width in
+    let stands = c.if-value-field.true in
+    let e = c.put_number.ensures in
+    let more = stands_long vs l.j r.result r.ensures.0 (omega (arith, rows)) stands in
+    let next = ap (lib.Seq.sets l.out l.at) (stands_bytes vs l.j r.result r.ensures.0 (omega (arith, rows)) stands) in
+    record {
+      turns = omega (arith, rows);
+      long = ap length e ∙ length-sets l.out l.at (number_bytes w v) ∙ l.invariant.long;
+      fits = omega (arith, l.invariant.fits);
+      goes = rw e (l.invariant.goes ∙ next ∙ sets_append (number_bytes w v) l.out (bytes_from vs (l.j + 1)) l.at ∙ rw (number_length w v) refl);
+    }
+
+pub loop-j-smaller : goal.loop-j-smaller
+loop-j-smaller c = omega (arith, rows)
+
+pub loop-j-preserved : goal.loop-j-preserved
+loop-j-preserved c =
+    let l = c.loop-j in
+    let r = c.row-field in
+    let same = absent_bytes c.args.values.now l.j r.result r.ensures.0 (omega (arith, rows)) c.if-value-field.false in
+    record {
+      turns = omega (arith, rows);
+      long = l.invariant.long;
+      fits = omega (arith, l.invariant.fits, ap length same);
+      goes = l.invariant.goes ∙ ap (lib.Seq.sets l.out l.at) same;
+    }
+
+pub shape_of-out : goal.shape_of-out
+shape_of-out c = c.loop-j.invariant.long ∙ simp length-set
+
+pub returns : goal.returns
+unfolding head_bytes fields_bytes
+returns c =
+    let l = c.loop-j in
+    let end = (none c.args.values.now l.j (rw rows c.loop-j-test.false)).1 in
+    rw c.requires.1 at (sym (l.invariant.goes ∙ ap (lib.Seq.sets l.out l.at) end))

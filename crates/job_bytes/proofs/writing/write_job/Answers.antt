@@ -1,0 +1,98 @@
+-- `job_bytes::writing::write_job` meets its contract: the bytes stand in a buffer of its own before their number is asked for.
+use mathlib.Core.Path.{◌≡◌, sym, ap, ◌∙◌}
+use mathlib.Core.List.{List}
+use Prim.Native.Nat.{ℕ, ◌≤◌, ◌+◌}
+use native.Mathlib.Omega.{arith}
+use lib.ListN.{length, take}
+use lib.Seq.{length-take-le}
+use Rattle.job.specs.Refusal.{done, count_outcome}
+use Rattle.job.specs.Words.{job_of}
+use Rattle.job.specs.Handed.{job_known_by}
+use Rattle.job_bytes.specs.JobBytes.{request, job_bytes}
+use Rattle.job.proofs.Examination.{examined_passed, examined_refused}
+use Rattle.job.proofs.JobExact.{job_by_exact}
+use Rattle.job_bytes.proofs.Encoding.{put, put_fits, own_bytes, own_fits}
+use Rattle.job_bytes.proofs.Heads.{rows}
+use Rattle.job_bytes.proofs.JobWritten.{records_le, job_length, job_sets, job_unknown, job_large, job_wrote}
+use Rattle.job_bytes.proofs.writing.write_job.Goals.{After-put_records-needed, In_default}
+use Rattle.job_bytes.proofs.writing.write_job.Goals as goal
+
+known : (c : In_default) → let a =
+    c.args in job_known_by a.method (job_of a.rig a.wants.now) ≡ done tt
+known c = examined_passed c.examine_job.result _ c.in_default.is c.examine_job.ensures
+
+few : (c : In_default) → length c.args.wants.now ≤ 256
+few c =
+    let the_known : let a =
+    c.args in job_known_by a.method (job_of a.rig a.wants.now) ≡ done tt = examined_passed c.examine_job.result _ c.in_default.is c.examine_job.ensures in
+    let a = c.args in ((job_by_exact (job_of a.rig a.wants.now) a.method).0 (the_known)).0.tests_bound
+
+pub returns-in-Refused : goal.returns-in-Refused
+unfolding count_outcome
+returns-in-Refused c =
+    let a = c.args in
+    let x = c.examine_job in
+    let both =
+    job_unknown a.method (job_of a.rig a.wants.now) a.out.now _ _ (examined_refused x.result _ _ c.in-Refused.is x.ensures) in
+    record { answer = both.0; lent = both.1 }
+
+pub head_shape-head-requires : goal.head_shape-head-requires
+head_shape-head-requires c = sym rows
+
+pub put_head-requires : goal.put_head-requires
+put_head-requires c = let e = c.head_shape-head.ensures in (sym rows, e.map, omega (arith, rows, e.len.0, e.len.1))
+
+pub put_records-needed-requires : goal.put_records-needed-requires
+put_records-needed-requires c =
+    omega (arith, rows, c.head_shape-head.ensures.len.1, few (goal.at.put_records-needed-requires c).In_default, c.put_head.auto.out)
+
+-- the buffer of its own has the bytes of the job in front
+abbrev bytes : After-put_records-needed → List ℕ
+bytes c = let a = c.args in job_bytes (request a.method (job_of a.rig a.wants.now))
+
+own : (c : After-put_records-needed) → let p = c.put_records-needed in
+    (p.result ≡ length (bytes c)) × (p.result ≤ length p.new.out) × (take p.result p.new.out ≡ bytes c)
+own c =
+    let the_few : length c.args.wants.now ≤ 256 = let the_known : let a =
+    c.args in job_known_by a.method (job_of a.rig a.wants.now) ≡ done tt = examined_passed c.examine_job.result _ c.in_default.is c.examine_job.ensures in
+    let a = c.args in ((job_by_exact (job_of a.rig a.wants.now) a.method).0 (the_known)).0.tests_bound in
+    let p = c.put_records-needed.ensures in
+    let a = c.args in
+    let q = request a.method (job_of a.rig a.wants.now) in
+    let n : c.put_records-needed.result ≡ length (bytes c) = omega (arith, p.end, c.head_shape-head.ensures.len.0, job_length q) in
+    let m : length (bytes c) ≤ 2345 =
+    omega (arith, rows, c.head_shape-head.ensures.len.0, c.head_shape-head.ensures.len.1, job_length q, records_le a.wants.now, the_few) in
+    let s = job_sets q _ _ _ c.head_shape-head.result.len c.head_shape-head.ensures.len.0 c.put_head.ensures p.bytes in
+    let z : c.put_records-needed.result ≡ 0 + length (bytes c) = omega arith in
+    (n, own_fits (bytes c) _ _ _ z s (omega arith), own_bytes (bytes c) _ _ _ z s (omega arith))
+
+pub returns-then-out-needed : goal.returns-then-out-needed
+unfolding count_outcome
+returns-then-out-needed c =
+    let a = c.args in
+    let at = goal.at.returns-then-out-needed c in
+    let e = (own at.After-put_records-needed).0 in
+    let both = rw (← e) at
+    (job_large a.method (job_of a.rig a.wants.now) a.out.now (known at.In_default) (omega (arith, e, c.if-out-needed.true))) in
+    record { answer = both.0; lent = both.1 }
+
+pub slice_bounds-bytes-end : goal.slice_bounds-bytes-end
+slice_bounds-bytes-end c = (own (goal.at.slice_bounds-bytes-end c).After-put_records-needed).1
+
+pub slice_bounds-put_front-end : goal.slice_bounds-put_front-end
+slice_bounds-put_front-end c = sym (length-take-le _ _ (own (goal.at.slice_bounds-put_front-end c).After-put_records-needed).1)
+
+pub returns : goal.returns
+unfolding count_outcome
+returns c =
+    let a = c.args in
+    let old = a.out.now in
+    let at = goal.at.returns c in
+    let p = at.After-put_records-needed in
+    let o = own p in
+    let h : length (bytes p) ≤ length old = omega (arith, o.0, c.if-out-needed.false) in
+    let w = job_wrote a.method (job_of a.rig a.wants.now) old (known at.In_default) h in
+    record {
+      answer = rw o.0 w.0;
+      lent = c.put_front.ensures ∙ ap (λ (x : List ℕ). put x old) o.2 ∙ put_fits (bytes p) old h ∙ w.1;
+    }
