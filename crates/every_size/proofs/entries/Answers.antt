@@ -27,10 +27,10 @@ loop-p-preserved c =
     elim c.if-most-p.branch [
       | then-most-p w ↦ record {
         few = omega (arith, q.invariant.few);
-        entered = rw w.counts-is (entered_count q.invariant.entered pos q.invariant.few long (le-leb _ _ w.if-most-p.true));
+        entered = rw w.counts-is (entered_count q.invariant.entered pos q.invariant.few long (le-leb c.args.most q.p (omega (arith, w.if-most-p.true))));
       }
       | else-most-p w ↦ record {
         few = omega (arith, q.invariant.few);
-        entered = rw w.counts-is (entered_mark q.invariant.entered pos q.invariant.few long (lt-leb _ _ w.if-most-p.false));
+        entered = rw w.counts-is (entered_mark q.invariant.entered pos q.invariant.few long (lt-leb c.args.most q.p (omega (arith, w.if-most-p.false))));
       }
     ]
