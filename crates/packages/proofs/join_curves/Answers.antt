@@ -1,0 +1,70 @@
+-- `packages::join_curves` meets its contract.
+use mathlib.Core.Path.{◌≡◌, sym, ap, ◌∙◌}
+use mathlib.Core.List.{List, map}
+use Prim.Native.Nat.{ℕ, ◌-◌}
+use native.Mathlib.Omega.{arith}
+use lib.Seq.{length-take-le}
+use lib.ListN.{length, take, length-map}
+use Rattle.bitset.specs.Set.{size}
+use Rattle.packages.specs.ContractWords.{joined_entry, joined_curves}
+use Rattle.packages.proofs.Counts.{sizes_long, sizes_joined}
+use Rattle.packages.proofs.join_curves.Goals.{After-join_entry-2}
+use Rattle.packages.proofs.join_curves.Goals as goal
+
+-- the curves and the sizes after the join
+module _ (c : After-join_entry-2) where
+  abbrev left : ℕ
+  left = length c.args.curves.now - 1
+
+  abbrev sets : List ℕ
+  sets = take left c.join_entry.new.xs
+
+  made : let a = c.args in sets ≡ joined_curves a.curves.now a.first a.second
+  made =
+      let a = c.args in
+      c.join_entry.ensures ∙ ap (joined_entry a.curves.now a.first a.second) c.union-joined.ensures
+
+  sized : take left c.join_entry-2.new.xs ≡ map size sets
+  sized =
+      let a = c.args in
+      let j = c.join_entry-2 in
+      sizes_joined a.curves.now a.sizes.now c.requires.sized_2.2 a.first a.second _ _ sets j.new.xs
+      c.size.ensures c.join_entry.ensures j.ensures
+
+  long : length sets ≡ left
+  long = length-take-le left c.join_entry.new.xs (omega (arith, c.join_entry.auto.xs))
+
+pub join_entry-requires-2 : goal.join_entry-requires-2
+join_entry-requires-2 c =
+    let e = sizes_long c.args.curves.now c.args.sizes.now c.requires.sized_2.2 in
+    (omega (arith, e, c.requires.first_lt_second), omega (arith, e, c.requires.first_lt_second))
+
+pub slice_bounds-renew_ratings-end-2 : goal.slice_bounds-renew_ratings-end-2
+slice_bounds-renew_ratings-end-2 c = sym (long (goal.at.slice_bounds-renew_ratings-end-2 c).After-join_entry-2)
+
+pub slice_bounds-renew_ratings-end-3 : goal.slice_bounds-renew_ratings-end-3
+slice_bounds-renew_ratings-end-3 c =
+    omega (arith, c.join_entry-2.auto.xs, sizes_long c.args.curves.now c.args.sizes.now c.requires.sized_2.2)
+
+pub slice_bounds-renew_ratings-end-4 : goal.slice_bounds-renew_ratings-end-4
+slice_bounds-renew_ratings-end-4 c =
+    let k = (goal.at.slice_bounds-renew_ratings-end-4 c).After-join_entry-2 in
+    sym (ap length (sized k) ∙ length-map (sets k) size ∙ long k)
+
+pub renew_ratings-requires : goal.renew_ratings-requires
+renew_ratings-requires c =
+    let k = (goal.at.renew_ratings-requires c).After-join_entry-2 in
+    let p = c.requires in
+    let e = long k in
+    record {
+      first_lt_second = (p.first_lt_second.0, omega (arith, e, p.first_lt_second), omega (arith, e, p.first_lt_second));
+      sized = (omega (arith, e, p.sized_2.0), omega (arith, e, p.sized_2.1), sized k);
+    }
+
+pub returns : goal.returns
+returns c =
+    let k = (goal.at.returns c).After-join_entry-2 in
+    let p = c.requires in
+    let e = long k in
+    let rated = c.renew_ratings.ensures c.args.curves.now (omega (arith, e, p.first_lt_second)) (made k) p.all_rated in
+    record { sets = made k; sized = sized k; rated = λ i h. rated i (omega (arith, e)) }
