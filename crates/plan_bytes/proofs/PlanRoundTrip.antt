@@ -2,7 +2,7 @@
 use mathlib.Core.Path.{◌≡◌, refl, sym, ap, ◌∙◌, subst}
 use mathlib.Core.Bool.{◌&&◌}
 use mathlib.Core.List.{List, [], ◌∷◌, ◌++◌, map, append_assoc, append-nil}
-use Prim.Native.Nat.{ℕ, zero, suc, ◌+◌, ◌-◌, ◌*◌, ◌/◌, ◌%◌, ◌^◌, ◌≤◌, ◌<◌}
+use Prim.Native.Nat.{ℕ, zero, suc, ◌+◌, ◌*◌, ◌/◌, ◌%◌, ◌^◌, ◌≤◌, ◌<◌}
 use native.Mathlib.Omega.{arith}
 use lib.Dec.{leb, ltb, eqb}
 use lib.Pow.{pow-add, pow_mono}
@@ -22,7 +22,7 @@ use Rattle.bitset.proofs.Parts.{◌≼◌, ≼-inside, in_range as set-in-range}
 use Rattle.job.proofs.JobExact.{inside_below, job_counts}
 use Rattle.job.specs.Words.{Job, capacity, count}
 use Rattle.job.proofs.Orders.{one_same, order_length}
-use Rattle.drive.specs.Steps.{held_after, moves}
+use Rattle.drive.specs.Steps.{held_after, moved, moves}
 use Rattle.drive.proofs.CheckExact.{AllKept, first_kept, moved-≼, held-≼}
 use Rattle.planning.specs.Plan.{Plan, steps, in_order}
 use Rattle.planning.specs.Planning.{plan_sets, checking}
@@ -137,7 +137,7 @@ module _ (curves tests : ℕ) (few : curves ≤ 64) where
   of_tests i [] (d ∷ ds) ls r = absurd r
   of_tests i (t ∷ ts) [] ls r = absurd r
   of_tests i (t ∷ ts) (d ∷ ds) [] r = absurd r
-  of_tests i (t ∷ ts) (d ∷ ds) (l ∷ ls) r = ap {B = List ℕ} (λ x. t ∷ x) (of_tests _ ts ds ls r.3)
+  of_tests i (t ∷ ts) (d ∷ ds) (l ∷ ls) r = ap {B = List ℕ} (λ x. t ∷ x) (of_tests (i + length (step_bytes (one t d l))) ts ds ls r.3)
 
   of_drops : (i : ℕ) (ts ds ls : List ℕ) → InRange ts ds ls → map (λ s. s.step.drops) (steps_of i ts ds ls) ≡ ds
   unfolding steps_of
@@ -146,7 +146,7 @@ module _ (curves tests : ℕ) (few : curves ≤ 64) where
   of_drops i [] (d ∷ ds) ls r = absurd r
   of_drops i (t ∷ ts) [] ls r = absurd r
   of_drops i (t ∷ ts) (d ∷ ds) [] r = absurd r
-  of_drops i (t ∷ ts) (d ∷ ds) (l ∷ ls) r = ap {B = List ℕ} (λ x. d ∷ x) (of_drops _ ts ds ls r.3)
+  of_drops i (t ∷ ts) (d ∷ ds) (l ∷ ls) r = ap {B = List ℕ} (λ x. d ∷ x) (of_drops (i + length (step_bytes (one t d l))) ts ds ls r.3)
 
   of_loads : (i : ℕ) (ts ds ls : List ℕ) → InRange ts ds ls → map (λ s. s.step.loads) (steps_of i ts ds ls) ≡ ls
   unfolding steps_of
@@ -155,7 +155,7 @@ module _ (curves tests : ℕ) (few : curves ≤ 64) where
   of_loads i [] (d ∷ ds) ls r = absurd r
   of_loads i (t ∷ ts) [] ls r = absurd r
   of_loads i (t ∷ ts) (d ∷ ds) [] r = absurd r
-  of_loads i (t ∷ ts) (d ∷ ds) (l ∷ ls) r = ap {B = List ℕ} (λ x. l ∷ x) (of_loads _ ts ds ls r.3)
+  of_loads i (t ∷ ts) (d ∷ ds) (l ∷ ls) r = ap {B = List ℕ} (λ x. l ∷ x) (of_loads (i + length (step_bytes (one t d l))) ts ds ls r.3)
 
   end_back : (i s : ℕ) → s < 2 ^ curves → read_end curves tests i (end_bytes s) ≡ done s
   unfolding read_end end_bytes demand at_end ◌>>=◌ ◌>>◌
@@ -205,7 +205,7 @@ module _ (places curves : ℕ) (wants : List ℕ) where
         test (dec_le (length wants) t),
         below d (λ c. omega (arith, k.0.drops c, s c)),
         below l k.0.known,
-        in_range few _ ts ds ls (omega arith) (omega arith) (moved-≼ h (record { drops = d; loads = l }) (all_curves curves) s k.0.known)
+        in_range few (moved h (record { drops = d; loads = l })) ts ds ls (omega arith) (omega arith) (moved-≼ h (record { drops = d; loads = l }) (all_curves curves) s k.0.known)
             (λ u e. omega (arith, own u e)) k.1,
       )
     where

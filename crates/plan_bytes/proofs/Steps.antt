@@ -6,7 +6,7 @@ use Prim.Native.Nat.{ℕ, suc, ◌+◌, ◌-◌, ◌≤◌, ◌<◌}
 use native.Mathlib.Omega.{arith}
 use lib.ListN.{length, get_or, drop, set, length-set, length-map, length-append}
 use lib.Seq.{drop-cons, set_at}
-use Rattle.job.specs.Refusal.{Outcome, done, refused, ◌>>=◌, ◌>>◌, mapped, leaves, overwritten}
+use Rattle.job.specs.Refusal.{Outcome, done, refused, ◌>>=◌, mapped, leaves, overwritten}
 use Rattle.job_bytes.specs.SetBytes.{got}
 use Rattle.job.specs.Handed.{counts_known}
 use Rattle.job.proofs.Laws.{refused≢done, done_same, mapped_done, bind_done, done_both}

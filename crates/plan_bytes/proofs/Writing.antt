@@ -6,7 +6,7 @@ use native.Mathlib.Omega.{arith}
 use native.Mathlib.Numerals.{add-one}
 use lib.ListN.{length, get_or, drop, set, length-append, drop_of_length-le}
 use lib.Seq.{sets, drop-cons}
-use Rattle.job.specs.Refusal.{Outcome, done, refused, ◌>>=◌, ◌>>◌, fitting}
+use Rattle.job.specs.Refusal.{Outcome, done, refused, ◌>>=◌, fitting}
 use Rattle.job_bytes.specs.SetBytes.{stands, set_bytes}
 use Rattle.job.proofs.Laws.{both_done, done_both}
 use Rattle.job.proofs.Examination.{refused_both, few_tests, tests_few}

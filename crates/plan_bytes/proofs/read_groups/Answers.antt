@@ -1,0 +1,44 @@
+use mathlib.Core.Path.{◌≡◌, refl, sym, subst, ◌∙◌}
+use native.Mathlib.Omega.{arith}
+use lib.ListN.{length}
+use Rattle.bitset.specs.Set.{bit}
+use Rattle.job_bytes.proofs.GroupByte.{Answers}
+use Rattle.job_bytes.proofs.Turns.{groups_end}
+use Rattle.plan_bytes.specs.ContractWords.{set_outcome}
+use Rattle.plan_bytes.proofs.Reading.{group_read, group_faulty}
+use Rattle.plan_bytes.proofs.read_groups.Goals as goal
+
+pub loop-j-init : goal.loop-j-init
+loop-j-init c = (omega arith, c.requires.1, refl)
+
+pub overflow_add-next : goal.overflow_add-next
+overflow_add-next c = let u = c.loop-j.invariant.1 in omega arith
+
+pub returns-in_default : goal.returns-in_default
+unfolding set_outcome
+returns-in_default c =
+    let l = c.loop-j in
+    let a = c.args in
+    sym (l.invariant.2
+    ∙ group_faulty a.curves a.groups l.set l.next l.j a.plan.now c.requires.0 c.loop-j-test.true
+    c.read_due.result
+    c.in_default.not-Curves
+    c.read_due.ensures)
+
+pub loop-j-preserved : goal.loop-j-preserved
+loop-j-preserved c =
+    let l = c.loop-j in
+    let a = c.args in
+    let f = subst (Answers a.plan.now l.next (bit l.j a.groups) l.j a.curves) c.in-Curves.is
+    c.read_due.ensures in
+    let h = c.loop-j-test.true in
+    let t = group_read a.curves a.groups l.set l.next l.j a.plan.now c.requires.0 h c.in-Curves.group l.invariant.1 f in
+    (omega arith, t.0, l.invariant.2 ∙ t.1)
+
+pub returns : goal.returns
+unfolding set_outcome
+returns c =
+    let l = c.loop-j in
+    let a = c.args in
+    let e : l.j ≡ 8 = omega arith in
+    sym (l.invariant.2 ∙ rw e (groups_end 11 11 11 a.curves a.groups l.set l.next (lib.ListN.drop l.next a.plan.now)))
