@@ -28,8 +28,7 @@ fn job_to_plan(job: &[u8], plan: &mut [u8]) -> Counted
 
 // "one call takes the job's bytes and fills the plan's bytes. It answers one number: the count of plan bytes, or on a refusal its number × 65,536 plus its
 // figure."
-#[unsafe(no_mangle)]
-pub extern "C" fn curveplan_plan(job: &[u8], plan: &mut [u8]) -> u64
+pub fn curveplan_plan(job: &[u8], plan: &mut [u8]) -> u64
     ensures answer { result ≡ call_answer job.now plan.old }
     ensures bytes { plan.new ≡ call_plan job.now plan.old }
 {
