@@ -11,7 +11,7 @@ use Rattle.job.specs.declared.Examined.{Examined}
 use Rattle.job.specs.declared.Head.{Head}
 use Rattle.job.specs.declared.JobRead.{JobRead}
 use Rattle.job.specs.declared.Refusal.{Refusal}
-use Rattle.job.specs.Refusal.{Outcome, done, refused, number, figure, read_outcome, examined_outcome, ◌>>=◌, ◌>>◌, mapped}
+use Rattle.job.specs.Refusal.{Outcome, done, refused, number, figure, read_outcome, examined_outcome, ◌>>=◌, mapped}
 use Rattle.job.proofs.Laws.{refused≢done, done_same, bind_done, mapped_done, mapped_refused, done_mapped, refused_mapped, read_done, read_refused}
 use Rattle.job.proofs.Examination.{examined_refused, examined_passed}
 use Rattle.job_bytes.specs.JobBytes.{Request, read_bytes}

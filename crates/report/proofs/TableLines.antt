@@ -1,7 +1,7 @@
 -- The lines of the table of drive sizes, grouped as they are put, and how long they are.
 use mathlib.Core.Path.{◌≡◌, refl, sym, ap, ◌∙◌}
 use mathlib.Core.Bool.{Bool, true, false}
-use mathlib.Core.List.{List, [], ◌∷◌, ◌++◌, append_assoc, append-nil}
+use mathlib.Core.List.{List, [], ◌∷◌, ◌++◌, append_assoc}
 use Prim.Native.Nat.{ℕ, suc, ◌+◌, ◌*◌, ◌^◌, ◌≤◌, ◌<◌, zero-le}
 use native.Mathlib.Decide.{ℕ_discrete}
 use native.Mathlib.Nat.{mul-suc}
@@ -16,7 +16,7 @@ use Rattle.job.specs.declared.Head.{Head}
 use Rattle.every_size.specs.declared.Size.{Size}
 use Rattle.every_size.specs.Sizes.{mark, serves, fewest_from, fewest_places, size_found}
 use Rattle.report.specs.Report.{text, decimal}
-use Rattle.report.specs.SizeTable.{Sized, entry_text, size_text, unless_last, sizes_text, places_text, wanted_text, table_text}
+use Rattle.report.specs.SizeTable.{entry_text, size_text, unless_last, sizes_text, places_text, wanted_text, table_text}
 use Rattle.report.proofs.Digits.{decimal_length, decimal_word}
 
 -- ---- the line of a size

@@ -1,13 +1,13 @@
 -- The table beside the sheet: refused alike. And the longest: so the program's buffer takes every one.
-use mathlib.Core.Path.{◌≡◌, refl, sym, ap, ◌∙◌}
+use mathlib.Core.Path.{◌≡◌, refl, sym, ◌∙◌}
 use mathlib.Core.Logic.{⊎_elim}
 use mathlib.Core.List.{List}
-use Prim.Native.Nat.{ℕ, ◌+◌, ◌-◌, ◌≤◌, ◌<◌}
+use Prim.Native.Nat.{ℕ, ◌+◌, ◌-◌, ◌≤◌}
 use native.Mathlib.Omega.{arith}
-use lib.ListN.{length, get_or}
+use lib.ListN.{length}
 use Rattle.lists.specs.Choice.{Found}
-use Rattle.job.specs.Refusal.{Outcome, done, refused, ◌>>=◌, ◌>>◌}
-use Rattle.job.specs.Words.{IsJob, IsOrder}
+use Rattle.job.specs.Refusal.{Outcome, done, refused, ◌>>=◌}
+use Rattle.job.specs.Words.{IsJob}
 use Rattle.job.specs.Calls.{sizing_known}
 use Rattle.job.proofs.Laws.{refused≢done, done_same, both_done, done_both, done_room}
 use Rattle.job.proofs.SizingExact.{sizing_exact}
@@ -17,17 +17,17 @@ use Rattle.job_bytes.proofs.SetRoundTrip.{Bytes}
 use Rattle.every_size.specs.Sizes.{mark, count_for, all_sizes}
 use Rattle.every_size.proofs.LoadCounts.{entry_is, unreached, length_sizes, size_at}
 use Rattle.planning.specs.Plan.{in_order, handed}
-use Rattle.planning.specs.Planning.{our_plan, planning}
+use Rattle.planning.specs.Planning.{our_plan}
 use Rattle.planning.proofs.Sequence.{known_exact, planning_parts, plan_done}
-use Rattle.planned.specs.Planned.{Planned, order_request, plan_in_order, plan_job}
+use Rattle.planned.specs.Planned.{order_request, plan_in_order, plan_job}
 use Rattle.planned.proofs.Stages.{order_known_lem, unread}
 use Rattle.planned.proofs.Stages as plans
 use Rattle.sizing.specs.Sizing.{sizing}
 use Rattle.sizing.proofs.EverySize.{few, own, short}
-use Rattle.report.specs.SizeTable.{Sized, size_request, size_job, sized_text, size_table, write_table}
+use Rattle.report.specs.SizeTable.{Sized, size_job, sized_text, size_table, write_table}
 use Rattle.report.proofs.Lines.{refusal_short}
 use Rattle.report.proofs.Longest.{refused_few}
-use Rattle.report.proofs.Sizing.{not_ordered, sized, not_read, was_read, SizedBy, sized_by}
+use Rattle.report.proofs.Sizing.{not_ordered, sized, not_read, was_read, sized_by}
 use Rattle.report.proofs.TableLines.{Word, Entries, table_short}
 
 -- ---- refusals

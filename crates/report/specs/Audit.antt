@@ -1,6 +1,6 @@
 -- "my sheet has 41 loads; can the same list be run with 40?": a plan from anywhere, beside the fewest loads that its order allows.
 use Rattle.std.specs.Prelude.{List, ◌++◌, ℕ, ◌-◌, length}
-use Rattle.job.specs.Refusal.{Outcome, done, refused, ◌>>=◌, ◌>>◌, mapped, fitting, leaves, number, figure}
+use Rattle.job.specs.Refusal.{Outcome, done, refused, ◌>>=◌, mapped, fitting, leaves, number, figure}
 use Rattle.job_bytes.specs.JobBytes.{Request, job_in, read_bytes}
 use Rattle.drive.specs.Steps.{load_count}
 use Rattle.planning.specs.Plan.{Plan}

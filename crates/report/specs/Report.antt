@@ -4,7 +4,7 @@ use Rattle.std.specs.Prelude.{List, [], ◌∷◌, ◌++◌, ℕ, zero, suc, ◌
 use Prim.Native.Char.{code}
 use Prim.Native.String.{String}
 use Rattle.bitset.specs.Set.{bit}
-use Rattle.job.specs.Refusal.{Outcome, done, refused, ◌>>=◌, ◌>>◌, mapped, fitting, leaves}
+use Rattle.job.specs.Refusal.{Outcome, done, refused, mapped, fitting, leaves}
 use Rattle.job.specs.Words.{capacity}
 use Rattle.drive.specs.Steps.{curve_count}
 use Rattle.planning.specs.Plan.{Step, steps}

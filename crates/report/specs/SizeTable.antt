@@ -3,7 +3,7 @@
 use Rattle.std.specs.Prelude.{Bool, true, false, ◌&&◌, List, [], ◌∷◌, ◌++◌, ℕ, suc, ◌+◌, ◌*◌, ◌-◌, eqb, leb, length, get_or}
 use Rattle.lists.specs.Choice.{Found, nobody, found}
 use Rattle.job.specs.declared.Head.{Head}
-use Rattle.job.specs.Refusal.{Outcome, done, refused, ◌>>=◌, ◌>>◌, mapped, fitting, leaves}
+use Rattle.job.specs.Refusal.{Outcome, done, refused, ◌>>=◌, mapped, fitting, leaves}
 use Rattle.job_bytes.specs.JobBytes.{Request, read_bytes}
 use Rattle.every_size.specs.Sizes.{mark, fewest_places}
 use Rattle.planned.specs.Planned.{order_request}
