@@ -33,12 +33,6 @@ small c =
     let a = c.args in
     omega (arith, c.type_inv.rest a.at, at_most (get_or a.rest.now a.at 0) (bit a.group a.map) (omega arith))
 
-pub overflow_cast-byte : goal.overflow_cast-byte
-overflow_cast-byte c = omega (arith, c.type_inv.rest c.args.at)
-
-pub overflow_mul-byte : goal.overflow_mul-byte
-overflow_mul-byte c = omega (arith, small (goal.at.overflow_mul-byte c).Else-rest-at)
-
 pub returns-then-byte-stands : goal.returns-then-byte-stands
 returns-then-byte-stands c =
     let a = c.args in
