@@ -46,7 +46,7 @@ returns-then-inside c =
     let e : s ≡ b * 2 ^ (8 * a.group) = shl_exact 8 (8 * a.group) 64 (small (goal.at.returns-then-inside c).Else-rest-at) (omega arith) in
     let t = sym (c.inside.ensures ∙ ap (inside s) c.below.ensures) ∙ c.if-inside.true in
     marked_curves a.rest.now a.at a.group a.curves c.if-rest-at.false (bit a.group a.map) (omega arith)
-    c.if-byte-stands.false s e t
+    (omega arith) s e t
 
 pub returns : goal.returns
 returns c =
@@ -56,4 +56,4 @@ returns c =
     let e : s ≡ b * 2 ^ (8 * a.group) = shl_exact 8 (8 * a.group) 64 (small (goal.at.returns c).Else-rest-at) (omega arith) in
     let t = sym (c.inside.ensures ∙ ap (inside s) c.below.ensures) ∙ c.if-inside.false in
     marked_unknown a.rest.now a.at a.group a.curves c.if-rest-at.false (bit a.group a.map) (omega arith)
-    c.if-byte-stands.false s e t
+    (omega arith) s e t
