@@ -11,9 +11,6 @@ pub loop-k-init : goal.loop-k-init
 unfolding read_number
 loop-k-init c = let z : c.args.width - c.args.width ≡ 0 = omega arith in rw z (omega arith, omega arith, refl)
 
-pub overflow_cast-value : goal.overflow_cast-value
-overflow_cast-value c = omega (arith, c.type_inv.job (c.args.at + (c.loop-k.k - 1)))
-
 pub overflow_mul-value : goal.overflow_mul-value
 overflow_mul-value c = let l : 8 * (c.args.width - c.loop-k.k) ≤ 56 = omega arith in omega (arith, pow_mono l)
 
@@ -31,12 +28,3 @@ loop-k-preserved c =
     let n : a.at + l.k ≡ suc i = omega arith in
     let v = byte_more (a.width - l.k) l.value (get_or a.job.now i 0) l.invariant.1 (omega (arith, c.type_inv.job i)) in
     rw w (omega arith, v, number_more a.job.now (a.width - l.k) i l.value (a.at + a.width) (omega arith) (rw n at l.invariant.2))
-
-pub returns : goal.returns
-returns c =
-    let a = c.args in
-    let l = c.loop-k in
-    let z : l.k ≡ 0 = omega arith in
-    let w : a.width - 0 ≡ a.width = omega arith in
-    let n : a.at + 0 ≡ a.at = omega arith in
-    rw (w, n) at (rw z at l.invariant.2)

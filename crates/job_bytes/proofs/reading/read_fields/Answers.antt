@@ -30,24 +30,12 @@ pub returns-then-job-eq0 : goal.returns-then-job-eq0
 unfolding mapped count_outcome
 returns-then-job-eq0 c = head_none c.args.job.now c.if-job-eq0.true
 
-pub overflow_cast-map : goal.overflow_cast-map
-overflow_cast-map c = omega (arith, c.type_inv.job 0)
-
 pub returns-then-map-ge-MAPS : goal.returns-then-map-ge-MAPS
 unfolding mapped count_outcome
 returns-then-map-ge-MAPS c = head_map c.args.job.now (omega arith) (rw rows c.if-map-ge-MAPS.true)
 
-pub loop-j-init : goal.loop-j-init
-loop-j-init c = record { turns = omega arith; long = refl; within = omega arith; goes = refl }
-
 pub row-field-requires : goal.row-field-requires
 row-field-requires c = omega (arith, rows)
-
-pub read_field-requires : goal.read_field-requires
-read_field-requires c = (omega arith, c.row-field.ensures.1, c.loop-j.invariant.within)
-
-pub shape_of-values-in-Refused : goal.shape_of-values-in-Refused
-shape_of-values-in-Refused c = c.loop-j.invariant.long
 
 pub returns-in-Refused : goal.returns-in-Refused
 unfolding mapped count_outcome ◌>>=◌
@@ -59,24 +47,6 @@ returns-in-Refused c =
     let e = by_refusal _ _ f.result f.ensures _ c.in-Refused.is in
     head_fields_lem bs (omega arith) (rw rows (omega arith))
     ∙ rw (l.invariant.goes ∙ fields_fault bs fields l.j l.map (take l.j l.values) l.at r.result r.ensures.0 _ _ e) refl
-
-pub offset_bounds-values-j : goal.offset_bounds-values-j
-offset_bounds-values-j c = omega (arith, rows)
-
-pub bounds-values-j : goal.bounds-values-j
-bounds-values-j c = omega (arith, rows, c.loop-j.invariant.long)
-
-pub overflow_mul-at : goal.overflow_mul-at
-overflow_mul-at c = omega (arith, (field (goal.at.overflow_mul-at c).In-Count).1)
-
-pub overflow_add-at : goal.overflow_add-at
-overflow_add-at c = omega (arith, (field (goal.at.overflow_add-at c).In-Count).1)
-
-pub overflow_add-j : goal.overflow_add-j
-overflow_add-j c = omega (arith, rows)
-
-pub loop-j-smaller : goal.loop-j-smaller
-loop-j-smaller c = omega (arith, rows)
 
 pub loop-j-preserved : goal.loop-j-preserved
 loop-j-preserved c =
@@ -91,9 +61,6 @@ loop-j-preserved c =
       within = f.1;
       goes = rw more (l.invariant.goes ∙ fields_next bs fields l.j l.map (take l.j l.values) l.at r.result r.ensures.0 _ f.0);
     }
-
-pub shape_of-values : goal.shape_of-values
-shape_of-values c = c.loop-j.invariant.long
 
 pub returns : goal.returns
 unfolding mapped count_outcome ◌>>=◌

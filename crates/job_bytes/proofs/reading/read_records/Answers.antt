@@ -1,9 +1,8 @@
 use Prim.Native.Nat.{ℕ, ◌<◌, ◌-◌, ◌+◌}
-use mathlib.Core.Path.{◌≡◌, refl, ◌∙◌, ap, subst}
+use mathlib.Core.Path.{◌≡◌, ◌∙◌, ap, subst}
 use mathlib.Core.List.{List, []}
 use mathlib.Core.Logic.{inl, inr}
 use native.Mathlib.Omega.{arith}
-use native.Mathlib.Nat.{sub-zero}
 use lib.ListN.{length, get_or, take, drop, length-set}
 use borrow.Author.Rules.{rules}
 use Rattle.bitset.specs.Set.{bit}
@@ -20,18 +19,6 @@ use Rattle.job_bytes.proofs.reading.read_records.Goals.{Left-tests}
 use Rattle.job_bytes.proofs.reading.read_records.Goals.{else-tests-test, then-tests-test+then-rest-eq0, then-tests-test+else-rest-eq0+then-loop-j-test+in-Owed}
 use Rattle.job_bytes.proofs.reading.read_records.Goals.{then-tests-test+else-rest-eq0+then-loop-j-test+in-Empty, then-tests-test+else-rest-eq0+then-loop-j-test+in-Unknown}
 use Rattle.job_bytes.proofs.reading.read_records.Goals as goal
-
-pub tests-init : goal.tests-init
-tests-init c = record { turns = search rules; within = search rules; long = refl; fine = refl; goes = rw sub-zero }
-
-pub loop-j-init : goal.loop-j-init
-loop-j-init c =
-    let job = c.args.job.now in
-    let at = c.tests.at in
-    record { turns = search rules; fits = omega (arith, rest_long job at, c.if-rest-eq0.false); same = refl; goes = refl }
-
-pub overflow_add-used : goal.overflow_add-used
-overflow_add-used c = let u = c.loop-j.invariant.fits in omega arith
 
 pub loop-j-preserved : goal.loop-j-preserved
 loop-j-preserved c =
@@ -131,17 +118,11 @@ left k =
           inr (UnknownCurve (q.at + p.used), w.answer-is, fault k w.tests-test.true 4 (q.at + p.used) (omega (arith, w.if-rest-eq0.false)) e)
     ]
 
-pub shape_of-list-in-Refused : goal.shape_of-list-in-Refused
-shape_of-list-in-Refused c = c.tests.invariant.long
-
 pub returns-in-Refused : goal.returns-in-Refused
 returns-in-Refused c =
     let both =
     promise_refused c.in-Refused.r _ _ (left_refused _ _ _ (left (goal.at.returns-in-Refused c).Left-tests) c.in-Refused.r c.in-Refused.is) in
     record { end = both.0; sets = both.1 }
-
-pub shape_of-list-in-Passed : goal.shape_of-list-in-Passed
-shape_of-list-in-Passed c = c.tests.invariant.long
 
 pub returns-in-Passed : goal.returns-in-Passed
 returns-in-Passed c =

@@ -59,7 +59,7 @@ returns-then-wants-tests c =
     let d = (goal.at.returns-then-wants-tests c).In-Count in
     let both =
     job_short a.job.now a.wants.now _
-    (whole_read a.job.now a.head a.start c.requires (sets d) (end d) (records d) c.if-end-job.false) c.if-wants-tests.true in
+    (whole_read a.job.now a.head a.start c.requires (sets d) (end d) (records d) (omega arith)) c.if-wants-tests.true in
     record { answer = both.0; lent = both.1 }
 
 pub copy_front-requires : goal.copy_front-requires
@@ -87,5 +87,5 @@ returns-else-wants-tests c =
     let long : length (list d) ≡ 256 = c.read_records.auto.list in
     let count : length (sets d) ≡ a.head.tests = length-take-le a.head.tests (list d) (omega (arith, (head_range a.job.now _ c.requires).tests)) in
     let w = job_fits a.job.now a.wants.now _
-    (whole_read a.job.now a.head a.start c.requires (sets d) (end d) (records d) c.if-end-job.false) c.if-wants-tests.false in
+    (whole_read a.job.now a.head a.start c.requires (sets d) (end d) (records d) (omega arith)) c.if-wants-tests.false in
     record { answer = w.0; lent = c.copy_front.ensures ∙ rw count at w.1 }

@@ -1,4 +1,4 @@
-use mathlib.Core.Path.{◌≡◌, refl, sym, ◌∙◌}
+use mathlib.Core.Path.{◌≡◌, sym, ◌∙◌}
 use native.Mathlib.Omega.{arith}
 use lib.ListN.{length, length-set}
 use lib.Seq.{take_all}
@@ -9,16 +9,10 @@ use Rattle.job_bytes.proofs.set_bytes.put_front.Goals as goal
 pub returns-then-to-from : goal.returns-then-to-from
 returns-then-to-from c = let a = c.args in sym (put_short a.from.now a.to.now c.if-to-from.true)
 
-pub loop-i-init : goal.loop-i-init
-loop-i-init c = (omega arith, refl, refl)
-
 pub loop-i-preserved : goal.loop-i-preserved
 loop-i-preserved c =
     let a = c.args in
     (omega arith, simp length-set c.loop-i.invariant.1, rw c.loop-i.invariant.2 (front_more a.from.now a.to.now c.loop-i.i (omega arith) (omega arith)))
-
-pub shape_of-to : goal.shape_of-to
-shape_of-to c = c.loop-i.invariant.1
 
 pub returns : goal.returns
 returns c =

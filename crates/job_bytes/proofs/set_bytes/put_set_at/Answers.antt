@@ -5,7 +5,7 @@ use native.Mathlib.Omega.{arith}
 use native.Mathlib.Numerals.{add-one}
 use native.Mathlib.Nat.{pow-suc, one-mul, zero-add}
 use lib.Pow.{pow_mono}
-use lib.ListN.{length, set, length-set}
+use lib.ListN.{length, set}
 use borrow.Author.Rules.{set_long}
 use Rattle.job_bytes.specs.SetBytes.{group_map, group_bytes, set_bytes}
 use Rattle.job_bytes.proofs.Encoding.{mark, at_most, set_length, set_le, stores_turn, long_turn, map_turn, bytes_end, map_end, map_last}
@@ -21,12 +21,6 @@ small c = rw c.loop-j.invariant.place (pow_mono {j = 7} (omega arith))
 
 adds : (c : In-loop-j) → c.loop-j.bit * mark (c.loop-j.rest % 256) ≤ c.loop-j.bit
 adds c = at_most c.loop-j.bit (mark (c.loop-j.rest % 256)) (omega arith)
-
-pub returns-then-out-lt10 : goal.returns-then-out-lt10
-returns-then-out-lt10 c = record { room = λ h. absurd (omega arith); none = λ h. (refl, refl) }
-
-pub returns-then-out-to : goal.returns-then-out-to
-returns-then-out-to c = record { room = λ h. absurd (omega arith); none = λ h. (refl, refl) }
 
 pub loop-j-init : goal.loop-j-init
 loop-j-init c =
@@ -46,15 +40,6 @@ bounds-out-end c = room (goal.at.bounds-out-end c).In-loop-j
 
 pub overflow_add-end-in-loop-j : goal.overflow_add-end-in-loop-j
 overflow_add-end-in-loop-j c = let h = room (goal.at.overflow_add-end-in-loop-j c).In-loop-j in omega arith
-
-pub overflow_mul-map : goal.overflow_mul-map
-overflow_mul-map c = omega (arith, adds (goal.at.overflow_mul-map c).In-loop-j, small (goal.at.overflow_mul-map c).In-loop-j)
-
-pub overflow_add-map : goal.overflow_add-map
-overflow_add-map c = omega (arith, adds (goal.at.overflow_add-map c).In-loop-j, small (goal.at.overflow_add-map c).In-loop-j, c.loop-j.invariant.small)
-
-pub overflow_mul-bit : goal.overflow_mul-bit
-overflow_mul-bit c = omega (arith, small (goal.at.overflow_mul-bit c).In-loop-j)
 
 pub loop-j-preserved : goal.loop-j-preserved
 loop-j-preserved c =
@@ -81,18 +66,6 @@ map_is c = let l = c.loop-j in l.invariant.whole ∙ map_end l.j l.rest l.map l.
 
 pub bounds-out-end-2 : goal.bounds-out-end-2
 bounds-out-end-2 c = let a = c.args in omega (arith, end_is (goal.at.bounds-out-end-2 c).After-loop-j, set_le a.s, c.loop-j.invariant.long)
-
-pub overflow_cast-out-2 : goal.overflow_cast-out-2
-overflow_cast-out-2 c =
-    let e : c.loop-j.j ≡ 8 = omega arith in
-    let b : c.loop-j.bit ≡ 2 ^ 8 = rw e at c.loop-j.invariant.place in
-    omega (arith, c.loop-j.invariant.small)
-
-pub bounds-out-to : goal.bounds-out-to
-bounds-out-to c = simp length-set (omega (arith, c.loop-j.invariant.long))
-
-pub shape_of-out : goal.shape_of-out
-shape_of-out c = simp length-set c.loop-j.invariant.long
 
 pub returns : goal.returns
 returns c =

@@ -33,12 +33,6 @@ small c =
     let a = c.args in
     omega (arith, c.type_inv.rest a.at, at_most (get_or a.rest.now a.at 0) (bit a.group a.map) (omega arith))
 
-pub overflow_cast-byte : goal.overflow_cast-byte
-overflow_cast-byte c = omega (arith, c.type_inv.rest c.args.at)
-
-pub overflow_mul-byte : goal.overflow_mul-byte
-overflow_mul-byte c = omega (arith, small (goal.at.overflow_mul-byte c).Else-rest-at)
-
 pub returns-then-byte-stands : goal.returns-then-byte-stands
 returns-then-byte-stands c =
     let a = c.args in
@@ -52,7 +46,7 @@ returns-then-inside c =
     let e : s ≡ b * 2 ^ (8 * a.group) = shl_exact 8 (8 * a.group) 64 (small (goal.at.returns-then-inside c).Else-rest-at) (omega arith) in
     let t = sym (c.inside.ensures ∙ ap (inside s) c.below.ensures) ∙ c.if-inside.true in
     marked_curves a.rest.now a.at a.group a.curves c.if-rest-at.false (bit a.group a.map) (omega arith)
-    c.if-byte-stands.false s e t
+    (omega arith) s e t
 
 pub returns : goal.returns
 returns c =
@@ -62,4 +56,4 @@ returns c =
     let e : s ≡ b * 2 ^ (8 * a.group) = shl_exact 8 (8 * a.group) 64 (small (goal.at.returns c).Else-rest-at) (omega arith) in
     let t = sym (c.inside.ensures ∙ ap (inside s) c.below.ensures) ∙ c.if-inside.false in
     marked_unknown a.rest.now a.at a.group a.curves c.if-rest-at.false (bit a.group a.map) (omega arith)
-    c.if-byte-stands.false s e t
+    (omega arith) s e t

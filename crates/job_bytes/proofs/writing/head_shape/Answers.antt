@@ -13,14 +13,8 @@ loop-j-init c =
     let n = none c.args.values.now 5 (omega (arith, rows)) in
     (omega (arith, rows), sym n.0, omega (arith, ap length n.1), omega arith)
 
-pub row-field-requires : goal.row-field-requires
-row-field-requires c = omega (arith, rows)
-
 pub overflow_mul-map : goal.overflow_mul-map
 overflow_mul-map c = omega (arith, map_small c.args.values.now c.loop-j.j)
-
-pub bounds-values-j : goal.bounds-values-j
-bounds-values-j c = omega (arith, rows)
 
 pub overflow_add-map : goal.overflow_add-map
 overflow_add-map c =
@@ -28,9 +22,6 @@ overflow_add-map c =
       arith,
       map_small c.args.values.now c.loop-j.j,
     )
-
-pub overflow_add-len : goal.overflow_add-len
-overflow_add-len c = omega (arith, c.row-field.ensures)
 
 pub loop-j-preserved-then-values-j : goal.loop-j-preserved-then-values-j
 loop-j-preserved-then-values-j c =

@@ -26,29 +26,12 @@ loop-j-init c =
 pub row-field-requires : goal.row-field-requires
 row-field-requires c = omega (arith, rows)
 
-pub offset_bounds-values-j : goal.offset_bounds-values-j
-offset_bounds-values-j c = omega (arith, rows)
-
-pub bounds-values-j : goal.bounds-values-j
-bounds-values-j c = omega (arith, rows)
-
-pub overflow_add-j : goal.overflow_add-j
-overflow_add-j c = omega (arith, rows)
-
 pub put_number-requires : goal.put_number-requires
 put_number-requires c =
     let r = c.row-field in
     let more = stands_long c.args.values.now c.loop-j.j r.result r.ensures.0 (omega (arith, rows))
     c.if-value-field.true in
     omega (arith, c.loop-j.invariant.long, c.loop-j.invariant.fits)
-
-pub overflow_add-at : goal.overflow_add-at
-overflow_add-at c =
-    let a = c.args in
-    omega (arith, c.row-field.ensures.1, c.loop-j.invariant.fits, length-set a.out.now 0 a.map)
-
-pub loop-j-smaller-then-value-field : goal.loop-j-smaller-then-value-field
-loop-j-smaller-then-value-field c = omega (arith, rows)
 
 pub loop-j-preserved-then-value-field : goal.loop-j-preserved-then-value-field
 loop-j-preserved-then-value-field c =
@@ -68,9 +51,6 @@ loop-j-preserved-then-value-field c =
       goes = rw e (l.invariant.goes ∙ next ∙ sets_append (number_bytes w v) l.out (bytes_from vs (l.j + 1)) l.at ∙ rw (number_length w v) refl);
     }
 
-pub loop-j-smaller : goal.loop-j-smaller
-loop-j-smaller c = omega (arith, rows)
-
 pub loop-j-preserved : goal.loop-j-preserved
 loop-j-preserved c =
     let l = c.loop-j in
@@ -82,9 +62,6 @@ loop-j-preserved c =
       fits = omega (arith, l.invariant.fits, ap length same);
       goes = l.invariant.goes ∙ ap (lib.Seq.sets l.out l.at) same;
     }
-
-pub shape_of-out : goal.shape_of-out
-shape_of-out c = c.loop-j.invariant.long ∙ simp length-set
 
 pub returns : goal.returns
 unfolding head_bytes fields_bytes

@@ -1,16 +1,10 @@
-use mathlib.Core.Path.{◌≡◌, refl, sym, ◌∙◌}
+use mathlib.Core.Path.{◌≡◌, sym, ◌∙◌}
 use Prim.Native.Nat.{suc, ◌+◌, ◌-◌, ◌/◌, ◌%◌}
 use native.Mathlib.Omega.{arith}
 use lib.ListN.{length-set}
 use Rattle.job_bytes.specs.JobBytes.{number_bytes}
 use Rattle.lists.proofs.Overwritten.{sets_cons}
 use Rattle.job_bytes.proofs.writing.put_number.Goals as goal
-
-pub loop-k-init : goal.loop-k-init
-loop-k-init c =
-    let z : c.args.at + 0 ≡ c.args.at = omega arith in
-    let w : c.args.width - 0 ≡ c.args.width = omega arith in
-    (omega arith, refl, rw (z, w) refl)
 
 pub loop-k-preserved : goal.loop-k-preserved
 unfolding number_bytes

@@ -2,16 +2,13 @@ use Prim.Native.Nat.{◌+◌}
 use mathlib.Core.Path.{refl, sym, ◌∙◌, ap}
 use native.Mathlib.Omega.{arith}
 use mathlib.Core.List.{[], ◌∷◌, append_assoc}
-use lib.ListN.{length, get_or, drop, length-set}
+use lib.ListN.{length, get_or, drop}
 use lib.Seq.{length-sets}
 use Rattle.job_bytes.specs.SetBytes.{set_bytes}
 use Rattle.job_bytes.specs.JobBytes.{record_bytes}
 use Rattle.job_bytes.proofs.Encoding.{set_le, next_over}
 use Rattle.job_bytes.proofs.JobWritten.{records_more, records_long, records_none}
 use Rattle.job_bytes.proofs.writing.put_records.Goals as goal
-
-pub loop-t-init : goal.loop-t-init
-loop-t-init c = record { turns = omega arith; room = omega arith; long = refl; ends = refl; goes = refl }
 
 pub loop-t-preserved : goal.loop-t-preserved
 loop-t-preserved c =
@@ -29,12 +26,6 @@ loop-t-preserved c =
       goes = rw (p.1, p.0)
           (l.invariant.goes ∙ rw (records_more ws l.t h, append_assoc (set_bytes w) later (0 ∷ [])) (sym (next_over (set_bytes w) later l.out l.to 0)));
     }
-
-pub bounds-out-to : goal.bounds-out-to
-bounds-out-to c = let i = c.loop-t.invariant in omega (arith, c.requires, i.room, i.turns, i.long)
-
-pub shape_of-out : goal.shape_of-out
-shape_of-out c = simp length-set c.loop-t.invariant.long
 
 pub returns : goal.returns
 returns c =
