@@ -1,11 +1,11 @@
 -- All sizes and the fewest places, as they were answered, and what is asked of a table.
-use mathlib.Core.Path.{◌≡◌, refl, sym, ap, ◌∙◌}
+use mathlib.Core.Path.{◌≡◌, refl, ◌∙◌}
 use mathlib.Core.List.{List}
 use Prim.Native.Nat.{ℕ, zero, suc}
 use Rattle.lists.specs.Choice.{Found, nobody, found}
 use Rattle.job.specs.declared.Examined.{Examined}
 use Rattle.job.specs.declared.Refusal.{Refusal}
-use Rattle.job.specs.Refusal.{Outcome, done, refused, number, figure, examined_outcome, mapped}
+use Rattle.job.specs.Refusal.{Outcome, refused, number, figure, examined_outcome, mapped}
 use Rattle.job.proofs.Laws.{mapped_done, mapped_refused}
 use Rattle.job.proofs.Examination.{examined_refused, examined_passed}
 use Rattle.sizing.specs.declared.Places.{Places}

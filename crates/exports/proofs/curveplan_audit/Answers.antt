@@ -1,0 +1,7 @@
+-- `exports::curveplan_audit` meets its contract.
+use mathlib.Core.Path.{ap, ◌∙◌}
+use Rattle.exports.specs.Numbers.{numbered}
+use Rattle.exports.proofs.curveplan_audit.Goals as goal
+
+pub returns : goal.returns
+returns c = let e = c.write_audit.ensures in record { answer = c.counted.ensures ∙ ap numbered e.answer; text = e.bytes }

@@ -1,0 +1,7 @@
+-- `exports::curveplan_has` meets its contract.
+use mathlib.Core.Path.{ap, ◌∙◌}
+use Rattle.job.specs.Words.{digit}
+use Rattle.exports.proofs.curveplan_has.Goals as goal
+
+pub returns : goal.returns
+returns c = c.truth.ensures ∙ ap digit c.has.ensures
