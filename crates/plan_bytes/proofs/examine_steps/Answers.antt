@@ -1,12 +1,8 @@
 use mathlib.Core.Path.{refl}
-use mathlib.Core.List.{[]}
 use Rattle.job.specs.Refusal.{mapped}
 use Rattle.plan_bytes.specs.ContractWords.{end_outcome}
-use Rattle.plan_bytes.proofs.Steps.{begin, step_more, step_faulty, end_examined}
+use Rattle.plan_bytes.proofs.Steps.{step_more, step_faulty, end_examined}
 use Rattle.plan_bytes.proofs.examine_steps.Goals as goal
-
-pub loop-passed-init : goal.loop-passed-init
-loop-passed-init c = let a = c.args in ([], begin a.curves a.tests a.plan.now)
 
 pub returns-in-Fault : goal.returns-in-Fault
 unfolding mapped end_outcome

@@ -15,33 +15,12 @@ loop-k-init c =
       },
     )
 
-pub shape_of-order-in-Fault : goal.shape_of-order-in-Fault
-shape_of-order-in-Fault c = c.loop-k.invariant.1.tests.long
-
-pub shape_of-drops-in-Fault : goal.shape_of-drops-in-Fault
-shape_of-drops-in-Fault c = c.loop-k.invariant.1.drops.long
-
-pub shape_of-loads-in-Fault : goal.shape_of-loads-in-Fault
-shape_of-loads-in-Fault c = c.loop-k.invariant.1.loads.long
-
 pub returns-in-Fault : goal.returns-in-Fault
 returns-in-Fault c =
     let l = c.loop-k in
     let a = c.args in
     absurd (no_fault _ _ c.requires.reads (step_faulty a.curves a.tests a.plan.now l.k l.at l.invariant.0 l.invariant.1.behind
     c.loop-k-test.true _ c.read_step.ensures _ c.in-Fault.is))
-
-pub bounds-order-k : goal.bounds-order-k
-bounds-order-k c = let l = c.loop-k.invariant.1.tests.long in let p =
-    c.requires in omega arith
-
-pub bounds-drops-k : goal.bounds-drops-k
-bounds-drops-k c = let l = c.loop-k.invariant.1.drops.long in let p =
-    c.requires in omega arith
-
-pub bounds-loads-k : goal.bounds-loads-k
-bounds-loads-k c = let l = c.loop-k.invariant.1.loads.long in let p =
-    c.requires in omega arith
 
 pub loop-k-preserved : goal.loop-k-preserved
 loop-k-preserved c =
@@ -59,15 +38,6 @@ loop-k-preserved c =
         loads = fill_more _ a.loads.now l.invariant.0 l.loads l.k _ i.behind.count (omega arith) i.loads;
       },
     )
-
-pub shape_of-order : goal.shape_of-order
-shape_of-order c = c.loop-k.invariant.1.tests.long
-
-pub shape_of-drops : goal.shape_of-drops
-shape_of-drops c = c.loop-k.invariant.1.drops.long
-
-pub shape_of-loads : goal.shape_of-loads
-shape_of-loads c = c.loop-k.invariant.1.loads.long
 
 pub returns : goal.returns
 returns c =

@@ -92,9 +92,6 @@ reads c =
     whole a.curves a.tests a.plan.now l.i l.at l.invariant.0 l.invariant.1.behind c.loop-i-test.false _
     (end_answered _ _ (c.read_end.ensures a.tests) _ c.in-End.is)
 
-pub overflow_sub-result : goal.overflow_sub-result
-overflow_sub-result c = omega (arith, c.loop-i.invariant.1.inside)
-
 pub returns-then-end-ne0 : goal.returns-then-end-ne0
 returns-then-end-ne0 c =
     let l = c.loop-i in

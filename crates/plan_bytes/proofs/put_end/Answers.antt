@@ -4,7 +4,7 @@ use mathlib.Core.List.{List, [], ◌∷◌, ◌++◌}
 use Prim.Native.Nat.{ℕ, ◌+◌}
 use native.Mathlib.Omega.{arith}
 use lib.ListN.{length, length-set}
-use lib.Seq.{sets, length-sets}
+use lib.Seq.{sets}
 use Rattle.lists.proofs.Overwritten.{sets_cons}
 use Rattle.job_bytes.specs.SetBytes.{set_bytes}
 use Rattle.plan_bytes.proofs.Writing.{no_end_bytes, some_end_bytes}
@@ -20,9 +20,6 @@ set_there : (c : After-put_set_at)
     (c.put_set_at.result ≡ a.to + 1 + length (set_bytes a.end))
     × (c.put_set_at.new.out ≡ sets (lib.ListN.set a.out.now a.to 1) (a.to + 1) (set_bytes a.end ++ (0 ∷ [])))
 set_there c = c.put_set_at.ensures.room (simp length-set (omega (arith, c.requires)))
-
-pub shape_of-out : goal.shape_of-out
-shape_of-out c = ap length (set_there (goal.at.shape_of-out c).After-put_set_at).1 ∙ simp (length-sets, length-set)
 
 pub returns : goal.returns
 returns c =

@@ -1,12 +1,11 @@
 -- `plan_bytes::put_step` meets its contract: the map, then each set over the zero byte behind the last, then the test.
 use mathlib.Core.Path.{◌≡◌, ap, ◌∙◌}
-use Prim.Native.Nat.{ℕ, ◌+◌, ◌≤◌}
+use Prim.Native.Nat.{◌+◌, ◌≤◌}
 use native.Mathlib.Omega.{arith}
 use lib.ListN.{length, length-set}
 use lib.Seq.{length-sets}
 use Rattle.plan_bytes.specs.PlanBytes.{set_field}
 use Rattle.plan_bytes.proofs.Writing.{field_le, step_length, step_stores}
-use borrow.Author.Rules.{set_long}
 use Rattle.plan_bytes.proofs.put_step.Goals.{After-put_field-behind, After-put_field-last}
 use Rattle.plan_bytes.proofs.put_step.Goals as goal
 
@@ -27,9 +26,6 @@ ends c =
     let f = c.put_field-last.ensures.end in
     (omega arith, omega (arith, field_le a.drops, field_le a.loads))
 
-pub put_field-behind-requires : goal.put_field-behind-requires
-put_field-behind-requires c = simp length-set (omega (arith, c.requires.1))
-
 pub put_field-last-requires : goal.put_field-last-requires
 put_field-last-requires c =
     omega (arith, drops_long (goal.at.put_field-last-requires c).After-put_field-behind, c.put_field-behind.ensures.end, field_le c.args.drops, c.requires.1)
@@ -40,9 +36,6 @@ bounds-out-last c =
 
 pub overflow_add-result : goal.overflow_add-result
 overflow_add-result c = omega (arith, (ends (goal.at.overflow_add-result c).After-put_field-last).1, c.requires.1)
-
-pub shape_of-out : goal.shape_of-out
-shape_of-out c = set_long ℕ c.put_field-last.new.out c.put_field-last.result _ _ (loads_long (goal.at.shape_of-out c).After-put_field-last (drops_long (goal.at.shape_of-out c).After-put_field-behind))
 
 pub returns : goal.returns
 returns c =

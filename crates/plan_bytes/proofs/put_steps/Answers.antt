@@ -1,5 +1,5 @@
 use Prim.Native.Nat.{ℕ, ◌+◌}
-use mathlib.Core.Path.{refl, sym, ap, ◌∙◌}
+use mathlib.Core.Path.{sym, ap, ◌∙◌}
 use mathlib.Core.List.{List}
 use native.Mathlib.Omega.{arith}
 use lib.ListN.{length, get_or, drop}
@@ -16,14 +16,6 @@ here c =
     let a = c.args in
     let i = c.loop-i.i in
     step_bytes (one (get_or a.order.now i 0) (get_or a.drops.now i 0) (get_or a.loads.now i 0))
-
-pub loop-i-init : goal.loop-i-init
-loop-i-init c = record { turns = omega arith; room = omega arith; long = refl; ends = omega arith; goes = refl }
-
-pub put_step-to-requires : goal.put_step-to-requires
-put_step-to-requires c =
-    let l = c.loop-i in
-    (c.requires.tests l.i c.loop-i-test.true, omega (arith, c.requires.sets.1, l.invariant.room, l.invariant.long, c.loop-i-test.true))
 
 pub loop-i-preserved : goal.loop-i-preserved
 loop-i-preserved c =
@@ -46,9 +38,6 @@ loop-i-preserved c =
           (l.invariant.goes ∙ ap (lib.Seq.sets l.out l.to) (steps_next o d x i h (omega arith) (omega arith))
           ∙ sets_append (here (goal.at.loop-i-preserved c).In-loop-i) l.out (list_bytes (drop (i + 1) o) (drop (i + 1) d) (drop (i + 1) x)) l.to);
     }
-
-pub shape_of-out : goal.shape_of-out
-shape_of-out c = c.loop-i.invariant.long
 
 pub returns : goal.returns
 returns c =

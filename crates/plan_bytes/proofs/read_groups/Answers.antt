@@ -1,4 +1,4 @@
-use mathlib.Core.Path.{◌≡◌, refl, sym, subst, ◌∙◌}
+use mathlib.Core.Path.{◌≡◌, sym, subst, ◌∙◌}
 use native.Mathlib.Omega.{arith}
 use lib.ListN.{length}
 use Rattle.bitset.specs.Set.{bit}
@@ -7,12 +7,6 @@ use Rattle.job_bytes.proofs.Turns.{groups_end}
 use Rattle.plan_bytes.specs.ContractWords.{set_outcome}
 use Rattle.plan_bytes.proofs.Reading.{group_read, group_faulty}
 use Rattle.plan_bytes.proofs.read_groups.Goals as goal
-
-pub loop-j-init : goal.loop-j-init
-loop-j-init c = (omega arith, c.requires.1, refl)
-
-pub overflow_add-next : goal.overflow_add-next
-overflow_add-next c = let u = c.loop-j.invariant.1 in omega arith
 
 pub returns-in_default : goal.returns-in_default
 unfolding set_outcome

@@ -54,9 +54,6 @@ returns-then-plan-last c =
     (drops_read (goal.at.returns-then-plan-last c).In-Set)
     c.in-Set-read_set.loads c.in-Set-read_set.last (loads_read (goal.at.returns-then-plan-last c).In-Set-read_set) c.if-plan-last.true)
 
-pub overflow_cast-test : goal.overflow_cast-test
-overflow_cast-test c = omega (arith, c.type_inv.plan c.in-Set-read_set.last)
-
 pub returns-then-tests-test : goal.returns-then-tests-test
 unfolding step_outcome
 returns-then-tests-test c =
@@ -64,9 +61,6 @@ returns-then-tests-test c =
     sym (test_unknown a.curves a.tests a.at a.plan.now (omega arith) (omega arith) (omega arith) c.in-Set.drops
     c.in-Set.next (drops_read (goal.at.returns-then-tests-test c).In-Set)
     c.in-Set-read_set.loads c.in-Set-read_set.last (loads_read (goal.at.returns-then-tests-test c).In-Set-read_set) (omega arith) c.if-tests-test.true)
-
-pub overflow_cast-result : goal.overflow_cast-result
-overflow_cast-result c = omega (arith, c.type_inv.plan c.in-Set-read_set.last)
 
 pub returns-in-Fault : goal.returns-in-Fault
 unfolding step_outcome

@@ -3,7 +3,7 @@ use mathlib.Core.Path.{◌≡◌}
 use Prim.Native.Nat.{◌+◌}
 use native.Mathlib.Omega.{arith}
 use Rattle.job_bytes.specs.SetBytes.{stands}
-use Rattle.job_bytes.proofs.Encoding.{stands_some, stands_le}
+use Rattle.job_bytes.proofs.Encoding.{stands_some}
 use Rattle.plan_bytes.proofs.Writing.{stands_none}
 use Rattle.plan_bytes.proofs.step_map.Goals.{then-drops-ne0, else-drops-ne0, Joined-drops-ne0}
 use Rattle.plan_bytes.proofs.step_map.Goals as goal
@@ -16,9 +16,6 @@ with_drops c =
       | then-drops-ne0 w ↦ omega (arith, w.fields-is, stands_some d w.if-drops-ne0.true)
       | else-drops-ne0 w ↦ omega (arith, w.fields-is, stands_none d w.if-drops-ne0.false)
     ]
-
-pub overflow_add-fields-then-loads-ne0 : goal.overflow_add-fields-then-loads-ne0
-overflow_add-fields-then-loads-ne0 c = omega (arith, with_drops (goal.at.overflow_add-fields-then-loads-ne0 c).Joined-drops-ne0, stands_le c.args.drops)
 
 pub returns-then-loads-ne0 : goal.returns-then-loads-ne0
 returns-then-loads-ne0 c = omega (arith, with_drops (goal.at.returns-then-loads-ne0 c).Joined-drops-ne0, stands_some c.args.loads c.if-loads-ne0.true)
