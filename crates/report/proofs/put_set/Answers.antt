@@ -8,7 +8,7 @@ use Rattle.bitset.specs.Set.{◌∖◌}
 use Rattle.report.specs.Report.{text, decimal, curves_text, set_text}
 use Rattle.report.specs.ContractWords.{Wrote}
 use Rattle.report.proofs.Curves.{curves_lowest, curves_none, fewer, set_none, set_some}
-use Rattle.report.proofs.Writing.{Rest, rest_all, rest_put, rest_none, rest_room, wrote_append, wrote_length}
+use Rattle.report.proofs.Writing.{Rest, rest_all, rest_put, rest_none, rest_room, wrote_append}
 use Rattle.report.proofs.put_set.Goals.{After-loop-left, In-loop-left}
 use Rattle.report.proofs.put_set.Goals as goal
 
@@ -20,9 +20,6 @@ pub put_text-requires : goal.put_text-requires
 put_text-requires c =
     let a = c.args in
     omega (arith, ap length (none_text a.s c.if-s-eq0.true))
-
-pub shape_of-out-then-s-eq0 : goal.shape_of-out-then-s-eq0
-shape_of-out-then-s-eq0 c = wrote_length c.put_text.ensures
 
 pub returns-then-s-eq0 : goal.returns-then-s-eq0
 returns-then-s-eq0 c =
@@ -46,14 +43,9 @@ turn c =
 
 room : (c : In-loop-left) → let l = c.loop-left in l.to + suc (length (decimal (count_trailing_zeros 64 l.left))) < 2 ^ 64
 room c =
-    let the_turn : let l = c.loop-left in
-    let a = c.args in
+    let l = c.loop-left in
     let k = count_trailing_zeros 64 l.left in
-    Rest a.out.now a.at (set_text a.s) l.out l.to ((32 ∷ []) ++ decimal k ++ curves_text 64 0 (l.left ∖ 2 ^ k)) = let l = c.loop-left in
-    rw (curves_lowest 64 l.left (omega (arith, c.loop-left-test.true)) l.invariant.range) at l.invariant.rest in
-    let k = count_trailing_zeros 64 c.loop-left.left in
-    rest_room ((32 ∷ []) ++ decimal k) (curves_text 64 0 (c.loop-left.left ∖ 2 ^ k)) (2 ^ 64) (the_turn)
-    (omega (arith, c.requires))
+    rest_room ((32 ∷ []) ++ decimal k) (curves_text 64 0 (l.left ∖ 2 ^ k)) (2 ^ 64) (turn c) (omega (arith, c.requires))
 
 pub put_byte-to-requires : goal.put_byte-to-requires
 put_byte-to-requires c = omega (arith, room (goal.at.put_byte-to-requires c).In-loop-left)
@@ -86,9 +78,6 @@ whole c =
     let l = c.loop-left in
     let z : l.left ≡ 0 = omega arith in
     rest_none (rw (z, curves_none 64 0) at l.invariant.rest)
-
-pub shape_of-out : goal.shape_of-out
-shape_of-out c = wrote_length (whole (goal.at.shape_of-out c).After-loop-left)
 
 pub returns : goal.returns
 returns c = whole (goal.at.returns c).After-loop-left

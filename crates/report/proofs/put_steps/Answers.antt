@@ -6,7 +6,7 @@ use Rattle.planning.specs.Plan.{steps}
 use Rattle.report.specs.Report.{step_text, steps_text}
 use Rattle.report.specs.ContractWords.{Wrote}
 use Rattle.report.proofs.Lines.{steps_next, steps_end}
-use Rattle.report.proofs.Writing.{Rest, rest_all, rest_put, rest_none, rest_room, wrote_length}
+use Rattle.report.proofs.Writing.{Rest, rest_all, rest_put, rest_none, rest_room}
 use Rattle.report.proofs.put_steps.Goals.{After-loop-i, In-loop-i}
 use Rattle.report.proofs.put_steps.Goals as goal
 
@@ -51,32 +51,5 @@ whole c =
     let a = c.args in
     rest_none (rw (drop_of_length-le a.order.now {i = l.i} (omega arith), steps_end) at l.invariant.rest)
 
-pub shape_of-out : goal.shape_of-out
-shape_of-out c = wrote_length (whole (goal.at.shape_of-out c).After-loop-i)
-
 pub returns : goal.returns
 returns c = whole (goal.at.returns c).After-loop-i
-
-pub offset_bounds-order-i : goal.offset_bounds-order-i
-offset_bounds-order-i c = omega arith
-
-pub bounds-order-i : goal.bounds-order-i
-bounds-order-i c = omega arith
-
-pub offset_bounds-drops-i : goal.offset_bounds-drops-i
-offset_bounds-drops-i c = omega arith
-
-pub bounds-drops-i : goal.bounds-drops-i
-bounds-drops-i c = omega arith
-
-pub offset_bounds-loads-i : goal.offset_bounds-loads-i
-offset_bounds-loads-i c = omega arith
-
-pub bounds-loads-i : goal.bounds-loads-i
-bounds-loads-i c = omega arith
-
-pub overflow_add-i : goal.overflow_add-i
-overflow_add-i c = omega arith
-
-pub loop-i-smaller : goal.loop-i-smaller
-loop-i-smaller c = omega arith

@@ -6,7 +6,7 @@ use native.Mathlib.Numerals.{add-one}
 use lib.ListN.{length, get_or, drop_of_length-le}
 use lib.Seq.{drop-cons}
 use Rattle.report.specs.ContractWords.{Wrote}
-use Rattle.report.proofs.Writing.{rest_all, rest_put, rest_none, rest_room, wrote_length}
+use Rattle.report.proofs.Writing.{rest_all, rest_put, rest_none, rest_room}
 use Rattle.report.proofs.put_text.Goals.{After-loop-i}
 use Rattle.report.proofs.put_text.Goals as goal
 
@@ -41,17 +41,5 @@ whole c =
     let a = c.args in
     rest_none (rw (drop_of_length-le a.text.now {i = l.i} (omega arith)) at l.invariant.rest)
 
-pub shape_of-out : goal.shape_of-out
-shape_of-out c = wrote_length (whole (goal.at.shape_of-out c).After-loop-i)
-
 pub returns : goal.returns
 returns c = whole (goal.at.returns c).After-loop-i
-
-pub bounds-text-i : goal.bounds-text-i
-bounds-text-i c = omega arith
-
-pub overflow_add-i : goal.overflow_add-i
-overflow_add-i c = omega arith
-
-pub loop-i-smaller : goal.loop-i-smaller
-loop-i-smaller c = omega arith

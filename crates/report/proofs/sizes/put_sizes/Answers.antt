@@ -5,7 +5,7 @@ use lib.ListN.{get_or, drop}
 use Rattle.report.specs.SizeTable.{size_text, unless_last, sizes_text}
 use Rattle.report.specs.ContractWords.{Wrote}
 use Rattle.report.proofs.TableLines.{sizes_next, sizes_last, sizes_more, sizes_end}
-use Rattle.report.proofs.Writing.{rest_all, rest_put, rest_none, rest_room, wrote_length}
+use Rattle.report.proofs.Writing.{rest_all, rest_put, rest_none, rest_room}
 use Rattle.report.proofs.sizes.put_sizes.Goals.{After-loop-i, Then-entry-least}
 use Rattle.report.proofs.sizes.put_sizes.Goals as goal
 
@@ -31,9 +31,6 @@ last c =
     rest_none (rest_put (rw (sizes_last (get_or counts 63 0) counts l.i (omega (arith, c.loop-i-test.true)) c.if-entry-least.true) at l.invariant.rest)
     c.put_size-to.ensures)
 
-pub shape_of-out-then-entry-least : goal.shape_of-out-then-entry-least
-shape_of-out-then-entry-least c = wrote_length (last (goal.at.shape_of-out-then-entry-least c).Then-entry-least)
-
 pub returns-then-entry-least : goal.returns-then-entry-least
 returns-then-entry-least c = last (goal.at.returns-then-entry-least c).Then-entry-least
 
@@ -56,26 +53,5 @@ whole c =
     let counts = c.args.counts.now in
     rest_none (rw (sizes_end (get_or counts 63 0) counts l.i (omega (arith, c.loop-i-test.false))) at l.invariant.rest)
 
-pub shape_of-out : goal.shape_of-out
-shape_of-out c = wrote_length (whole (goal.at.shape_of-out c).After-loop-i)
-
 pub returns : goal.returns
 returns c = whole (goal.at.returns c).After-loop-i
-
-pub bounds-counts-63 : goal.bounds-counts-63
-bounds-counts-63 c = omega arith
-
-pub offset_bounds-counts-i : goal.offset_bounds-counts-i
-offset_bounds-counts-i c = omega arith
-
-pub bounds-counts-i : goal.bounds-counts-i
-bounds-counts-i c = omega arith
-
-pub overflow_add-i : goal.overflow_add-i
-overflow_add-i c = omega arith
-
-pub overflow_add-i-in-loop-i : goal.overflow_add-i-in-loop-i
-overflow_add-i-in-loop-i c = omega arith
-
-pub loop-i-smaller : goal.loop-i-smaller
-loop-i-smaller c = omega arith

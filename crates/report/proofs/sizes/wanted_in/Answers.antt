@@ -39,9 +39,6 @@ few c = digits_few c.loop-i.i c.loop-i.n (omega arith) c.loop-i.invariant.digits
 pub overflow_mul-n : goal.overflow_mul-n
 overflow_mul-n c = omega (arith, few (goal.at.overflow_mul-n c).Else-b-gt57)
 
-pub overflow_cast-n : goal.overflow_cast-n
-overflow_cast-n c = omega arith
-
 pub overflow_add-n : goal.overflow_add-n
 overflow_add-n c = omega (arith, few (goal.at.overflow_add-n c).Else-b-gt57)
 
@@ -61,12 +58,3 @@ returns c =
     let l = c.loop-i in
     let word = c.args.word.now in
     sym (count_number word (omega arith) (omega arith) ∙ l.invariant.goes ∙ number_end l.n word l.i (omega arith))
-
-pub bounds-word-i : goal.bounds-word-i
-bounds-word-i c = omega arith
-
-pub overflow_add-i : goal.overflow_add-i
-overflow_add-i c = omega arith
-
-pub loop-i-smaller : goal.loop-i-smaller
-loop-i-smaller c = omega arith
