@@ -1,11 +1,11 @@
 -- The laws of finite sets, at every width. Each is shown at one bit (`Set.antt`). Assumes nothing.
 use mathlib.Core.Path.{◌≡◌, refl, ap, ◌∙◌}
 use mathlib.Core.List.{[], ◌∷◌}
-use Prim.Native.Nat.{ℕ, ◌+◌, ◌-◌, ◌^◌, ◌≤◌, ◌<◌}
+use Prim.Native.Nat.{ℕ, ◌+◌, ◌^◌, ◌≤◌, ◌<◌}
 use native.Mathlib.Nat.{lt_of_le_of_lt, sub-le}
 use native.Mathlib.Omega.{arith}
 use lib.Arith.{bin_ind}
-use lib.Bits.{and_le_l, and_le_r, and_comm, or_lt}
+use lib.Bits.{and_le_l, and_le_r, or_lt}
 use lib.Count.{ones_step, ones-le}
 use Rattle.bitset.specs.Set.{◌∩◌, ◌∪◌, ◌∖◌, ◌⊆◌, size, bit}
 use Rattle.bitset.proofs.Bits.{bit-∩, bit_empty, bitwise, same_by_bits, sizes_le, sizes_eq, size_empty}

@@ -1,7 +1,7 @@
 -- The order in which candidates go. Where each of a part of the candidates goes before each of the others, our victims are that part: so they can be found from
 -- those that go first, and from those that stay.
 use mathlib.Core.Path.{◌≡◌, refl, sym, ap, ◌∙◌}
-use mathlib.Core.Bool.{true, false, false≢true}
+use mathlib.Core.Bool.{false≢true}
 use mathlib.Core.List.{List}
 use Prim.Native.Nat.{ℕ, zero, suc, ◌^◌, ◌≤◌, ◌<◌}
 use native.Mathlib.Omega.{arith}

@@ -2,13 +2,12 @@
 -- left. 260 is no place of a test: there are at most 256, so that the last one's is 4 + 255.
 use mathlib.Core.Path.{◌≡◌, refl, sym, ap, ◌∙◌}
 use mathlib.Core.Logic.{◌↔◌, ◌⊎◌, inl, inr}
-use mathlib.Core.Bool.{false}
 use Prim.Native.Nat.{ℕ, ◌≤◌, ◌<◌}
 use native.Mathlib.Omega.{arith}
 use lib.Dec.{leb, ltb}
 use lib.ListN.{length}
 use borrow.Author.Tests.{leb-true, leb-false, le-leb, lt-leb, ltb-false, le-ltb}
-use Rattle.job.specs.Refusal.{Outcome, done, refused, ◌>>◌, demand}
+use Rattle.job.specs.Refusal.{done, refused, demand}
 use Rattle.job.specs.declared.Rig.{Rig}
 use Rattle.job.specs.Words.{Job, job_of, IsJob, IsMethod}
 use Rattle.job.specs.Handed.{places_known, numbers_known, booked_below, booked_known, job_known_by}

@@ -10,7 +10,7 @@ use borrow.Author.Tests.{leb-true, leb-false, lt-leb}
 use Rattle.bitset.specs.Set.{size}
 use Rattle.bitset.proofs.Bits.{bit_empty, size_empty}
 use Rattle.bitset.proofs.Parts.{◌≼◌, inside-≼, in_range}
-use Rattle.job.specs.Refusal.{Outcome, done, refused, ◌>>=◌, ◌>>◌, mapped, room, leaves}
+use Rattle.job.specs.Refusal.{Outcome, done, refused, ◌>>=◌, mapped, room, leaves}
 use Rattle.job.specs.Words.{Job, capacity, IsJob}
 use Rattle.job.specs.Handed.{all_curves, each, wants_fit}
 use Rattle.job.specs.Calls.{checking_known, planning_known}

@@ -1,17 +1,16 @@
 -- The steps that are still to come, from any state: a look shows the first, and when it is carried out the others are to come.
-use mathlib.Core.Path.{◌≡◌, refl, sym, ap}
+use mathlib.Core.Path.{◌≡◌, refl, sym}
 use mathlib.Core.Bool.{true, false, false≢true}
 use mathlib.Core.List.{List, [], ◌∷◌}
-use Prim.Native.Nat.{ℕ, zero, suc, ◌≤◌}
-use native.Mathlib.Omega.{arith}
-use lib.ListN.{length, get_or}
+use Prim.Native.Nat.{ℕ, zero, suc}
+use lib.ListN.{get_or}
 use Rattle.bitset.proofs.Laws.{∖-self}
 use Rattle.drive.specs.Steps.{moved, held_after}
 use Rattle.drive.specs.Plan.{furthest, next, plan_from}
 use Rattle.planning.specs.Plan.{handed}
 use Rattle.stepping.specs.declared.State.{State}
 use Rattle.stepping.specs.declared.NextStep.{NextStep}
-use Rattle.stepping.specs.declared.NextStep.TheVariants.{Step, End, Done}
+use Rattle.stepping.specs.declared.NextStep.TheVariants.{Done}
 use Rattle.stepping.specs.Stepping.{look_end, look_at, is_done, held_behind, step_wants}
 use Rattle.stepping.specs.InTurn.{end_step, shown_of, shown, held_through}
 

@@ -9,8 +9,8 @@ use native.Mathlib.Numerals.{add-one}
 use lib.Dec.{eqb}
 use lib.ListN.{length, get_or, drop}
 use borrow.Author.Tests.{eqb-true, eq-eqb, ne_eqb}
-use Rattle.job.specs.Refusal.{Outcome, done, refused, ◌>>◌, demand}
-use Rattle.job.proofs.Laws.{both, refused≢done, done_same, demand_true, demand_done, demand_refused, demand_false, both_done, done_both, refused_split}
+use Rattle.job.specs.Refusal.{done, refused}
+use Rattle.job.proofs.Laws.{refused≢done, done_same, demand_done, demand_refused, done_both}
 use Rattle.job.proofs.Examination.{refused_both}
 use Rattle.drive.specs.Plan.{furthest, next}
 use Rattle.stepping.specs.declared.State.{State}

@@ -1,7 +1,7 @@
 -- FROM A MADE STATE the commits in turn are the steps of the plan; and a state is refused as planning is.
 use mathlib.Core.Path.{◌≡◌, refl, sym, ap, ◌∙◌, subst}
 use mathlib.Core.Logic.{◌↔◌}
-use mathlib.Core.List.{List, []}
+use mathlib.Core.List.{List}
 use Prim.Native.Nat.{ℕ, ◌≤◌}
 use native.Mathlib.Omega.{arith}
 use lib.ListN.{length, replicate, length-replicate}
@@ -11,7 +11,7 @@ use Rattle.lists.proofs.Overwritten.{front, sets_whole}
 use Rattle.job.specs.Refusal.{Outcome, done, refused, mapped}
 use Rattle.job.specs.Words.{Job, capacity}
 use Rattle.job.specs.Calls.{planning_known}
-use Rattle.job.proofs.Laws.{done_same, both_done, done_both, refused_split, refused≢done}
+use Rattle.job.proofs.Laws.{done_same, both_done, done_both, refused≢done}
 use Rattle.job.proofs.Examination.{refused_both}
 use Rattle.drive.specs.declared.Sets.{Sets}
 use Rattle.drive.specs.Plan.{furthest, plan_from}
@@ -21,7 +21,6 @@ use Rattle.planning.proofs.Sequence.{known_exact, planning_parts, steps_length, 
 use Rattle.planning.proofs.Planned.{ours}
 use Rattle.planning.proofs.Demand3.{demand3}
 use Rattle.stepping.specs.declared.State.{State}
-use Rattle.stepping.specs.declared.NextStep.{NextStep}
 use Rattle.stepping.specs.Stepping.{step_wants, making, tests_made, nothing, state_made}
 use Rattle.stepping.specs.InTurn.{shown, InTurn}
 use Rattle.stepping.proofs.Ahead.{ahead, to_come}

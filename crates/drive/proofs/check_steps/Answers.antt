@@ -1,11 +1,5 @@
-use mathlib.Core.Path.{◌≡◌, refl, sym, ◌∙◌}
-use Prim.Native.Nat.{◌≤◌, ◌-◌}
+use mathlib.Core.Path.{refl, sym, ◌∙◌}
 use native.Mathlib.Omega.{arith}
-use borrow.Author.Rules.{rules}
-use borrow.Author.Tests.{not-true, not-false}
-use lib.ListN.{length}
-use Rattle.drive.specs.Steps.{moves}
-use Rattle.drive.specs.Check.{check_from}
 use Rattle.drive.proofs.Turns.{check_breaks, check_goes, check_end}
 use Rattle.drive.proofs.check_steps.Goals as goal
 

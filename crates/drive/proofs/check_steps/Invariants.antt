@@ -1,13 +1,9 @@
 -- `check_steps` meets its contract. The invariant: the whole check comes to that of the steps from i on, with what is held now.
-use mathlib.Core.Path.{◌≡◌, refl, sym, ◌∙◌}
+use mathlib.Core.Path.{◌≡◌}
 use Prim.Native.Nat.{◌≤◌, ◌-◌}
-use native.Mathlib.Omega.{arith}
-use borrow.Author.Rules.{rules}
-use borrow.Author.Tests.{not-true, not-false}
 use lib.ListN.{length}
 use Rattle.drive.specs.Steps.{moves}
 use Rattle.drive.specs.Check.{check_from}
-use Rattle.drive.proofs.Turns.{check_breaks, check_goes, check_end}
 use Rattle.drive.proofs.check_steps.Given as goal
 
 abbrev pub invariant-loop-i : goal.invariant-loop-i

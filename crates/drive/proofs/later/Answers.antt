@@ -1,9 +1,6 @@
 -- `later` meets its contract.
 use Prim.Native.Nat.{◌+◌}
-use borrow.Author.Rules.{rules}
 use borrow.Author.Rules.{part_to_end}
-use Rattle.drive.proofs.later.Reads as reads
-use Rattle.drive.proofs.later.Lts as lts
 use Rattle.drive.proofs.later.Goals as goal
 
 pub returns : goal.returns

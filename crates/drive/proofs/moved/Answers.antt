@@ -1,7 +1,6 @@
 -- `moved` meets its contract.
 use mathlib.Core.Path.{ap, ◌∙◌}
 use Prim.Native.Nat.{ℕ}
-use borrow.Author.Rules.{rules}
 use Rattle.bitset.specs.Set.{◌∪◌}
 use Rattle.drive.proofs.moved.Goals as goal
 

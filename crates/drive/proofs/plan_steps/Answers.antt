@@ -1,15 +1,14 @@
 use mathlib.Core.Path.{◌≡◌, refl, sym, ap, ◌∙◌}
-use Prim.Native.Nat.{ℕ, ◌+◌, ◌-◌, ◌≤◌, ◌<◌}
+use Prim.Native.Nat.{ℕ, ◌+◌, ◌≤◌, ◌<◌}
 use mathlib.Core.List.{List}
 use native.Mathlib.Omega.{arith}
-use borrow.Author.Rules.{rules}
 use lib.ListN.{length, get_or, drop, set, length-set, length-map}
 use lib.Seq.{get_or-set_other}
 use Rattle.drive.specs.Steps.{loads_of}
 use Rattle.drive.specs.Plan.{furthest, next, plan_from}
 use Rattle.drive.specs.Steps.{together}
 use Rattle.drive.proofs.Moves.{length_plan}
-use Rattle.drive.proofs.Turns.{Goes, goes_on, goes_end, sets_over}
+use Rattle.drive.proofs.Turns.{goes_on, goes_end, sets_over}
 use Rattle.drive.proofs.plan_steps.Goals as goal
 
 pub loop-i-init : goal.loop-i-init

@@ -1,17 +1,11 @@
 -- `plan_steps` meets its contract. The invariant: what is written in all comes to what is written and what the steps from i on will write, and so does what
 -- is held at the end; and the list of loads still has, from step i on, what the steps after each want together.
-use mathlib.Core.Path.{◌≡◌, refl, sym, ap, ◌∙◌}
+use mathlib.Core.Path.{◌≡◌}
 use Prim.Native.Nat.{ℕ, ◌+◌, ◌-◌, ◌≤◌, ◌<◌}
-use mathlib.Core.List.{List}
-use native.Mathlib.Omega.{arith}
-use borrow.Author.Rules.{rules}
-use lib.ListN.{length, get_or, drop, set, length-set, length-map}
-use lib.Seq.{get_or-set_other}
-use Rattle.drive.specs.Steps.{loads_of}
-use Rattle.drive.specs.Plan.{furthest, next, plan_from}
+use lib.ListN.{length, get_or, drop}
+use Rattle.drive.specs.Plan.{furthest}
 use Rattle.drive.specs.Steps.{together}
-use Rattle.drive.proofs.Moves.{length_plan}
-use Rattle.drive.proofs.Turns.{Goes, goes_on, goes_end, sets_over}
+use Rattle.drive.proofs.Turns.{Goes}
 use Rattle.drive.proofs.plan_steps.Given as goal
 
 abbrev pub invariant-loop-i : goal.invariant-loop-i

@@ -1,5 +1,4 @@
 -- `step_with` meets its contract.
-use borrow.Author.Rules.{rules}
 use Rattle.drive.proofs.step_with.Goals as goal
 
 pub returns : goal.returns

@@ -1,14 +1,8 @@
 -- `write_later` meets its contract. The invariant: what the steps from i on want is united, and the entries from i on are written.
-use Prim.Native.Nat.{ℕ, ◌-◌, ◌+◌, ◌≤◌, ◌<◌}
-use mathlib.Core.Path.{◌≡◌, refl, sym, ap, ◌∙◌}
-use mathlib.Core.List.{List}
-use native.Mathlib.Omega.{arith}
-use native.Mathlib.Decide.{ℕ_discrete}
-use borrow.Author.Rules.{rules}
-use lib.ListN.{length, get_or, drop, set, length-set}
-use lib.Seq.{get_or-set_same, get_or-set_other}
+use Prim.Native.Nat.{ℕ, ◌+◌, ◌≤◌, ◌<◌}
+use mathlib.Core.Path.{◌≡◌}
+use lib.ListN.{length, get_or, drop}
 use Rattle.drive.specs.Steps.{together}
-use Rattle.drive.proofs.Turns.{together_end, together_back}
 use Rattle.drive.proofs.write_later.Given as goal
 
 abbrev pub invariant-loop-i : goal.invariant-loop-i

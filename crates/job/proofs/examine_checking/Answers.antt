@@ -1,6 +1,5 @@
 -- `job::examine_checking` meets its contract.
 use mathlib.Core.Path.{◌≡◌, sym, ◌∙◌}
-use borrow.Author.Rules.{rules}
 use Rattle.job.specs.Refusal.{done, examined_outcome}
 use Rattle.job.specs.Words.{job_of}
 use Rattle.job.specs.Handed.{job_known}

@@ -1,9 +1,7 @@
 -- `job::examine_counts` meets its contract.
 use mathlib.Core.Path.{sym, ◌∙◌}
-use borrow.Author.Tests.{not-true, not-false}
 use Rattle.job.specs.Refusal.{examined_outcome}
 use Rattle.job.proofs.Examination.{counts_curves, counts_many, counts_known_lem}
-use borrow.Author.Rules.{rules}
 use Rattle.job.proofs.examine_counts.Goals as goal
 
 pub returns-then-not-in_bounds : goal.returns-then-not-in_bounds

@@ -1,5 +1,4 @@
 -- `job::examine_fit` meets its contract.
-use borrow.Author.Rules.{rules}
 use Rattle.job.proofs.examine_fit.Goals as goal
 
 pub returns : goal.returns

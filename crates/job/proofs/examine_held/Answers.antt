@@ -3,7 +3,6 @@ use mathlib.Core.Path.{◌≡◌, sym, ap, ◌∙◌}
 use Prim.Native.Nat.{ℕ}
 use native.Mathlib.Nat.{min-eq_left}
 use lib.Count.{count_trailing_zeros}
-use borrow.Author.Rules.{rules}
 use borrow.Author.Tests.{eq-eqb, ne_eqb}
 use Rattle.bitset.specs.Set.{◌∖◌, inside, below}
 use Rattle.job.specs.Refusal.{examined_outcome}

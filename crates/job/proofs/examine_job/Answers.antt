@@ -1,8 +1,6 @@
 -- `job::examine_job` meets its contract.
 use mathlib.Core.Path.{◌≡◌, sym, ◌∙◌}
 use lib.ListN.{length}
-use borrow.Author.Rules.{rules}
-use borrow.Author.Tests.{not-true, not-false}
 use Rattle.job.specs.Refusal.{done, examined_outcome}
 use Rattle.job.specs.Handed.{numbers_known}
 use Rattle.job.proofs.Examination.{known_bounds, by_refused, by_method, by_wants, by_booked, examined_refused, examined_passed}

@@ -1,9 +1,7 @@
 -- `job::examine_numbers` meets its contract.
 use mathlib.Core.Path.{sym, ◌∙◌}
-use borrow.Author.Tests.{not-true, not-false}
 use Rattle.job.specs.Refusal.{examined_outcome}
 use Rattle.job.proofs.Examination.{bad_places, numbers_counts}
-use borrow.Author.Rules.{rules}
 use Rattle.job.proofs.examine_numbers.Goals as goal
 
 pub returns-then-not-in_bounds : goal.returns-then-not-in_bounds

@@ -1,15 +1,12 @@
-use mathlib.Core.Path.{◌≡◌, refl, sym, ◌∙◌}
-use mathlib.Core.Bool.{false}
-use Prim.Native.Nat.{ℕ, ◌≤◌, ◌<◌, ◌-◌}
+use mathlib.Core.Path.{refl, sym, ◌∙◌}
+use Prim.Native.Nat.{◌<◌}
 use native.Mathlib.Omega.{arith}
 use native.Mathlib.Numerals.{add-one}
 use borrow.Author.Rules.{rules, set_long}
 use borrow.Author.Tests.{lt-leb, le-leb}
-use lib.ListN.{length, get_or, take, drop}
+use lib.ListN.{length, get_or, take}
 use lib.Seq.{take-suc}
 use Rattle.job.specs.Refusal.{examined_outcome, demand}
-use Rattle.job.specs.Handed.{listed}
-use Rattle.job.specs.Order.{order_from, order_known}
 use Rattle.job.proofs.Marks.{unmarked, marked}
 use Rattle.job.proofs.OrderTurns.{order_surplus, order_range, order_again, order_pass, order_end}
 use Rattle.job.proofs.examine_order.Goals as goal

@@ -1,6 +1,5 @@
 -- `job::examine_order_alone` meets its contract.
 use mathlib.Core.Path.{sym, ◌∙◌}
-use borrow.Author.Rules.{rules}
 use borrow.Author.Tests.{lt-leb}
 use Rattle.job.specs.Refusal.{examined_outcome}
 use Rattle.job.specs.Handed.{tests_known}

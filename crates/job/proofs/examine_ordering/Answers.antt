@@ -1,6 +1,5 @@
 -- `job::examine_ordering` meets its contract.
 use mathlib.Core.Path.{sym, ◌∙◌}
-use borrow.Author.Rules.{rules}
 use Rattle.job.specs.Refusal.{examined_outcome}
 use Rattle.job.specs.Calls.{ordering_known}
 use Rattle.job.proofs.Laws.{done_both}

@@ -1,13 +1,12 @@
-use mathlib.Core.Path.{◌≡◌, refl, sym, ap, ◌∙◌}
-use Prim.Native.Nat.{ℕ, ◌+◌, ◌-◌, ◌≤◌}
-use borrow.Author.Rules.{rules}
+use mathlib.Core.Path.{refl, sym, ap, ◌∙◌}
+use Prim.Native.Nat.{ℕ}
 use native.Mathlib.Omega.{arith}
 use borrow.Author.Tests.{le-leb, lt-leb}
-use lib.ListN.{length, drop, get_or}
+use lib.ListN.{get_or}
 use lib.Dec.{leb}
 use Rattle.bitset.specs.Set.{size}
 use Rattle.job.specs.Refusal.{refused, examined_outcome}
-use Rattle.job.specs.Handed.{each, wants_fit}
+use Rattle.job.specs.Handed.{wants_fit}
 use Rattle.job.proofs.Laws.{each_pass, each_fail, each_end}
 use Rattle.job.proofs.examine_sizes.Goals as goal
 

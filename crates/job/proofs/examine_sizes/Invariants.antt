@@ -1,15 +1,10 @@
 -- `job::examine_sizes` meets its contract. The invariant: the examination of all tests comes to that of the tests from t on.
-use mathlib.Core.Path.{◌≡◌, refl, sym, ap, ◌∙◌}
-use Prim.Native.Nat.{ℕ, ◌+◌, ◌-◌, ◌≤◌}
-use borrow.Author.Rules.{rules}
-use native.Mathlib.Omega.{arith}
-use borrow.Author.Tests.{le-leb, lt-leb}
-use lib.ListN.{length, drop, get_or}
+use mathlib.Core.Path.{◌≡◌}
+use Prim.Native.Nat.{◌+◌, ◌-◌, ◌≤◌}
+use lib.ListN.{length, drop}
 use lib.Dec.{leb}
 use Rattle.bitset.specs.Set.{size}
-use Rattle.job.specs.Refusal.{refused, examined_outcome}
-use Rattle.job.specs.Handed.{each, wants_fit}
-use Rattle.job.proofs.Laws.{each_pass, each_fail, each_end}
+use Rattle.job.specs.Handed.{each}
 use Rattle.job.proofs.examine_sizes.Given as goal
 
 abbrev pub invariant-loop-t : goal.invariant-loop-t

@@ -1,7 +1,6 @@
 -- `job::examine_sizing` meets its contract.
 use mathlib.Core.Path.{◌≡◌, sym, ◌∙◌}
 use lib.ListN.{length}
-use borrow.Author.Rules.{rules}
 use Rattle.job.specs.Refusal.{done, examined_outcome}
 use Rattle.job.specs.Handed.{counts_known}
 use Rattle.job.specs.Calls.{sizing_known}

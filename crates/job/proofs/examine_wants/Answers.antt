@@ -1,12 +1,11 @@
 use mathlib.Core.Path.{◌≡◌, refl, sym, ap, ◌∙◌}
-use Prim.Native.Nat.{ℕ, ◌+◌, ◌-◌, ◌≤◌, min}
-use borrow.Author.Rules.{rules}
+use Prim.Native.Nat.{ℕ, ◌≤◌, min}
 use native.Mathlib.Omega.{arith}
-use lib.ListN.{length, drop, get_or}
+use lib.ListN.{get_or}
 use native.Mathlib.Nat.{min-eq_left}
 use Rattle.bitset.specs.Set.{inside, below}
 use Rattle.job.specs.Refusal.{examined_outcome}
-use Rattle.job.specs.Handed.{all_curves, each, wants_known}
+use Rattle.job.specs.Handed.{all_curves, wants_known}
 use Rattle.job.proofs.Laws.{each_pass, each_fail, each_end}
 use Rattle.job.proofs.examine_wants.Goals as goal
 

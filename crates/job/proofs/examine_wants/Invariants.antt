@@ -1,14 +1,9 @@
 -- `job::examine_wants` meets its contract. The invariant: the examination of all tests comes to that of the tests from t on.
-use mathlib.Core.Path.{◌≡◌, refl, sym, ap, ◌∙◌}
-use Prim.Native.Nat.{ℕ, ◌+◌, ◌-◌, ◌≤◌, min}
-use borrow.Author.Rules.{rules}
-use native.Mathlib.Omega.{arith}
-use lib.ListN.{length, drop, get_or}
-use native.Mathlib.Nat.{min-eq_left}
-use Rattle.bitset.specs.Set.{inside, below}
-use Rattle.job.specs.Refusal.{examined_outcome}
-use Rattle.job.specs.Handed.{all_curves, each, wants_known}
-use Rattle.job.proofs.Laws.{each_pass, each_fail, each_end}
+use mathlib.Core.Path.{◌≡◌}
+use Prim.Native.Nat.{◌+◌, ◌-◌, ◌≤◌}
+use lib.ListN.{length, drop}
+use Rattle.bitset.specs.Set.{inside}
+use Rattle.job.specs.Handed.{all_curves, each}
 use Rattle.job.proofs.examine_wants.Given as goal
 
 abbrev pub invariant-loop-t : goal.invariant-loop-t

@@ -1,6 +1,5 @@
 -- `curveplan::figure_of` meets its contract, case by case.
 use Rattle.job.specs.Refusal.{figure}
-use borrow.Author.Rules.{rules}
 use Rattle.job.proofs.figure_of.Goals as goal
 
 pub returns-in-Truncated : goal.returns-in-Truncated

@@ -1,6 +1,5 @@
 -- `curveplan::number_of` meets its contract, case by case.
 use Rattle.job.specs.Refusal.{number}
-use borrow.Author.Rules.{rules}
 use Rattle.job.proofs.number_of.Goals as goal
 
 pub returns-in-Truncated : goal.returns-in-Truncated

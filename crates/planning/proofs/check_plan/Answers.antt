@@ -5,7 +5,6 @@ use Prim.Native.Nat.{ℕ, ◌-◌, ◌^◌, ◌≤◌, min}
 use native.Mathlib.Omega.{arith}
 use lib.ListN.{length, take}
 use lib.Seq.{length-take-le}
-use borrow.Author.Rules.{rules}
 use Rattle.job.specs.Refusal.{done, count_outcome}
 use Rattle.job.specs.Words.{job_of, capacity}
 use Rattle.job.specs.Handed.{all_curves}

@@ -1,10 +1,7 @@
-use mathlib.Core.Path.{◌≡◌}
-use Prim.Native.Nat.{◌≤◌, ◌-◌, ◌+◌, ◌*◌}
+use Prim.Native.Nat.{◌≤◌}
 use native.Mathlib.Omega.{arith}
 use borrow.Author.Rules.{rules}
-use lib.ListN.{length, drop}
 use Rattle.bitset.proofs.Laws.{size_le}
-use Rattle.drive.specs.Steps.{curve_count}
 use Rattle.planning.proofs.Turns.{count_here, count_end_lem}
 use Rattle.planning.proofs.count_curves.Goals.{After-size-count}
 use Rattle.planning.proofs.count_curves.Goals as goal

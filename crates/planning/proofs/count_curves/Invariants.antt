@@ -1,12 +1,8 @@
 -- `count_curves` meets its contract. The invariant: the whole number comes to `count` and that of the sets from i on.
 use mathlib.Core.Path.{◌≡◌}
 use Prim.Native.Nat.{◌≤◌, ◌-◌, ◌+◌, ◌*◌}
-use native.Mathlib.Omega.{arith}
-use borrow.Author.Rules.{rules}
 use lib.ListN.{length, drop}
-use Rattle.bitset.proofs.Laws.{size_le}
 use Rattle.drive.specs.Steps.{curve_count}
-use Rattle.planning.proofs.Turns.{count_here, count_end_lem}
 use Rattle.planning.proofs.count_curves.Given as goal
 
 abbrev pub invariant-loop-i : goal.invariant-loop-i

@@ -1,8 +1,6 @@
 -- `examine_sets` meets its contract.
 use mathlib.Core.Path.{◌≡◌, sym, ap, ◌∙◌}
-use mathlib.Core.Logic.{⊎_elim}
 use Prim.Native.Nat.{ℕ, min}
-use borrow.Author.Rules.{rules}
 use Rattle.job.specs.Refusal.{examined_outcome}
 use Rattle.planning.proofs.Sequence.{sets_known_lem, sets_drops, sets_loads}
 use Rattle.planning.proofs.examine_sets.Goals.{then-drops-tests+else-loads-tests, else-drops-tests}
@@ -20,6 +18,6 @@ returns c =
     c.smaller-2.ensures ∙ ap (λ (x : ℕ). min x a.tests) c.smaller.ensures in
     rw least
     (sym (elim c.if-drops-tests.branch [
-      then-drops-tests+else-loads-tests w ↦ sets_loads a.tests a.drops a.loads w.if-drops-tests.true w.if-loads-tests.false
-    | else-drops-tests w ↦ sets_drops a.tests a.drops a.loads w.if-drops-tests.false
+      | then-drops-tests+else-loads-tests w ↦ sets_loads a.tests a.drops a.loads w.if-drops-tests.true w.if-loads-tests.false
+      | else-drops-tests w ↦ sets_drops a.tests a.drops a.loads w.if-drops-tests.false
     ]))

@@ -1,13 +1,9 @@
 -- `in_order` meets its contract. The invariant: what is written in all comes to what is written and the wants of the steps from i on.
-use mathlib.Core.Path.{◌≡◌, refl, sym, ap, ◌∙◌}
-use Prim.Native.Nat.{◌+◌, ◌≤◌, ◌-◌}
-use native.Mathlib.Omega.{arith}
-use borrow.Author.Rules.{rules}
-use lib.ListN.{length, get_or, drop, length-set}
+use mathlib.Core.Path.{◌≡◌}
+use Prim.Native.Nat.{◌≤◌, ◌-◌}
+use lib.ListN.{length, drop}
 use lib.Seq.{sets}
-use Rattle.lists.proofs.Overwritten.{sets_cons}
 use Rattle.planning.specs.Plan.{in_order}
-use Rattle.planning.proofs.Turns.{wants_next, wants_end}
 use Rattle.planning.proofs.in_order.Given as goal
 
 abbrev pub invariant-loop-i : goal.invariant-loop-i

@@ -1,5 +1,4 @@
 -- `plan` meets its contract: behind the examinations it is planning without them.
-use borrow.Author.Rules.{rules}
 use Rattle.job.proofs.Examination.{examined_refused, examined_passed}
 use Rattle.planning.specs.Plan.{set_lists, plan_outcome}
 use Rattle.planning.proofs.Planned.{refused_contract, tests_contract}

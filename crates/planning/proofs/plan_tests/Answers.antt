@@ -3,7 +3,6 @@ use mathlib.Core.Path.{◌≡◌, sym, ap, ◌∙◌}
 use native.Mathlib.Omega.{arith}
 use lib.ListN.{length, take}
 use lib.Seq.{length-take-le}
-use borrow.Author.Rules.{rules}
 use Rattle.lists.proofs.Overwritten.{sets_front}
 use Rattle.planning.specs.Plan.{set_lists, plan_outcome, in_order}
 use Rattle.planning.proofs.Turns.{length_in_order}

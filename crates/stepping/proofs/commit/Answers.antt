@@ -4,7 +4,6 @@ use mathlib.Core.List.{List}
 use Prim.Native.Nat.{ℕ}
 use native.Mathlib.Omega.{arith}
 use lib.ListN.{length}
-use borrow.Author.Rules.{rules, length_unmapped}
 use Rattle.job.specs.Refusal.{done, number, figure}
 use Rattle.stepping.specs.declared.NextStep.{NextStep}
 use Rattle.stepping.specs.declared.CommitAnswer.{CommitAnswer}

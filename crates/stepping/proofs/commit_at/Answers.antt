@@ -1,7 +1,5 @@
 -- `commit_at` meets its contract.
 use mathlib.Core.Path.{◌≡◌, sym, ap, ◌∙◌}
-use borrow.Author.Rules.{rules}
-use borrow.Author.Tests.{not-true, not-false}
 use Rattle.job.specs.Refusal.{done}
 use Rattle.stepping.specs.Stepping.{look_at, is_done, commit_outcome}
 use Rattle.stepping.proofs.Exact.{commit_next, commit_other, commit_behind}

@@ -1,5 +1,4 @@
 -- `held_behind` meets its contract, case by case.
-use borrow.Author.Rules.{rules}
 use Rattle.stepping.specs.Stepping.{held_behind}
 use Rattle.stepping.proofs.held_behind.Goals as goal
 

@@ -1,5 +1,4 @@
 -- `is_done` meets its contract, case by case.
-use borrow.Author.Rules.{rules}
 use Rattle.stepping.specs.Stepping.{is_done}
 use Rattle.stepping.proofs.is_done.Goals as goal
 

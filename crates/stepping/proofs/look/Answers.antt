@@ -4,7 +4,6 @@ use mathlib.Core.List.{List}
 use Prim.Native.Nat.{ℕ}
 use lib.ListN.{length}
 use native.Mathlib.Omega.{arith}
-use borrow.Author.Rules.{rules, length_unmapped}
 use Rattle.stepping.specs.Stepping.{look_at}
 use Rattle.stepping.proofs.Entries.{few_steps, count_steps, first_entries}
 use Rattle.stepping.proofs.look.Goals.{Start}

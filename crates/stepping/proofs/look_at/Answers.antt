@@ -1,5 +1,5 @@
 -- `look_at` meets its contract.
-use mathlib.Core.Path.{◌≡◌, sym, ap, ◌∙◌}
+use mathlib.Core.Path.{sym, ap, ◌∙◌}
 use mathlib.Core.Logic.{inl, inr}
 use mathlib.Core.List.{List}
 use native.Mathlib.Omega.{arith}
@@ -7,7 +7,6 @@ use native.Mathlib.Numerals.{add-one}
 use Prim.Native.Nat.{ℕ, ◌+◌}
 use lib.ListN.{get_or, drop}
 use borrow.Author.Rules.{part_to_end}
-use borrow.Author.Rules.{rules}
 use Rattle.drive.specs.Plan.{furthest, next}
 use Rattle.stepping.specs.declared.NextStep.TheVariants.{Step}
 use Rattle.stepping.proofs.Exact.{done_exact, test_step, end_step}

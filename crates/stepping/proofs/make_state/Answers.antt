@@ -1,6 +1,5 @@
 -- `make_state` meets its contract.
-use mathlib.Core.Path.{◌≡◌, refl, sym, ap, ◌∙◌}
-use borrow.Author.Rules.{rules}
+use mathlib.Core.Path.{◌∙◌}
 use Rattle.job.specs.Refusal.{count_outcome}
 use Rattle.job.specs.Words.{job_of}
 use Rattle.job.proofs.Examination.{examined_refused, examined_passed}

@@ -1,16 +1,13 @@
 use Prim.Native.Nat.{ℕ, zero, suc, ◌-◌, ◌^◌, ◌≤◌, ◌<◌}
 use mathlib.Core.Path.{◌≡◌, refl, sym, ap, ◌∙◌}
-use mathlib.Core.List.{List}
 use native.Mathlib.Omega.{arith}
-use borrow.Author.Rules.{rules}
 use lib.ListN.{get_or}
-use Rattle.bitset.specs.Set.{◌∪◌, ◌∖◌, size, bit}
+use Rattle.bitset.specs.Set.{◌∪◌, ◌∖◌, bit}
 use Rattle.bitset.proofs.Bits.{bit-∖}
 use Rattle.bitset.proofs.Element.{shl_some, ∈-lt}
 use Rattle.bitset.proofs.Parts.{in_range}
-use Rattle.drive.specs.ContractWords.{Grouped}
 use Rattle.drive.proofs.Staying.{victims_first}
-use Rattle.drive.proofs.Groups.{Chosen, goes_first, chosen_start, chosen_next, chosen_left}
+use Rattle.drive.proofs.Groups.{goes_first, chosen_start, chosen_next, chosen_left}
 use Rattle.drive.proofs.choice.drop_from_far.Goals.{After-one_less-last}
 use Rattle.drive.proofs.choice.drop_from_far.Goals as goal
 

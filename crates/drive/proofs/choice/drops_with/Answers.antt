@@ -2,7 +2,6 @@
 use mathlib.Core.Path.{◌≡◌, sym, ap, ◌∙◌}
 use Prim.Native.Nat.{ℕ, ◌-◌}
 use native.Mathlib.Omega.{arith}
-use borrow.Author.Rules.{rules}
 use Rattle.bitset.specs.Set.{◌∖◌, size}
 use Rattle.bitset.proofs.Parts.{in_range}
 use Rattle.drive.specs.Plan.{furthest, victims, drops_for}

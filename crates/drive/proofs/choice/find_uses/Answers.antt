@@ -1,22 +1,13 @@
-use Prim.Native.Nat.{ℕ, zero, suc, ◌+◌, ◌-◌, ◌≤◌, ◌<◌, min}
+use Prim.Native.Nat.{ℕ, zero, suc, ◌+◌, ◌≤◌, ◌<◌}
 use mathlib.Core.Path.{◌≡◌, refl, sym, ap, ◌∙◌}
-use mathlib.Core.List.{List, [], ◌∷◌}
 use native.Mathlib.Omega.{arith}
-use native.Mathlib.Decide.{dec_le}
 use borrow.Author.Rules.{rules}
-use lib.ListN.{length, get_or, drop, length-set}
-use Rattle.bitset.specs.Set.{◌∩◌, ◌∪◌, ◌∖◌, size, bit}
-use Rattle.bitset.proofs.Bits.{bit-∩, bit-∪, bit-∖, same_by_bits, sizes_eq}
-use Rattle.bitset.proofs.Parts.{◌≼◌}
-use Rattle.drive.specs.Uses.{next_use}
-use Rattle.drive.specs.Steps.{together}
-use Rattle.drive.specs.ContractWords.{Grouped}
+use lib.ListN.{length, length-set}
+use Rattle.bitset.specs.Set.{◌∩◌, ◌∖◌, size}
+use Rattle.bitset.proofs.Bits.{bit-∩, bit-∖}
 use Rattle.bitset.proofs.Laws.{∩-lt, size_le, size_none}
 use Rattle.bitset.proofs.Element.{some}
-use Rattle.drive.specs.declared.choice.NextUse.{NextUse}
-use Rattle.drive.specs.declared.choice.NextUse.TheVariants.{At, Never}
 use Rattle.drive.proofs.Groups.{without_none, grouped_start, grouped_next, soon_next, step_zero, used_ends, Met, one_met}
-use Rattle.drive.proofs.Turns.{step_of}
 use Rattle.drive.proofs.choice.find_uses.Goals.{After-common-group, In-loop-left}
 use Rattle.drive.proofs.choice.find_uses.Goals as goal
 

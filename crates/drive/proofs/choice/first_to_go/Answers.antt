@@ -1,11 +1,11 @@
-use Prim.Native.Nat.{ℕ, ◌^◌, ◌≤◌, ◌<◌}
+use Prim.Native.Nat.{ℕ, ◌≤◌, ◌<◌}
 use mathlib.Core.Path.{◌≡◌, sym, ◌∙◌}
 use native.Mathlib.Omega.{arith}
 use borrow.Author.Rules.{rules}
 use lib.Count.{count_trailing_zeros}
-use Rattle.bitset.specs.Set.{◌∖◌, size, bit}
+use Rattle.bitset.specs.Set.{bit}
 use Rattle.bitset.proofs.Element.{∈-pos}
-use Rattle.drive.proofs.Walk.{Walked, walk_start, walk_on, walk_size, walk_end}
+use Rattle.drive.proofs.Walk.{walk_start, walk_on, walk_size, walk_end}
 use Rattle.drive.proofs.choice.first_to_go.Goals as goal
 
 pub loop-higher-init : goal.loop-higher-init

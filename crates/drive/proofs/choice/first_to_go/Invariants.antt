@@ -1,12 +1,9 @@
 -- `first_to_go` meets its contract. The invariant: all that the walk passed is lower than all that is left.
-use Prim.Native.Nat.{ℕ, ◌^◌, ◌≤◌, ◌<◌}
-use mathlib.Core.Path.{◌≡◌, sym, ◌∙◌}
-use native.Mathlib.Omega.{arith}
-use borrow.Author.Rules.{rules}
+use Prim.Native.Nat.{◌^◌, ◌<◌}
+use mathlib.Core.Path.{◌≡◌}
 use lib.Count.{count_trailing_zeros}
-use Rattle.bitset.specs.Set.{◌∖◌, size, bit}
-use Rattle.bitset.proofs.Element.{∈-pos}
-use Rattle.drive.proofs.Walk.{Walked, walk_start, walk_on, walk_size, walk_end}
+use Rattle.bitset.specs.Set.{◌∖◌, size}
+use Rattle.drive.proofs.Walk.{Walked}
 use Rattle.drive.proofs.choice.first_to_go.Given as goal
 
 abbrev pub invariant-loop-higher : goal.invariant-loop-higher

@@ -1,16 +1,15 @@
-use Prim.Native.Nat.{ℕ, ◌+◌, ◌-◌, ◌<◌}
+use Prim.Native.Nat.{ℕ, ◌+◌, ◌<◌}
 use mathlib.Core.Path.{◌≡◌, ap, ◌∙◌}
 use mathlib.Core.List.{List}
 use native.Mathlib.Omega.{arith}
 use native.Mathlib.Decide.{ℕ_discrete}
 use borrow.Author.Rules.{rules}
 use lib.ListN.{get_or}
-use Rattle.bitset.specs.Set.{◌∩◌, ◌∖◌, size, bit}
+use Rattle.bitset.specs.Set.{◌∖◌, size, bit}
 use Rattle.bitset.proofs.Bits.{bit-∩, bit-∖}
 use Rattle.bitset.proofs.Laws.{size_split}
 use Rattle.bitset.proofs.Parts.{◌≼◌, without-≼}
-use Rattle.drive.specs.ContractWords.{Grouped}
-use Rattle.drive.proofs.Staying.{First, all_first}
+use Rattle.drive.proofs.Staying.{all_first}
 use Rattle.drive.proofs.Groups.{group_stays, never_stays, next_first, stay_victims}
 use Rattle.drive.proofs.choice.keep_from_near.Goals as goal
 

@@ -1,19 +1,13 @@
 -- `keep_from_near` meets its contract. The invariant: more are left than have to go, none of the groups before group j, and all of them go before those that
 -- stay.
-use Prim.Native.Nat.{ℕ, ◌+◌, ◌-◌, ◌<◌}
-use mathlib.Core.Path.{◌≡◌, ap, ◌∙◌}
+use Prim.Native.Nat.{ℕ, ◌-◌, ◌<◌}
+use mathlib.Core.Path.{◌≡◌}
 use mathlib.Core.List.{List}
-use native.Mathlib.Omega.{arith}
-use native.Mathlib.Decide.{ℕ_discrete}
-use borrow.Author.Rules.{rules}
 use lib.ListN.{get_or}
-use Rattle.bitset.specs.Set.{◌∩◌, ◌∖◌, size, bit}
-use Rattle.bitset.proofs.Bits.{bit-∩, bit-∖}
-use Rattle.bitset.proofs.Laws.{size_split}
-use Rattle.bitset.proofs.Parts.{◌≼◌, without-≼}
+use Rattle.bitset.specs.Set.{size, bit}
+use Rattle.bitset.proofs.Parts.{◌≼◌}
 use Rattle.drive.specs.ContractWords.{Grouped}
-use Rattle.drive.proofs.Staying.{First, all_first}
-use Rattle.drive.proofs.Groups.{group_stays, never_stays, next_first, stay_victims}
+use Rattle.drive.proofs.Staying.{First}
 use Rattle.drive.proofs.choice.keep_from_near.Given as goal
 
 abbrev pub invariant-loop-j : goal.invariant-loop-j

@@ -1,12 +1,10 @@
-use Prim.Native.Nat.{ℕ, ◌+◌, ◌^◌, ◌≤◌, ◌<◌}
-use mathlib.Core.Path.{◌≡◌}
 use mathlib.Core.List.{[], ◌∷◌}
 use native.Mathlib.Omega.{arith}
 use borrow.Author.Rules.{rules}
-use Rattle.bitset.specs.Set.{◌∖◌, size, bit}
+use Rattle.bitset.specs.Set.{◌∖◌}
 use Rattle.bitset.proofs.Bits.{bit-∖, sizes_eq}
 use Rattle.bitset.proofs.Parts.{positive}
-use Rattle.drive.proofs.Walk.{Walked, walk_start, walk_on, walk_size}
+use Rattle.drive.proofs.Walk.{walk_start, walk_on, walk_size}
 use Rattle.drive.proofs.choice.left_after.Goals as goal
 
 pub loop-n-init : goal.loop-n-init

@@ -1,14 +1,9 @@
 -- `left_after` meets its contract. The invariant: all that the walk passed is lower than all that is left, and as many are left as go and as it has still to
 -- pass.
-use Prim.Native.Nat.{ℕ, ◌+◌, ◌^◌, ◌≤◌, ◌<◌}
+use Prim.Native.Nat.{◌+◌, ◌^◌, ◌<◌}
 use mathlib.Core.Path.{◌≡◌}
-use mathlib.Core.List.{[], ◌∷◌}
-use native.Mathlib.Omega.{arith}
-use borrow.Author.Rules.{rules}
-use Rattle.bitset.specs.Set.{◌∖◌, size, bit}
-use Rattle.bitset.proofs.Bits.{bit-∖, sizes_eq}
-use Rattle.bitset.proofs.Parts.{positive}
-use Rattle.drive.proofs.Walk.{Walked, walk_start, walk_on, walk_size}
+use Rattle.bitset.specs.Set.{size}
+use Rattle.drive.proofs.Walk.{Walked}
 use Rattle.drive.proofs.choice.left_after.Given as goal
 
 abbrev pub invariant-loop-n : goal.invariant-loop-n

@@ -1,11 +1,8 @@
 -- `together` meets its contract. The invariant: what the steps from i on want is united.
-use Prim.Native.Nat.{ℕ, ◌-◌, ◌≤◌}
-use mathlib.Core.Path.{◌≡◌, sym, ap, ◌∙◌}
-use native.Mathlib.Omega.{arith}
-use borrow.Author.Rules.{rules}
+use Prim.Native.Nat.{◌≤◌}
+use mathlib.Core.Path.{◌≡◌}
 use lib.ListN.{length, drop}
 use Rattle.drive.specs.Steps.{together}
-use Rattle.drive.proofs.Turns.{together_end, together_back}
 use Rattle.drive.proofs.choice.together.Given as goal
 
 abbrev pub invariant-loop-i : goal.invariant-loop-i

@@ -1,5 +1,4 @@
 -- `wanted_later` meets its contract.
-use borrow.Author.Rules.{rules}
 use Rattle.drive.proofs.choice.wanted_later.Goals as goal
 
 pub returns-then-i-list : goal.returns-then-i-list
