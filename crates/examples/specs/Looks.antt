@@ -1,5 +1,5 @@
 -- Examples of 02, wish 7, looks and commits, by computation on the written rules.
-use Rattle.std.specs.Prelude.{◌≡◌, List, [], ◌∷◌, ℕ, replicate}
+use Rattle.std.specs.Prelude.{◌≡◌, List, [], ◌∷◌, ℕ}
 use Rattle.job.specs.Refusal.{done, refused}
 use Rattle.job.specs.Words.{Job}
 use Rattle.planning.specs.Planning.{our_plan}

@@ -5,7 +5,7 @@ use Prim.Native.Nat.{ℕ}
 use native.Mathlib.Omega.{arith}
 use lib.Pow.{pow_pos}
 use lib.ListN.{length}
-use Rattle.job.specs.Refusal.{Outcome, done, refused, ◌>>=◌, ◌>>◌}
+use Rattle.job.specs.Refusal.{Outcome, done, refused, ◌>>=◌}
 use Rattle.job.specs.Words.{capacity}
 use Rattle.job.specs.Handed.{wants_fit}
 use Rattle.job.specs.Calls.{ordering_known, planning_known}

@@ -1,6 +1,6 @@
 -- "The C call: reading, ordering, planning": the stages before writing, which the call and the sheet share.
 use Rattle.std.specs.Prelude.{List, ℕ}
-use Rattle.job.specs.Refusal.{Outcome, done, ◌>>=◌, ◌>>◌}
+use Rattle.job.specs.Refusal.{Outcome, done, ◌>>=◌}
 use Rattle.job_bytes.specs.JobBytes.{Request, job_in, read_bytes}
 use Rattle.ordering.specs.Ordering.{ordering}
 use Rattle.planning.specs.Plan.{Plan, handed}

@@ -1,6 +1,5 @@
 -- `planned::plan_job` meets its contract.
 use native.Mathlib.Omega.{arith}
-use borrow.Author.Rules.{rules}
 use Rattle.planning.specs.Plan.{set_lists}
 use Rattle.planned.specs.ContractWords.{planned_outcome, lists_of}
 use Rattle.planned.proofs.Stages.{too_short, long_enough}
