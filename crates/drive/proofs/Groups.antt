@@ -133,7 +133,8 @@ step_zero Never = refl
 step_zero (At m) = ap At (omega arith)
 
 -- a candidate that is left is used in a later step, so there is one
-pub used_ends : (x used k : ℕ) (later : List ℕ) → used ≡ together later → bit x used ≡ 1 → next_use x later ≡ step_of k (next_use x (drop k later)) → k < length later
+pub used_ends : (x used k : ℕ) (later : List ℕ) → used ≡ together later → bit x used ≡ 1 → next_use x later ≡ step_of k (next_use x (drop k later))
+    → k < length later
 used_ends x used k later e i ahead = go (dec_le (length later) k)
   where
     go : Dec (length later ≤ k) → k < length later

@@ -91,7 +91,8 @@ sets_over (x ∷ xs) l m i e before behind =
 module _ (capacity all h i : ℕ) (ws ds ls : List ℕ) (d l : ℕ) (b : Bool) (below : i < length ws) (drops : d ≡ get_or ds i 0) (loads : l ≡ get_or ls i 0)
     (asked : b ≡ keeps capacity all h (record { want = get_or ws i 0; sets = record { drops = d; loads = l } })) where
   turn : check_from capacity all i h (moves (drop i ws) (drop i ds) (drop i ls))
-      ≡ or_breaks b i (check_from capacity all (i + 1) (moved h (record { drops = d; loads = l })) (moves (drop (i + 1) ws) (drop (i + 1) ds) (drop (i + 1) ls)))
+      ≡ or_breaks b i (check_from capacity all (i + 1) (moved h (record { drops = d; loads = l }))
+      (moves (drop (i + 1) ws) (drop (i + 1) ds) (drop (i + 1) ls)))
   unfolding check_from moves
   turn =
       rw (asked, drops, loads, drop-cons ws i 0 below)

@@ -146,7 +146,8 @@ module _ (n : ℕ) (ws : List ℕ) (own : (i : ℕ) → i < length ws → get_or
   -- no test is larger than all together
   pub largest_together : largest ws ≤ size (together ws)
   largest_together =
-      (large_enough ws (size (together ws))).1 (λ t l. omega (arith, sizes_le (get_or ws t 0 ∷ []) (together ws ∷ []) (λ c. omega (arith, has_together ws t l c))))
+      (large_enough ws (size (together ws))).1
+      (λ t l. omega (arith, sizes_le (get_or ws t 0 ∷ []) (together ws ∷ []) (λ c. omega (arith, has_together ws t l c))))
 
   -- AN ENTRY IS THE PLAN'S COUNT, OR THE MARK WHERE THE SIZE IS TOO SMALL
   pub entry_is : (p : ℕ) → ((largest ws ≤ p) × (count_for n ws p ≡ loads p)) ⊎ ((p < largest ws) × (count_for n ws p ≡ mark))

@@ -85,7 +85,8 @@ module _ {most p total : ℕ} {loads counts : List ℕ} (e : Entered most p tota
       here : or_mark (leb most p) (sum (drop p loads)) ≡ total + get_or loads p 0
       here = unfold or_mark in rw t (sym total_is)
 
-      go : (q : ℕ) → p - 1 < q → q ≤ 64 → Dec (q ≡ p) → get_or (set counts (p - 1) (total + get_or loads p 0)) (q - 1) 0 ≡ or_mark (leb most q) (sum (drop q loads))
+      go : (q : ℕ) → p - 1 < q → q ≤ 64 → Dec (q ≡ p)
+          → get_or (set counts (p - 1) (total + get_or loads p 0)) (q - 1) 0 ≡ or_mark (leb most q) (sum (drop q loads))
       go q h m (yes f) = rw f (get_or-set_same counts (p - 1) _ 0 (omega (arith, e.long)) ∙ sym here)
       go q h m (no f) = get_or-set_other counts (p - 1) (q - 1) _ 0 (λ g. f (omega arith)) ∙ e.made q (omega arith) m
 
@@ -106,7 +107,8 @@ module _ {most p total : ℕ} {loads counts : List ℕ} (e : Entered most p tota
 -- ---- all of them
 
 -- THE ENTRIES OF ALL SIZES, by one
-pub sizes_by : (n : ℕ) (ws counts : List ℕ) → length counts ≡ 64 → ((p : ℕ) → 1 ≤ p → p ≤ 64 → get_or counts (p - 1) 0 ≡ count_for n ws p) → counts ≡ all_sizes n ws
+pub sizes_by : (n : ℕ) (ws counts : List ℕ) → length counts ≡ 64 → ((p : ℕ) → 1 ≤ p → p ≤ 64 → get_or counts (p - 1) 0 ≡ count_for n ws p)
+    → counts ≡ all_sizes n ws
 sizes_by n ws counts long each =
     ext_get_or 0 counts (all_sizes n ws) (long ∙ sym (length_sizes n ws))
     (λ i h. let e : i ≡ suc i - 1 = omega arith in

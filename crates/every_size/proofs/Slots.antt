@@ -145,7 +145,8 @@ module _ {hold : ℕ → ℕ} {w seen others placed free : ℕ} {ws before slots
       go (yes l) h =
           let held = wait.agree c p mine o m in
           not_taken free (slot c) b low p (above p l m) ∙ at.room p o m ∙ ap (λ (x : ℕ). (p - size w) - x) (omega (arith, more p))
-      go (no l) (yes h) = let held = wait.agree c p mine o m in omega (arith, not_taken free (slot c) b low p h, full p (omega arith) h m, at.room p o m, more p)
+      go (no l) (yes h) = let held = wait.agree c p mine o m in
+          omega (arith, not_taken free (slot c) b low p h, full p (omega arith) h m, at.room p o m, more p)
       go (no l) (no h) = let held = wait.agree c p mine o m in omega (arith, one_taken free (slot c) b low p (omega arith) m, at.room p o m, more p)
 
   -- what else the drive holds goes before c: the others that wait, and what is never used
@@ -260,7 +261,8 @@ module _ {hold : ℕ → ℕ} {w seen others placed free : ℕ} {ws before slots
       few d (yes e) = rw (e, new_slot) low.most
       few d (no q) = rw (old_slot d q) (at.most d)
 
-      agrees : (d p : ℕ) → 1 ≤ p → p ≤ 64 → (d ≡ c) ⊎ ((bit d placed ≡ 1) × (d ≡ c → ⊥)) → bit d (held_next hold w ws p) ≡ holds_at (get_or (set slots c b) d 0) p
+      agrees : (d p : ℕ) → 1 ≤ p → p ≤ 64 → (d ≡ c) ⊎ ((bit d placed ≡ 1) × (d ≡ c → ⊥))
+          → bit d (held_next hold w ws p) ≡ holds_at (get_or (set slots c b) d 0) p
       agrees d p o m (inl e) = rw (e, new_slot) (placed_exact p o m)
       agrees d p o m (inr i) = rw (old_slot d i.1) (at.agree d p i.0 o m)
 

@@ -40,7 +40,13 @@ module _ (p curves : ℕ) (wants order : List ℕ) (some : 1 ≤ p) (few : p ≤
   as_checking : checking_known job 0 order ≡ sizing_known curves wants order
   unfolding checking_known job_known_by sizing_known
   as_checking =
-      rw (counts, done_both (method_known 0) _ method, booked_done job.rig some few, done_both (held_known curves 0) _ ((held_exact curves 0).1 (pow_pos curves)))
+      rw (
+        counts,
+        done_both (method_known 0) _ method,
+        booked_done job.rig some few,
+        done_both (held_known curves 0) _
+            ((held_exact curves 0).1 (pow_pos curves)),
+      )
       (passed_end (counts_known curves (length wants)) (wants_known curves wants) (order_known (length wants) order))
 
   -- APART FROM 7, THE WALK REFUSES AS PLANNING DOES

@@ -44,7 +44,8 @@ field : (f : Field) (d i : ℕ) (bs : List ℕ) → Refuses P (read_field f d i 
 unfolding read_field
 field f zero i bs = tt
 field f (suc d) i bs =
-    refuses_bind P (read_number f.width i bs) _ (number f.width i bs) (λ v e. refuses_both P _ _ (refuses_demand P _ 2 i (omega arith, omega arith, λ e. omega arith)) tt)
+    refuses_bind P (read_number f.width i bs) _ (number f.width i bs)
+    (λ v e. refuses_both P _ _ (refuses_demand P _ 2 i (omega arith, omega arith, λ e. omega arith)) tt)
 
 all_fields : (fs : List Field) (map : ℕ) (values : List ℕ) (i : ℕ) (bs : List ℕ) → Refuses P (read_fields fs map values i bs)
 unfolding read_fields

@@ -1,4 +1,5 @@
--- What `best_of` finds among the numbers below n: an eligible one that is better than each eligible one before it, and than which none behind it is better. So of
+-- What `best_of` finds among the numbers below n: an eligible one that is better than each eligible one before it, and than which none behind it is better. So
+-- of
 -- several with the best key it is the first, where none is better than itself, and the last, where each is at least as good as itself.
 use mathlib.Core.Path.{◌≡◌, refl, sym, subst, ◌∙◌}
 use mathlib.Core.Bool.{Bool, true, false, ◌&&◌, false≢true}

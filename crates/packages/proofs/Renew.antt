@@ -203,7 +203,8 @@ module _ (fits : ℕ → Bool) (cs ds : List ℕ) (i j : ℕ) (before : i < j) (
   module _ (k : ℕ) (other : k ≡ i → ⊥) where
     score_is : (x : ℕ) → (x ≡ i → ⊥) → 0 < x → score ds k x ≡ score cs (old_place j k) (old_place j x)
     score_is x h l =
-        score_some ds k x l ∙ ap (λ (a : ℕ). 1 + common a (get_or ds x 0)) (others k other) ∙ ap (λ (b : ℕ). 1 + common (get_or cs (old_place j k) 0) b) (others x h)
+        score_some ds k x l ∙ ap (λ (a : ℕ). 1 + common a (get_or ds x 0)) (others k other)
+        ∙ ap (λ (b : ℕ). 1 + common (get_or cs (old_place j k) 0) b) (others x h)
         ∙ sym (score_some cs (old_place j k) (old_place j x) (omega (arith, old_less j 0 x l)))
 
     fits_is : (x : ℕ) → (x ≡ i → ⊥) → fits (get_or ds k 0 ∪ get_or ds x 0) ≡ fits (get_or cs (old_place j k) 0 ∪ get_or cs (old_place j x) 0)
@@ -348,7 +349,8 @@ module _ (fits : ℕ → Bool) (cs ds : List ℕ) (i j : ℕ) (before : i < j) (
         kept.same ∙ old_score q.0 ∙ sym (score_new fits cs ds i j before long within made k other (r % 256) (old_best q.0) q.3 (λ _. q.2))
 
     -- the joined package does not come in question, or is no better
-    pub rated_stays : (k < i → fits (get_or ds k 0 ∪ get_or ds i 0) ≡ true → (score ds k i ≤ t / 256) × (i < t % 256 → score ds k i < t / 256)) → Rated fits ds k t
+    pub rated_stays : (k < i → fits (get_or ds k 0 ∪ get_or ds i 0) ≡ true → (score ds k i ≤ t / 256) × (i < t % 256 → score ds k i < t / 256))
+        → Rated fits ds k t
     rated_stays worse =
         best_rated fits ds k t row (λ x l m f. at_most x (ℕ_discrete x i) l m f)
         (λ z.

@@ -227,7 +227,11 @@ singles [] = refl
 singles (t ∷ ts) = ap {B = List ℕ} (λ r. t ∷ r) (singles ts)
 
 pub packages_order : (places : ℕ) (wants : List ℕ) → IsOrder (length wants) (packages places wants)
-packages_order places wants = record { once = λ t l. same t ∙ (up_to_order (length wants)).once t l; only = λ t l. same t ∙ (up_to_order (length wants)).only t l }
+packages_order places wants =
+    record {
+      once = λ t l. same t ∙ (up_to_order (length wants)).once t l;
+      only = λ t l. same t ∙ (up_to_order (length wants)).only t l;
+    }
   where
     same : (t : ℕ) → count t (packages places wants) ≡ count t (up_to (length wants))
     same t =

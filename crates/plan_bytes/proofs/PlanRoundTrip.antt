@@ -60,7 +60,8 @@ step_map M l h = omega (arith, bit_zero M, bit_suc 0 M, bit_zero (M / 2))
 
 -- ---- written, then read
 module _ (curves tests : ℕ) (few : curves ≤ 64) where
-  field_back : (i s : ℕ) (rest : List ℕ) → s < 2 ^ curves → read_set curves tests (stands s) i (set_field s ++ rest) ≡ done (got s (i + length (set_field s)) rest)
+  field_back : (i s : ℕ) (rest : List ℕ) → s < 2 ^ curves
+      → read_set curves tests (stands s) i (set_field s ++ rest) ≡ done (got s (i + length (set_field s)) rest)
   unfolding read_set set_field stands set_bytes byte_at demand ◌>>=◌ ◌>>◌
   field_back i zero rest h = let n : i ≡ i + 0 = omega arith in rw (← n) refl
   field_back i (suc s) rest h =
@@ -116,7 +117,8 @@ module _ (curves tests : ℕ) (few : curves ≤ 64) where
   InRange (t ∷ ts) (d ∷ ds) (l ∷ ls) = (t < tests) × (d < 2 ^ curves) × (l < 2 ^ curves) × InRange ts ds ls
 
   steps_back : (acc : List Placed) (i : ℕ) (ts ds ls rest : List ℕ) → InRange ts ds ls
-      → read_steps curves tests (length ts) acc i (list_bytes ts ds ls ++ rest) ≡ done (got (acc ++ steps_of i ts ds ls) (i + length (list_bytes ts ds ls)) rest)
+      → read_steps curves tests (length ts) acc i (list_bytes ts ds ls ++ rest) ≡ done
+      (got (acc ++ steps_of i ts ds ls) (i + length (list_bytes ts ds ls)) rest)
   unfolding read_steps steps_bytes steps steps_of ◌>>=◌
   steps_back acc i [] [] [] rest r = let n : i ≡ i + 0 = omega arith in rw (append-nil acc, ← n) refl
   steps_back acc i [] [] (l ∷ ls) rest r = absurd r
@@ -205,7 +207,8 @@ module _ (places curves : ℕ) (wants : List ℕ) where
         test (dec_le (length wants) t),
         below d (λ c. omega (arith, k.0.drops c, s c)),
         below l k.0.known,
-        in_range few (moved h (record { drops = d; loads = l })) ts ds ls (omega arith) (omega arith) (moved-≼ h (record { drops = d; loads = l }) (all_curves curves) s k.0.known)
+        in_range few (moved h (record { drops = d; loads = l })) ts ds ls (omega arith) (omega arith)
+            (moved-≼ h (record { drops = d; loads = l }) (all_curves curves) s k.0.known)
             (λ u e. omega (arith, own u e)) k.1,
       )
     where

@@ -73,6 +73,9 @@ module _ (k : ℕ) (bs : List ℕ) where
     set_groups zero p h z = absurd (omega arith)
     set_groups (suc d) p h z = rw (byte_read h, lt-ltb 0 (get_or bs k 0) z) refl
 
+-- the reader of a set, case by case
+pub ruleset set_cases = (set_absent, set_cut, set_empty, set_groups)
+
 -- ---- what the answer of the reader of a set says
 module _ (bs : List ℕ) (r : SetRead) (o : Outcome (Got ℕ)) (e : set_outcome bs r ≡ o) where
   pub set_answered : (s next : ℕ) → r ≡ SetRead.Set s next → o ≡ done (got s next (drop next bs))
@@ -114,7 +117,8 @@ module _ (curves tests k : ℕ) (bs : List ℕ) where
         module _ (ls m : ℕ) (l : read_set curves tests (bit 1 (get_or bs k 0)) n (drop n bs) ≡ done (got ls m (drop m bs))) where
           pub test_cut : length bs ≤ m → here ≡ refused 11 m
           unfolding read_step between ◌>>=◌ ◌>>◌ demand
-          test_cut h = rw (byte_read k bs there, le-leb 4 (get_or bs k 0) low, le-leb (get_or bs k 0) 7 high, bit_zero (get_or bs k 0), d, l, byte_cut m bs h) refl
+          test_cut h = rw (byte_read k bs there, le-leb 4 (get_or bs k 0) low, le-leb (get_or bs k 0) 7 high, bit_zero (get_or bs k 0), d, l, byte_cut m bs h)
+              refl
 
           pub test_unknown : m < length bs → tests ≤ get_or bs m 0 → here ≡ refused 11 m
           unfolding read_step between ◌>>=◌ ◌>>◌ demand

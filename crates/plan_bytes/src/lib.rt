@@ -65,7 +65,7 @@ fn read_groups(plan: &[u8], start: usize, groups: u8, curves: usize) -> SetRead
 }
 
 // A set, if its bit stands: "A set is written as a group map and group bytes, neither zero."
-#[tactic(auto, using(crate::proofs::Reading::set_absent, crate::proofs::Reading::set_cut, crate::proofs::Reading::set_empty, crate::proofs::Reading::set_groups), unfolding(crate::specs::ContractWords::set_outcome))]
+#[tactic(auto, using(crate::proofs::Reading::set_cases), unfolding(crate::specs::ContractWords::set_outcome))]
 fn read_set(plan: &[u8], at: usize, stands: u8, curves: usize) -> SetRead
     requires { curves ≤ 64 }
     ensures { (tests : ℕ) → set_outcome plan.now result ≡ read_set curves tests stands at (drop at plan.now) }

@@ -83,7 +83,8 @@ module _ (j : Job) (held : ℕ) (order : List ℕ) where
       let g = given lent plan e in
       ap length (sym g.is) ∙ our_length (planning_parts j held order g.known).0
 
-  pub our_check : planning_known j held order ≡ done tt → checking j held order (handed held (our_plan j held order)) ≡ done (load_count (our_plan j held order))
+  pub our_check : planning_known j held order ≡ done tt
+      → checking j held order (handed held (our_plan j held order)) ≡ done (load_count (our_plan j held order))
   unfolding our_plan
   our_check k =
       let a = planning_parts j held order k in

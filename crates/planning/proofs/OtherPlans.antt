@@ -61,9 +61,12 @@ pub record OtherPlans : Type 0 where
   step_before_end : checked (0 ∷ 2 ∷ 0 ∷ []) (1 ∷ 2 ∷ 0 ∷ []) 0 ≡ refused 12 1
 
 pub other_plans : OtherPlans
-unfolding ones inside ◌>>=◌ ◌>>◌ mapped demand room keep choose best_of between listed each places_known curves_known tests_known is_method method_known wants_known
-    wants_fit numbers_known booked_below booked_known held_known job_known_by order_from checking_known planning_known in_order held_after moves curve_count or_breaks keeps
-    check_from later use_by next_use further chosen_by furthest and_then victims drops_for plan_from our_plan planning plan_answer sets_known checked_outcome end_known checking
+unfolding ones inside ◌>>=◌ ◌>>◌ mapped demand room keep choose best_of between listed each places_known curves_known tests_known is_method method_known
+    wants_known
+    wants_fit numbers_known booked_below booked_known held_known job_known_by order_from checking_known planning_known in_order held_after moves curve_count
+    or_breaks keeps
+    check_from later use_by next_use further chosen_by furthest and_then victims drops_for plan_from our_plan planning plan_answer sets_known checked_outcome
+    end_known checking
 other_plans =
     record {
       our_drops = refl;

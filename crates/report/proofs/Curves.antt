@@ -72,9 +72,11 @@ unfolding text
 space = refl
 
 -- THE LOWEST CURVE comes first behind a space, then those of the set without it
-pub curves_lowest : (W s : ℕ) → 0 < s → s < 2 ^ W → curves_text W 0 s ≡ (32 ∷ []) ++ decimal (count_trailing_zeros W s) ++ curves_text W 0 (s ∖ 2 ^ count_trailing_zeros W s)
+pub curves_lowest : (W s : ℕ) → 0 < s → s < 2 ^ W
+    → curves_text W 0 s ≡ (32 ∷ []) ++ decimal (count_trailing_zeros W s) ++ curves_text W 0 (s ∖ 2 ^ count_trailing_zeros W s)
 curves_lowest W s p h =
-    curves_first W 0 (count_trailing_zeros W s) s (omega arith) (omega (arith, lowest_lt W s p h)) (lowest_in W s p h) (λ j l. lowest_least W s j l) ∙ rw space refl
+    curves_first W 0 (count_trailing_zeros W s) s (omega arith) (omega (arith, lowest_lt W s p h)) (lowest_in W s p h) (λ j l. lowest_least W s j l)
+    ∙ rw space refl
 
 pub fewer : (W s : ℕ) → 0 < s → s < 2 ^ W → s ∖ 2 ^ count_trailing_zeros W s < s
 fewer W s p h = omega (arith, remove (count_trailing_zeros W s) s (lowest_in W s p h), pow_pos (count_trailing_zeros W s))
@@ -99,7 +101,12 @@ curves_length : (n c s : ℕ) → c + n ≤ 100 → length (curves_text n c s) �
 unfolding curves_text
 curves_length zero c s h = omega arith
 curves_length (suc n) c s h =
-    omega (arith, length-append (curve_text (bit c s) c) (curves_text n (suc c) s), one_length (bit c s) c (omega arith), curves_length n (suc c) s (omega arith))
+    omega (
+      arith,
+      length-append (curve_text (bit c s) c) (curves_text n (suc c) s),
+      one_length (bit c s) c (omega arith),
+      curves_length n (suc c) s (omega arith),
+    )
 
 pub set_length : (s : ℕ) → length (set_text s) ≤ 192
 unfolding set_text text

@@ -103,7 +103,8 @@ entries curves wants order counts e =
     of : sizing_known curves wants order ≡ done tt → Entries (all_sizes curves steps)
     of known =
         let most : (p : ℕ) → count_for curves steps p ≤ mark =
-        λ p. ⊎_elim (λ x. omega (arith, x.1, unreached curves steps (own curves wants order known) (few curves wants order known) (short curves wants order known) p))
+        λ p. ⊎_elim (λ x. omega
+        (arith, x.1, unreached curves steps (own curves wants order known) (few curves wants order known) (short curves wants order known) p))
         (λ x. omega (arith, x.1)) (entry_is curves steps (own curves wants order known) p) in
         record {
           sizes = length_sizes curves steps;

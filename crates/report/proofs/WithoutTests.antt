@@ -20,7 +20,8 @@ last_line : (first : List ℕ) → first ++ text "\n" ++ [] ++ [] ++ text "loads
 unfolding text decimal high_digits
 last_line first =
     rw (append-nil (first ++ text "\n"), append-nil (first ++ text "\n"))
-    (rw (append_assoc first (text "\n") (text "loads "), append_assoc first (text "\nloads ") (text "0"), append_assoc first (text "\nloads 0") (text "\n")) refl)
+    (rw (append_assoc first (text "\n") (text "loads "), append_assoc first (text "\nloads ") (text "0"), append_assoc first (text "\nloads 0") (text "\n"))
+    refl)
 
 two_lines : (places method : List ℕ)
     → decimal 0 ++ text " tests, " ++ places ++ text " places, method " ++ method ++ text "\n" ++ [] ++ [] ++ text "loads " ++ decimal 0 ++ text "\n"

@@ -103,7 +103,8 @@ module _ (curves : ℕ) (wants order : List ℕ) (known : sizing_known curves wa
       unfolding plan_answer mapped
       planned =
           let j = in_drive p curves wants in
-          let e : plan_answer j 0 order lent ≡ done (count_end 0 (our_plan j 0 order)) = ap (mapped (count_end 0)) (plan_done j 0 order (entries lent) asked room) in
+          let e : plan_answer j 0 order lent ≡ done (count_end 0 (our_plan j 0 order)) =
+          ap (mapped (count_end 0)) (plan_done j 0 order (entries lent) asked room) in
           (count_end 0 (our_plan j 0 order), e, sym (single lent _ e))
 
   pub every_size : EverySize curves wants order counts

@@ -15,17 +15,23 @@ bytes c = bytes_of c.args.job.now (λ k l. omega (arith, c.shared_slice_known-1.
 -- the refusal's number and figure are small
 small : (c : In-Refused) → (number c.in-Refused.r ≤ 13) × (figure c.in-Refused.r ≤ 5121)
 small c =
-    let the_bytes : Bytes c.args.job.now = bytes_of c.args.job.now (λ k l. omega (arith, c.shared_slice_known-1.given k)) in
     refusal_bounds c.args.job.now
     c.args.plan.now _
-    c.job_to_plan.ensures.count (the_bytes) _
+    c.job_to_plan.ensures.count (bytes (goal.at.In-Refused c).After-shared_slice_known-1) _
     c.in-Refused.is
 
 pub overflow_mul-result : goal.overflow_mul-result
 overflow_mul-result c = omega (arith, c.number_of.ensures, (small (goal.at.overflow_mul-result c).In-Refused).0)
 
 pub overflow_add-result : goal.overflow_add-result
-overflow_add-result c = omega (arith, c.number_of.ensures, c.figure_of.ensures, (small (goal.at.overflow_add-result c).In-Refused).0, (small (goal.at.overflow_add-result c).In-Refused).1)
+overflow_add-result c =
+    omega (
+      arith,
+      c.number_of.ensures,
+      c.figure_of.ensures,
+      (small (goal.at.overflow_add-result c).In-Refused).0,
+      (small (goal.at.overflow_add-result c).In-Refused).1,
+    )
 
 pub returns-in-Refused : goal.returns-in-Refused
 returns-in-Refused c = let a = c.args in

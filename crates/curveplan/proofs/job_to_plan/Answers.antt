@@ -21,10 +21,9 @@ given : (c : In-Planned)
     c.in-Planned.head c.in-Planned.field-1 c.in-Planned.end
     (lists_of c.plan_job.new.wants c.plan_job.new.order (set_lists c.plan_job.new.drops c.plan_job.new.loads))
 given c =
-    let the_bytes : Bytes c.args.job.now = bytes_of c.args.job.now (λ k l. omega (arith, c.shared_slice_known-1.given k)) in
     let r = c.plan_job in
     planned_job c.args.job.now
-    (the_bytes) _ _ r.ensures.answer (omega arith) _
+    (bytes (goal.at.In-Planned c).After-shared_slice_known-1) _ _ r.ensures.answer (omega arith) _
     _ _ _ c.in-Planned.is r.ensures.lists
 
 pub slice_bounds-order-end : goal.slice_bounds-order-end

@@ -29,11 +29,7 @@ carried_is : (c : After-commit_at-answer) (l : NextStep) → c.commit_at-answer.
     → let a = c.args in commit (state_of a.state.now) a.position ≡ done l
 unfolding commit_outcome
 carried_is c l e =
-    let the_answers : let a = c.args in
-    commit_outcome c.commit_at-answer.result ≡ commit (state_of a.state.now) a.position = let a = c.args in
-    let ns = a.state.now in
-    c.commit_at-answer.ensures ∙ ap (λ (ws : List ℕ). commit_at (get_or ns 0 0) (get_or ns 1 0) (get_or ns 2 0) ws a.position) c.step_wants.ensures in
-    sym (the_answers) ∙ rw e refl
+    sym (answers c) ∙ rw e refl
 
 pub overflow_add-state : goal.overflow_add-state
 overflow_add-state c =
@@ -54,4 +50,7 @@ returns-in_default c =
     let ns = c.args.state.now in
     let r = c.in_default.field-0 in
     let e = sym (answers (goal.at.returns-in_default c).After-commit_at-answer) ∙ ap commit_outcome c.in_default.is in
-    record { answer = answers (goal.at.returns-in_default c).After-commit_at-answer; state = sym (numbers_back ns (omega arith)) ∙ ap numbers_of (sym (unchanged (state_of ns) c.args.position (number r) (figure r) e)) }
+    record {
+      answer = answers (goal.at.returns-in_default c).After-commit_at-answer;
+      state = sym (numbers_back ns (omega arith)) ∙ ap numbers_of (sym (unchanged (state_of ns) c.args.position (number r) (figure r) e));
+    }

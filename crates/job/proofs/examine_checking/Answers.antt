@@ -24,7 +24,8 @@ examine_held-requires c = ((job_exact _).0 (passed (goal.at.examine_held-require
 pub returns-in-Refused-examine_held : goal.returns-in-Refused-examine_held
 unfolding examined_outcome checking_known
 returns-in-Refused-examine_held c =
-    sym (done_both _ _ (passed (goal.at.returns-in-Refused-examine_held c).In_default) ∙ refused_both _ _ _ _ (examined_refused _ _ _ c.in-Refused-examine_held.is c.examine_held.ensures))
+    sym (done_both _ _ (passed (goal.at.returns-in-Refused-examine_held c).In_default)
+    ∙ refused_both _ _ _ _ (examined_refused _ _ _ c.in-Refused-examine_held.is c.examine_held.ensures))
 
 pub examine_order-requires : goal.examine_order-requires
 examine_order-requires c = ((job_exact _).0 (passed (goal.at.examine_order-requires c).In_default)).tests_bound

@@ -20,10 +20,12 @@ unknown c =
 
 pub returns-then-unknown-eq0 : goal.returns-then-unknown-eq0
 unfolding examined_outcome held_known inside
-returns-then-unknown-eq0 c = sym (demand_done _ 14 _ (eq-eqb _ 0 (sym (unknown (goal.at.returns-then-unknown-eq0 c).After-without-unknown) ∙ c.if-unknown-eq0.true)))
+returns-then-unknown-eq0 c =
+    sym (demand_done _ 14 _ (eq-eqb _ 0 (sym (unknown (goal.at.returns-then-unknown-eq0 c).After-without-unknown) ∙ c.if-unknown-eq0.true)))
 
 pub returns : goal.returns
 unfolding examined_outcome held_known inside
 returns c =
     let lowest : c.lowest.result ≡ count_trailing_zeros 64 c.without-unknown.result = c.lowest.ensures in
-    rw (lowest ∙ ap (count_trailing_zeros 64) (unknown (goal.at.returns c).After-without-unknown)) (sym (demand_refused _ 14 _ (ne_eqb _ 0 (λ e. c.if-unknown-eq0.false (unknown (goal.at.returns c).After-without-unknown ∙ e)))))
+    rw (lowest ∙ ap (count_trailing_zeros 64) (unknown (goal.at.returns c).After-without-unknown))
+    (sym (demand_refused _ 14 _ (ne_eqb _ 0 (λ e. c.if-unknown-eq0.false (unknown (goal.at.returns c).After-without-unknown ∙ e)))))

@@ -17,7 +17,8 @@ returns-in-Refused c = sym (by_refused _ _ _ _ (examined_refused _ _ _ c.in-Refu
 
 pub returns-then-not-is_method : goal.returns-then-not-is_method
 unfolding examined_outcome
-returns-then-not-is_method c = sym (by_method _ _ (numbers (goal.at.returns-then-not-is_method c).In_default) (sym c.is_method.ensures ∙ c.if-not-is_method.true))
+returns-then-not-is_method c =
+    sym (by_method _ _ (numbers (goal.at.returns-then-not-is_method c).In_default) (sym c.is_method.ensures ∙ c.if-not-is_method.true))
 
 pub examine_wants-requires : goal.examine_wants-requires
 examine_wants-requires c = known_bounds _ _ (numbers (goal.at.examine_wants-requires c).In_default)

@@ -23,7 +23,8 @@ examine_wants-requires c = counts_bounds _ _ (passed (goal.at.examine_wants-requ
 pub returns-in-Refused-examine_wants : goal.returns-in-Refused-examine_wants
 unfolding examined_outcome sizing_known
 returns-in-Refused-examine_wants c =
-    sym (done_both _ _ (passed (goal.at.returns-in-Refused-examine_wants c).In_default) ∙ refused_both _ _ _ _ (examined_refused _ _ _ c.in-Refused-examine_wants.is c.examine_wants.ensures))
+    sym (done_both _ _ (passed (goal.at.returns-in-Refused-examine_wants c).In_default)
+    ∙ refused_both _ _ _ _ (examined_refused _ _ _ c.in-Refused-examine_wants.is c.examine_wants.ensures))
 
 pub examine_order-requires : goal.examine_order-requires
 examine_order-requires c = (counts_bounds _ _ (passed (goal.at.examine_order-requires c).In_default)).1

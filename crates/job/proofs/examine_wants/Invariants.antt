@@ -8,7 +8,8 @@ use Rattle.job.proofs.examine_wants.Given as goal
 
 abbrev pub invariant-loop-t : goal.invariant-loop-t
 invariant-loop-t l =
-    (l.t ≤ length l.wants) × (each (λ w. inside w (all_curves l.curves)) 10 4 l.wants ≡ each (λ w. inside w (all_curves l.curves)) 10 (4 + l.t) (drop l.t l.wants))
+    (l.t ≤ length l.wants) × (each (λ w. inside w (all_curves l.curves)) 10 4 l.wants ≡ each (λ w. inside w (all_curves l.curves)) 10 (4 + l.t)
+    (drop l.t l.wants))
 
 abbrev pub decreases-loop-t : goal.decreases-loop-t
 decreases-loop-t l = length l.wants - l.t

@@ -36,7 +36,8 @@ unfolding count_outcome order_answer order_list
 returns-then-order-n c =
     let a = c.args in
     let both =
-    made_refused _ _ _ _ (no_room a.method (job_of a.rig a.wants.now) (length a.order.now) (known (goal.at.returns-then-order-n c).In_default) c.if-order-n.true) in
+    made_refused _ _ _ _ (no_room a.method (job_of a.rig a.wants.now) (length a.order.now) (known (goal.at.returns-then-order-n c).In_default)
+    c.if-order-n.true) in
     record { answer = both.0; list = both.1 }
 
 pub write_order-requires : goal.write_order-requires

@@ -64,7 +64,8 @@ loop-j-preserved c =
     elim c.if-most-score.branch [
       | then-most-score+then-union_size-bound w ↦
           let f : fits (get_or cs i 0 ∪ get_or cs j 0) ≡ true =
-          le-leb (size (get_or cs i 0 ∪ get_or cs j 0)) a.bound (omega (arith, w.if-union_size-bound.true, w.union_size.ensures (get_or cs i 0) (get_or cs j 0) (ours i) (ours j) e)) in
+          le-leb (size (get_or cs i 0 ∪ get_or cs j 0)) a.bound
+          (omega (arith, w.if-union_size-bound.true, w.union_size.ensures (get_or cs i 0) (get_or cs j 0) (ours i) (ours j) e)) in
           record {
             turns = omega arith;
             inside = omega arith;
@@ -75,7 +76,8 @@ loop-j-preserved c =
           }
       | then-most-score+else-union_size-bound w ↦
           let f : fits (get_or cs i 0 ∪ get_or cs j 0) ≡ false =
-          lt-leb (size (get_or cs i 0 ∪ get_or cs j 0)) a.bound (omega (arith, w.if-union_size-bound.false, w.union_size.ensures (get_or cs i 0) (get_or cs j 0) (ours i) (ours j) e)) in
+          lt-leb (size (get_or cs i 0 ∪ get_or cs j 0)) a.bound
+          (omega (arith, w.if-union_size-bound.false, w.union_size.ensures (get_or cs i 0) (get_or cs j 0) (ours i) (ours j) e)) in
           record {
             turns = omega arith;
             inside = omega arith;
@@ -111,4 +113,8 @@ returns c =
     let e : length a.curves.now ≡ c.loop-j.j = omega arith in
     let low : c.loop-j.second < 256 = omega (arith, v.low, v.inside, c.requires.1) in
     let p : (c.loop-j.most * 256 + c.loop-j.second) % 256 ≡ c.loop-j.second = omega (arith, low) in
-    let d : (c.loop-j.most * 256 + c.loop-j.second) / 256 ≡ c.loop-j.most = omega (arith, low) in record { partner = rw e v.row ∙ ap (rows.chosen a.first) (sym p); score = d ∙ v.count ∙ ap (rows.score a.curves.now a.first) (sym p) ∙ sym (rows.score_as a.curves.now a.first _) }
+    let d : (c.loop-j.most * 256 + c.loop-j.second) / 256 ≡ c.loop-j.most = omega (arith, low) in
+    record {
+      partner = rw e v.row ∙ ap (rows.chosen a.first) (sym p);
+      score = d ∙ v.count ∙ ap (rows.score a.curves.now a.first) (sym p) ∙ sym (rows.score_as a.curves.now a.first _);
+    }

@@ -47,7 +47,8 @@ returns-then-second-gt0 c =
     let f = c.highest-first.result in
     let e : c.entry-rating.result ≡ get_or rs f 0 = c.entry-rating.ensures in
     let l = inside rs f (λ z. omega (arith, e, z, c.if-second-gt0.true)) in record {
-      pair = rated_pair (within c.args.bound) c.args.curves.now rs c.loop-bound.invariant.rated f (omega (arith, l, c.loop-bound.invariant.long, c.requires.ratings_len.0))
+      pair = rated_pair (within c.args.bound) c.args.curves.now rs c.loop-bound.invariant.rated f
+          (omega (arith, l, c.loop-bound.invariant.long, c.requires.ratings_len.0))
           c.highest-first.ensures.most c.highest-first.ensures.earliest (omega (arith, e, c.if-second-gt0.true))
           ∙ ap (λ (r : ℕ). rows.chosen f (r % 256)) (sym e);
       rated = c.loop-bound.invariant.rated;
@@ -95,7 +96,12 @@ loop-bound-smaller c =
     let n : r / 256 ≡ rows.score cs f (r % 256) = b.ensures.score ∙ rows.score_as cs f (r % 256) in
     weights_set rs f r (place (goal.at.loop-bound-smaller c).Else-rating-eq0).1
     (lighter (get_or rs f 0) r (omega (arith, e, c.if-second-gt0.false)) (λ z. c.if-rating-eq0.false (e ∙ z))
-    (omega (arith, n, rated_score (within a.bound) cs f (get_or rs f 0) (place (goal.at.loop-bound-smaller c).Else-rating-eq0).0 (c.loop-bound.invariant.rated f (place (goal.at.loop-bound-smaller c).Else-rating-eq0).0) (r % 256) b.ensures.partner))
+    (omega (
+      arith,
+      n,
+      rated_score (within a.bound) cs f (get_or rs f 0) (place (goal.at.loop-bound-smaller c).Else-rating-eq0).0
+          (c.loop-bound.invariant.rated f (place (goal.at.loop-bound-smaller c).Else-rating-eq0).0) (r % 256) b.ensures.partner,
+    ))
     (λ z. n ∙ ap (rows.score cs f) z ∙ rows.score_none cs f))
 
 pub loop-bound-preserved : goal.loop-bound-preserved
@@ -109,6 +115,7 @@ loop-bound-preserved c =
       long = simp length-set c.loop-bound.invariant.long;
       rated = λ k l.
           turned (within a.bound) cs c.loop-bound.ratings f k b.result (place (goal.at.loop-bound-preserved c).Else-rating-eq0).1
-          (row_rated (within a.bound) cs f b.result (place (goal.at.loop-bound-preserved c).Else-rating-eq0).0 b.ensures.partner (b.ensures.score ∙ rows.score_as cs f _)) (c.loop-bound.invariant.rated k l)
+          (row_rated (within a.bound) cs f b.result (place (goal.at.loop-bound-preserved c).Else-rating-eq0).0 b.ensures.partner (b.ensures.score
+          ∙ rows.score_as cs f _)) (c.loop-bound.invariant.rated k l)
           (ℕ_discrete k f);
     }

@@ -111,7 +111,8 @@ returns-then-second-eq0 c =
     record {
       left = (v.few, v.sums);
       round = λ ps rest laid sets.
-          state.left_end (v.goes ps rest laid sets) (small (goal.at.returns-then-second-eq0 c).At-loop-sizes) _ c.round_bound-bound.ensures r.first r.second c.closest-pair.ensures.pair
+          state.left_end (v.goes ps rest laid sets) (small (goal.at.returns-then-second-eq0 c).At-loop-sizes) _ c.round_bound-bound.ensures r.first r.second
+          c.closest-pair.ensures.pair
           c.if-second-eq0.true;
     }
 
@@ -205,7 +206,8 @@ pub slice_bounds-closest-end-in-loop-sizes-3 : goal.slice_bounds-closest-end-in-
 slice_bounds-closest-end-in-loop-sizes-3 c = sym c.loop-sizes.invariant.long_counts
 
 pub slice_bounds-ratings-end-in-loop-sizes : goal.slice_bounds-ratings-end-in-loop-sizes
-slice_bounds-ratings-end-in-loop-sizes c = omega (arith, few (goal.at.slice_bounds-ratings-end-in-loop-sizes c).At-loop-sizes, c.loop-sizes.invariant.long_ratings)
+slice_bounds-ratings-end-in-loop-sizes c =
+    omega (arith, few (goal.at.slice_bounds-ratings-end-in-loop-sizes c).At-loop-sizes, c.loop-sizes.invariant.long_ratings)
 
 pub slice_bounds-closest-end-in-loop-sizes-4 : goal.slice_bounds-closest-end-in-loop-sizes-4
 slice_bounds-closest-end-in-loop-sizes-4 c = sym (ratings_long (goal.at.slice_bounds-closest-end-in-loop-sizes-4 c).At-loop-sizes)
@@ -229,7 +231,8 @@ pub slice_bounds-join_curves-end-in-loop-sizes : goal.slice_bounds-join_curves-e
 slice_bounds-join_curves-end-in-loop-sizes c = sym (curves_long (goal.at.slice_bounds-join_curves-end-in-loop-sizes c).At-loop-sizes)
 
 pub slice_bounds-sizes-end-in-loop-sizes-2 : goal.slice_bounds-sizes-end-in-loop-sizes-2
-slice_bounds-sizes-end-in-loop-sizes-2 c = omega (arith, few (goal.at.slice_bounds-sizes-end-in-loop-sizes-2 c).At-loop-sizes, c.loop-sizes.invariant.long_sizes)
+slice_bounds-sizes-end-in-loop-sizes-2 c =
+    omega (arith, few (goal.at.slice_bounds-sizes-end-in-loop-sizes-2 c).At-loop-sizes, c.loop-sizes.invariant.long_sizes)
 
 pub slice_bounds-join_curves-end-in-loop-sizes-2 : goal.slice_bounds-join_curves-end-in-loop-sizes-2
 slice_bounds-join_curves-end-in-loop-sizes-2 c = sym (sizes_long (goal.at.slice_bounds-join_curves-end-in-loop-sizes-2 c).At-loop-sizes)
@@ -238,7 +241,12 @@ pub slice_bounds-join_curves-end-in-loop-sizes-3 : goal.slice_bounds-join_curves
 slice_bounds-join_curves-end-in-loop-sizes-3 c = sym (counts_long (goal.at.slice_bounds-join_curves-end-in-loop-sizes-3 c).After-closest-pair)
 
 pub slice_bounds-ratings-end-in-loop-sizes-2 : goal.slice_bounds-ratings-end-in-loop-sizes-2
-slice_bounds-ratings-end-in-loop-sizes-2 c = omega (arith, back_all (goal.at.slice_bounds-ratings-end-in-loop-sizes-2 c).After-closest-pair, few (goal.at.slice_bounds-ratings-end-in-loop-sizes-2 c).At-loop-sizes)
+slice_bounds-ratings-end-in-loop-sizes-2 c =
+    omega (
+      arith,
+      back_all (goal.at.slice_bounds-ratings-end-in-loop-sizes-2 c).After-closest-pair,
+      few (goal.at.slice_bounds-ratings-end-in-loop-sizes-2 c).At-loop-sizes,
+    )
 
 pub slice_bounds-join_curves-end-in-loop-sizes-4 : goal.slice_bounds-join_curves-end-in-loop-sizes-4
 slice_bounds-join_curves-end-in-loop-sizes-4 c = sym (back_long (goal.at.slice_bounds-join_curves-end-in-loop-sizes-4 c).After-closest-pair)

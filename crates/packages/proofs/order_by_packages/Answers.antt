@@ -75,7 +75,12 @@ join_all-left-requires c =
 
 pub slice_bounds-lengths-end-2 : goal.slice_bounds-lengths-end-2
 slice_bounds-lengths-end-2 c =
-    omega (arith, all_lengths (goal.at.slice_bounds-lengths-end-2 c).After-join_all-left, left_few (goal.at.slice_bounds-lengths-end-2 c).After-join_all-left, c.requires)
+    omega (
+      arith,
+      all_lengths (goal.at.slice_bounds-lengths-end-2 c).After-join_all-left,
+      left_few (goal.at.slice_bounds-lengths-end-2 c).After-join_all-left,
+      c.requires,
+    )
 
 pub slice_bounds-join_all-end-3 : goal.slice_bounds-join_all-end-3
 slice_bounds-join_all-end-3 c =
@@ -88,7 +93,12 @@ slice_bounds-join_all-end-3 c =
 
 pub slice_bounds-curves-end-2 : goal.slice_bounds-curves-end-2
 slice_bounds-curves-end-2 c =
-    omega (arith, all_curves_lem (goal.at.slice_bounds-curves-end-2 c).After-join_all-left, left_few (goal.at.slice_bounds-curves-end-2 c).After-join_all-left, c.requires)
+    omega (
+      arith,
+      all_curves_lem (goal.at.slice_bounds-curves-end-2 c).After-join_all-left,
+      left_few (goal.at.slice_bounds-curves-end-2 c).After-join_all-left,
+      c.requires,
+    )
 
 pub slice_bounds-join_all-end-4 : goal.slice_bounds-join_all-end-4
 slice_bounds-join_all-end-4 c =

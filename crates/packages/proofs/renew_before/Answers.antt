@@ -27,7 +27,8 @@ counted c =
     let cs = a.curves.now in
     let k = c.loop-row.row in
     let f = common (get_or cs a.first 0) in
-    ap (λ (l : List ℕ). get_or l k 0) w.ensures ∙ mapped_at f (take a.first cs) _ k (omega (arith, length-take-le a.first cs (omega (arith, c.requires.first_lt_second))))
+    ap (λ (l : List ℕ). get_or l k 0) w.ensures
+    ∙ mapped_at f (take a.first cs) _ k (omega (arith, length-take-le a.first cs (omega (arith, c.requires.first_lt_second))))
     ∙ ap f (get_or-take a.first cs k 0 (omega arith)) ∙ ap size (and_comm (get_or cs a.first 0) (get_or cs k 0))
 
 pub slice_bounds-write_common-end : goal.slice_bounds-write_common-end

@@ -8,7 +8,11 @@ use Rattle.packages.proofs.renew_ratings.Goals as goal
 
 pub renew_before-requires : goal.renew_before-requires
 renew_before-requires c =
-    let p = c.requires.sized in record { first_lt_second = (c.requires.first_lt_second.0, c.requires.first_lt_second.1, c.join_entry.auto.xs ∙ c.requires.first_lt_second.2); sized = (p.0, omega (arith, p.1, c.best_partner-own.auto.counts), p.2) }
+    let p = c.requires.sized in
+    record {
+      first_lt_second = (c.requires.first_lt_second.0, c.requires.first_lt_second.1, c.join_entry.auto.xs ∙ c.requires.first_lt_second.2);
+      sized = (p.0, omega (arith, p.1, c.best_partner-own.auto.counts), p.2);
+    }
 
 pub returns : goal.returns
 returns c =
@@ -22,5 +26,6 @@ returns c =
     λ cs n e w.
     renew.all_rated fits cs ds a.ratings.now moved.new.xs front.new.ratings back.new.ratings a.first a.second own.result
     c.requires.first_lt_second.0 n c.requires.first_lt_second.1 e c.requires.first_lt_second.2 (front.auto.ratings ∙ moved.auto.xs)
-    moved.ensures (renew.row_rated fits ds a.first _ (omega (arith, c.requires.first_lt_second)) own.ensures.partner (own.ensures.score ∙ rows.score_as ds a.first _))
+    moved.ensures (renew.row_rated fits ds a.first _ (omega (arith, c.requires.first_lt_second)) own.ensures.partner (own.ensures.score
+    ∙ rows.score_as ds a.first _))
     (front.ensures.before cs n e) front.ensures.behind back.ensures.behind back.ensures.before w

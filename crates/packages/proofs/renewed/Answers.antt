@@ -19,7 +19,8 @@ kept c =
     let a = c.args in
     elim c.if-rating-first.branch [
       | then-rating-first w ↦ renew.kept_none a.first a.second a.rating c.if-rating-first.kept w.kept-is
-      | else-rating-first w ↦ renew.kept_moved a.first a.second a.rating c.if-rating-first.kept c.requires.0 (λ z e. w.if-rating-first.false e) (w.kept-is ∙ w.moved-kept.ensures)
+      | else-rating-first w ↦ renew.kept_moved a.first a.second a.rating c.if-rating-first.kept c.requires.0 (λ z e. w.if-rating-first.false e)
+          (w.kept-is ∙ w.moved-kept.ensures)
     ]
 
 -- the rating r is right for the package after the join
@@ -63,7 +64,8 @@ returns-then-not-fits c = stays (goal.at.returns-then-not-fits c).Joined-rating-
 
 pub returns-then-kept-count : goal.returns-then-kept-count
 returns-then-kept-count c =
-    beaten (goal.at.returns-then-kept-count c).Joined-rating-first c.if-not-fits.false (omega (arith, c.if-kept-count.true)) (λ l. absurd (omega (arith, l, c.if-kept-count.true)))
+    beaten (goal.at.returns-then-kept-count c).Joined-rating-first c.if-not-fits.false (omega (arith, c.if-kept-count.true))
+    (λ l. absurd (omega (arith, l, c.if-kept-count.true)))
 
 pub returns-then-count-kept : goal.returns-then-count-kept
 returns-then-count-kept c =
@@ -71,8 +73,10 @@ returns-then-count-kept c =
 
 pub returns-then-first-kept : goal.returns-then-first-kept
 returns-then-first-kept c =
-    beaten (goal.at.returns-then-first-kept c).Joined-rating-first c.if-not-fits.false (omega (arith, c.if-count-kept.false)) (λ l. omega (arith, c.if-first-kept.true))
+    beaten (goal.at.returns-then-first-kept c).Joined-rating-first c.if-not-fits.false (omega (arith, c.if-count-kept.false))
+    (λ l. omega (arith, c.if-first-kept.true))
 
 pub returns-else-first-kept : goal.returns-else-first-kept
 returns-else-first-kept c =
-    stays (goal.at.returns-else-first-kept c).Joined-rating-first (λ f. (omega (arith, c.if-kept-count.false), λ l. absurd (omega (arith, l, c.if-first-kept.false))))
+    stays (goal.at.returns-else-first-kept c).Joined-rating-first
+    (λ f. (omega (arith, c.if-kept-count.false), λ l. absurd (omega (arith, l, c.if-first-kept.false))))

@@ -44,4 +44,9 @@ returns c =
     let l = c.loop-k in
     let a = c.args in
     let i = l.invariant.1 in
-    let e = all_read a.curves a.tests a.plan.now l.k l.at l.invariant.0 i.behind c.loop-k-test.false c.requires.reads in record { tests = fill_all _ a.order.now _ _ _ e.1 i.tests; drops = fill_all _ a.drops.now _ _ _ e.1 i.drops; loads = fill_all _ a.loads.now _ _ _ e.1 i.loads }
+    let e = all_read a.curves a.tests a.plan.now l.k l.at l.invariant.0 i.behind c.loop-k-test.false c.requires.reads in
+    record {
+      tests = fill_all _ a.order.now _ _ _ e.1 i.tests;
+      drops = fill_all _ a.drops.now _ _ _ e.1 i.drops;
+      loads = fill_all _ a.loads.now _ _ _ e.1 i.loads;
+    }

@@ -115,7 +115,10 @@ returns-else-end-ne0 c =
     let l = c.loop-i in
     let a = c.args in
     let p = l.invariant.1.part in
-    record { part = part_no_end a.plan.now a.position _ l.invariant.0 l.at _ (reads (goal.at.returns-else-end-ne0 c).In-End) _ _ c.if-end-ne0.false p; inside = p.inside }
+    record {
+      part = part_no_end a.plan.now a.position _ l.invariant.0 l.at _ (reads (goal.at.returns-else-end-ne0 c).In-End) _ _ c.if-end-ne0.false p;
+      inside = p.inside;
+    }
 
 pub returns-else-position-tests : goal.returns-else-position-tests
 returns-else-position-tests c =

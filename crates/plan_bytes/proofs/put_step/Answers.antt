@@ -32,7 +32,12 @@ put_field-last-requires c =
 
 pub bounds-out-last : goal.bounds-out-last
 bounds-out-last c =
-    omega (arith, loads_long (goal.at.bounds-out-last c).After-put_field-last (drops_long (goal.at.bounds-out-last c).After-put_field-behind), (ends (goal.at.bounds-out-last c).After-put_field-last).1, c.requires.1)
+    omega (
+      arith,
+      loads_long (goal.at.bounds-out-last c).After-put_field-last (drops_long (goal.at.bounds-out-last c).After-put_field-behind),
+      (ends (goal.at.bounds-out-last c).After-put_field-last).1,
+      c.requires.1,
+    )
 
 pub overflow_add-result : goal.overflow_add-result
 overflow_add-result c = omega (arith, (ends (goal.at.overflow_add-result c).After-put_field-last).1, c.requires.1)
@@ -42,6 +47,11 @@ returns c =
     let a = c.args in
     let m = c.step_map in record {
       end = omega (arith, (ends (goal.at.returns c).After-put_field-last).0, step_length a.test a.drops a.loads);
-      bytes = rw (c.put_field-last.ensures.bytes, c.put_field-behind.ensures.bytes, (ends (goal.at.returns c).After-put_field-last).0, c.put_field-behind.ensures.end)
+      bytes = rw (
+        c.put_field-last.ensures.bytes,
+        c.put_field-behind.ensures.bytes,
+        (ends (goal.at.returns c).After-put_field-last).0,
+        c.put_field-behind.ensures.end,
+      )
           (step_stores a.test a.drops a.loads m.result a.to a.out.now m.ensures);
     }

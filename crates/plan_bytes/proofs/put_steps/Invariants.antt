@@ -13,7 +13,8 @@ invariant-loop-i l =
       room : l.to ≤ 20 * l.i;
       long : length l.out ≡ length l.initial.out;
       ends : l.to + length (list_bytes (drop l.i l.order) (drop l.i l.drops) (drop l.i l.loads)) ≡ length (list_bytes l.order l.drops l.loads);
-      goes : lib.Seq.sets l.initial.out 0 (list_bytes l.order l.drops l.loads) ≡ lib.Seq.sets l.out l.to (list_bytes (drop l.i l.order) (drop l.i l.drops) (drop l.i l.loads));
+      goes : lib.Seq.sets l.initial.out 0 (list_bytes l.order l.drops l.loads) ≡ lib.Seq.sets l.out l.to
+          (list_bytes (drop l.i l.order) (drop l.i l.drops) (drop l.i l.loads));
     }
 
 abbrev pub decreases-loop-i : goal.decreases-loop-i

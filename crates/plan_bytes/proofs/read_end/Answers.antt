@@ -31,7 +31,8 @@ pub returns-then-next-plan : goal.returns-then-next-plan
 unfolding end_outcome
 returns-then-next-plan c tests =
     let a = c.args in
-    sym (end_surplus a.curves tests a.at a.plan.now (omega arith) c.if-plan-at-ne1.false _ _ (set_there (goal.at.returns-then-next-plan c).In-Set tests) c.if-next-plan.true)
+    sym (end_surplus a.curves tests a.at a.plan.now (omega arith) c.if-plan-at-ne1.false _ _ (set_there (goal.at.returns-then-next-plan c).In-Set tests)
+    c.if-next-plan.true)
 
 pub returns-in-Fault : goal.returns-in-Fault
 unfolding end_outcome
@@ -44,4 +45,5 @@ pub returns-else-next-plan : goal.returns-else-next-plan
 unfolding end_outcome
 returns-else-next-plan c tests =
     let a = c.args in
-    sym (end_whole a.curves tests a.at a.plan.now (omega arith) c.if-plan-at-ne1.false _ _ (set_there (goal.at.returns-else-next-plan c).In-Set tests) c.if-next-plan.false)
+    sym (end_whole a.curves tests a.at a.plan.now (omega arith) c.if-plan-at-ne1.false _ _ (set_there (goal.at.returns-else-next-plan c).In-Set tests)
+    c.if-next-plan.false)

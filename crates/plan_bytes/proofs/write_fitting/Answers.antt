@@ -31,7 +31,12 @@ pub returns-then-out-need : goal.returns-then-out-need
 unfolding count_outcome
 returns-then-out-need c =
     rw c.put_plan-need.ensures.count
-    (let both = made_refused _ _ _ _ (fitting_short (bytes (goal.at.returns-then-out-need c).After-put_plan-need) (length c.args.out.now) (omega (arith, c.put_plan-need.ensures.count))) in record { answer = both.0; bytes = both.1 })
+    (let both = made_refused _ _ _ _
+    (fitting_short (bytes (goal.at.returns-then-out-need c).After-put_plan-need) (length c.args.out.now) (omega (arith, c.put_plan-need.ensures.count))) in
+    record {
+      answer = both.0;
+      bytes = both.1;
+    })
 
 pub slice_bounds-bytes-end : goal.slice_bounds-bytes-end
 slice_bounds-bytes-end c = (own (goal.at.slice_bounds-bytes-end c).After-put_plan-need).0
@@ -46,4 +51,8 @@ returns c =
     let e = c.put_plan-need.ensures.count in
     let h : length (bytes (goal.at.returns c).After-put_plan-need) ≤ length old = omega (arith, e, c.if-out-need.false) in
     let g = made_done _ old _ (fitting_whole (bytes (goal.at.returns c).After-put_plan-need) (length old) h) in
-    record { answer = rw e g.0; bytes = c.put_front.ensures ∙ ap (λ (x : List ℕ). put x old) (own (goal.at.returns c).After-put_plan-need).1 ∙ put_front (bytes (goal.at.returns c).After-put_plan-need) old h ∙ g.1 }
+    record {
+      answer = rw e g.0;
+      bytes = c.put_front.ensures ∙ ap (λ (x : List ℕ). put x old) (own (goal.at.returns c).After-put_plan-need).1
+          ∙ put_front (bytes (goal.at.returns c).After-put_plan-need) old h ∙ g.1;
+    }

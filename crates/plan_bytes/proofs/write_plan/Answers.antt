@@ -24,7 +24,12 @@ checked : (c : In_default)
 checked c = count_done _ _ _ c.check_plan.ensures c.in_default.is
 
 pub write_fitting-requires : goal.write_fitting-requires
-write_fitting-requires c = let w = passed_writable _ _ _ _ _ (checked (goal.at.write_fitting-requires c).In_default) in record { tests = w.tests; sets = (w.drop_sets, w.load_sets); few = w.few }
+write_fitting-requires c = let w = passed_writable _ _ _ _ _ (checked (goal.at.write_fitting-requires c).In_default) in
+    record {
+      tests = w.tests;
+      sets = (w.drop_sets, w.load_sets);
+      few = w.few;
+    }
 
 pub returns : goal.returns
 unfolding write_plan_answer write_plan_buffer

@@ -25,7 +25,8 @@ pub returns-in-Refused-examine_sets : goal.returns-in-Refused-examine_sets
 unfolding count_outcome write_steps_answer write_steps_buffer
 returns-in-Refused-examine_sets c =
     let both =
-    made_refused _ _ _ _ (no_sets _ _ (ordered (goal.at.returns-in-Refused-examine_sets c).In_default) _ _ (examined_refused _ _ _ c.in-Refused-examine_sets.is c.examine_sets.ensures) _) in
+    made_refused _ _ _ _ (no_sets _ _ (ordered (goal.at.returns-in-Refused-examine_sets c).In_default) _ _
+    (examined_refused _ _ _ c.in-Refused-examine_sets.is c.examine_sets.ensures) _) in
     record { answer = both.0; bytes = both.1 }
 
 abbrev plan : In_default-examine_sets → Plan
@@ -37,11 +38,13 @@ sized c = examined_passed _ _ c.in_default-examine_sets.is c.examine_sets.ensure
 
 pub write_fitting-requires : goal.write_fitting-requires
 write_fitting-requires c =
-    let w = writable _ (plan (goal.at.write_fitting-requires c).In_default-examine_sets) (ordered (goal.at.write_fitting-requires c).In_default) (sized (goal.at.write_fitting-requires c).In_default-examine_sets) in
+    let w = writable _ (plan (goal.at.write_fitting-requires c).In_default-examine_sets) (ordered (goal.at.write_fitting-requires c).In_default)
+    (sized (goal.at.write_fitting-requires c).In_default-examine_sets) in
     record { tests = w.tests; sets = (w.drop_sets, w.load_sets); few = w.few }
 
 pub returns : goal.returns
 unfolding write_steps_answer write_steps_buffer
 returns c =
-    rw (steps_fitting _ (plan (goal.at.returns c).In_default-examine_sets) (ordered (goal.at.returns c).In_default) (sized (goal.at.returns c).In_default-examine_sets))
+    rw (steps_fitting _ (plan (goal.at.returns c).In_default-examine_sets) (ordered (goal.at.returns c).In_default)
+    (sized (goal.at.returns c).In_default-examine_sets))
     c.write_fitting.ensures

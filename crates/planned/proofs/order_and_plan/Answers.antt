@@ -55,8 +55,10 @@ returns c =
     let e = c.capacity-capacity.ensures in
     let order = take a.head.tests t.new.order in
     let answered : _ ≡ tests_answer c.capacity-capacity.result a.wants.now 0 order lent = p.answer in record {
-      count = rw o (answered ∙ ap (λ (n : ℕ). tests_answer n a.wants.now 0 order lent) e ∙ tests_answer_lem _ _ _ lent k ∙ plan_answer_lem q c.requires.tests.1 _ lent long);
+      count = rw o (answered ∙ ap (λ (n : ℕ). tests_answer n a.wants.now 0 order lent) e ∙ tests_answer_lem _ _ _ lent k
+          ∙ plan_answer_lem q c.requires.tests.1 _ lent long);
       order = t.ensures.list
           ∙ order_left q c.requires.tests.1 a.order.now (omega (arith, c.requires.tests.0, c.requires.lists.0));
-      plan = rw o (p.lists ∙ ap (λ (n : ℕ). tests_lists n a.wants.now 0 order lent) e ∙ tests_lists_lem _ _ _ lent k ∙ plan_left q c.requires.tests.1 _ lent long);
+      plan = rw o (p.lists ∙ ap (λ (n : ℕ). tests_lists n a.wants.now 0 order lent) e ∙ tests_lists_lem _ _ _ lent k
+          ∙ plan_left q c.requires.tests.1 _ lent long);
     }

@@ -20,9 +20,8 @@ read : (c : In-Read)
     → ReadFirst c.args.job.now
     c.in-Read.head c.read_job.new.wants
 read c =
-    let the_bytes : Bytes c.args.job.now = bytes_of c.args.job.now (λ k l. omega (arith, c.shared_slice_known-1.given k)) in
     let r = c.read_job in
-    answer_done c.args.job.now c.args.wants.now (the_bytes)
+    answer_done c.args.job.now c.args.wants.now (bytes (goal.at.In-Read c).After-shared_slice_known-1)
     c.requires.0 _ _ (read_done _ _ _ r.ensures.answer c.in-Read.is) r.ensures.lent
 
 pub slice_bounds-order_and_plan-end : goal.slice_bounds-order_and_plan-end
@@ -49,7 +48,11 @@ returns-in-Refused c =
     let r = c.read_job in
     let all = bytes (goal.at.returns-in-Refused c).After-shared_slice_known-1 in
     let e = answer_refused a.job.now a.wants.now all c.requires.0 _ _ (read_refused _ _ _ r.ensures.answer c.in-Refused.is) in
-    let old = lists_of a.wants.now a.order.now (set_lists a.drops.now a.loads.now) in record { answer = refused_mapped told _ _ _ (unread a.job.now _ _ e); lists = unread_lists a.job.now old _ (r.ensures.lent ∙ wants_left a.job.now a.wants.now all c.requires.0) _ _ e }
+    let old = lists_of a.wants.now a.order.now (set_lists a.drops.now a.loads.now) in
+    record {
+      answer = refused_mapped told _ _ _ (unread a.job.now _ _ e);
+      lists = unread_lists a.job.now old _ (r.ensures.lent ∙ wants_left a.job.now a.wants.now all c.requires.0) _ _ e;
+    }
 
 pub returns-in-Refused-order_and_plan : goal.returns-in-Refused-order_and_plan
 returns-in-Refused-order_and_plan c =
@@ -59,7 +62,11 @@ returns-in-Refused-order_and_plan c =
     let old = lists_of a.wants.now a.order.now (set_lists a.drops.now a.loads.now) in
     let w = c.read_job.ensures.lent
     ∙ wants_left a.job.now a.wants.now (bytes (goal.at.returns-in-Refused-order_and_plan c).After-shared_slice_known-1)
-    c.requires.0 in record { answer = tells_refusal a.job.now _ e _ p.ensures.count _ c.in-Refused-order_and_plan.is; lists = read_lists a.job.now old _ w _ _ _ e p.ensures.order p.ensures.plan }
+    c.requires.0 in
+    record {
+      answer = tells_refusal a.job.now _ e _ p.ensures.count _ c.in-Refused-order_and_plan.is;
+      lists = read_lists a.job.now old _ w _ _ _ e p.ensures.order p.ensures.plan;
+    }
 
 pub returns-in-Count : goal.returns-in-Count
 returns-in-Count c =
@@ -69,4 +76,8 @@ returns-in-Count c =
     let old = lists_of a.wants.now a.order.now (set_lists a.drops.now a.loads.now) in
     let w = c.read_job.ensures.lent
     ∙ wants_left a.job.now a.wants.now (bytes (goal.at.returns-in-Count c).After-shared_slice_known-1)
-    c.requires.0 in record { answer = tells_count a.job.now _ e _ p.ensures.count _ _ c.in-Count.is; lists = read_lists a.job.now old _ w _ _ _ e p.ensures.order p.ensures.plan }
+    c.requires.0 in
+    record {
+      answer = tells_count a.job.now _ e _ p.ensures.count _ _ c.in-Count.is;
+      lists = read_lists a.job.now old _ w _ _ _ e p.ensures.order p.ensures.plan;
+    }

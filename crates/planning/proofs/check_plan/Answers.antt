@@ -42,9 +42,7 @@ returns-in-Refused-examine_sets c =
 enough : (c : After-steps-2-1)
     → length c.args.wants.now ≤ length c.in_order.new.steps
 enough c =
-    let the_passed : let a =
-    c.args in checking_known (job_of a.rig a.wants.now) a.held a.order.now ≡ done tt = examined_passed _ _ c.in_default.is c.examine_checking.ensures in
-    omega (arith, c.in_order.auto.steps, (known_exact _ _ _ (the_passed)).0.tests_bound)
+    omega (arith, c.in_order.auto.steps, (known_exact _ _ _ (passed (goal.at.After-steps-2-1 c).In_default)).0.tests_bound)
 
 pub slice_bounds-steps-end : goal.slice_bounds-steps-end
 slice_bounds-steps-end c = omega (arith, enough (goal.at.slice_bounds-steps-end c).After-steps-2-1)
@@ -62,17 +60,16 @@ checked : (c : After-check_steps)
     c.check_steps.result ≡ check_from (capacity a.rig) (all_curves a.rig.curves) 0 a.held
     (moves (in_order a.wants.now a.order.now) a.drops.now a.loads.now)
 checked c =
-    let the_passed : let a =
-    c.args in checking_known (job_of a.rig a.wants.now) a.held a.order.now ≡ done tt = examined_passed _ _ c.in_default.is c.examine_checking.ensures in
     let a = c.args in
     let j = job_of a.rig a.wants.now in
-    let is = (known_exact j a.held a.order.now (the_passed)).0 in
+    let is = (known_exact j a.held a.order.now (passed (goal.at.After-check_steps c).In_default)).0 in
     let ms : List ℕ → List Move = λ ws. moves ws a.drops.now a.loads.now in
     let few : min a.rig.curves 64 ≡ a.rig.curves = omega (arith, is.curves_bounds) in
     let b = c.below-all in
     let all : b.result ≡ all_curves a.rig.curves = b.ensures ∙ ap (λ (n : ℕ). 2 ^ n - 1) few in
     let steps : take (length a.wants.now) c.in_order.new.steps ≡ in_order a.wants.now a.order.now =
-    ap (take (length a.wants.now)) c.in_order.ensures ∙ first_steps j a.held a.order.now (the_passed) _ (omega (arith, is.tests_bound)) in
+    ap (take (length a.wants.now)) c.in_order.ensures
+    ∙ first_steps j a.held a.order.now (passed (goal.at.After-check_steps c).In_default) _ (omega (arith, is.tests_bound)) in
     let ws = take (length a.wants.now) c.in_order.new.steps in
     let p = c.capacity-capacity in
     let answered : c.check_steps.result ≡ check_from p.result b.result 0 a.held (ms ws) = c.check_steps.ensures in
@@ -85,19 +82,26 @@ checked c =
 pub returns-then-end-left : goal.returns-then-end-left
 unfolding count_outcome
 returns-then-end-left c =
-    sym (check_other_end _ _ _ _ (passed (goal.at.returns-then-end-left c).In_default) (sets_passed (goal.at.returns-then-end-left c).In_default-examine_sets) _ (sym (checked (goal.at.returns-then-end-left c).After-check_steps) ∙ c.in-Ends.is) c.if-end-left.true)
+    sym (check_other_end _ _ _ _ (passed (goal.at.returns-then-end-left c).In_default) (sets_passed (goal.at.returns-then-end-left c).In_default-examine_sets) _
+    (sym (checked (goal.at.returns-then-end-left c).After-check_steps) ∙ c.in-Ends.is) c.if-end-left.true)
 
 pub count_curves-requires : goal.count_curves-requires
 count_curves-requires c =
-    omega (arith, sets_long _ _ _ (sets_passed (goal.at.count_curves-requires c).In_default-examine_sets), (known_exact _ _ _ (passed (goal.at.count_curves-requires c).In_default)).0.tests_bound)
+    omega (
+      arith,
+      sets_long _ _ _ (sets_passed (goal.at.count_curves-requires c).In_default-examine_sets),
+      (known_exact _ _ _ (passed (goal.at.count_curves-requires c).In_default)).0.tests_bound,
+    )
 
 pub returns-in-Breaks : goal.returns-in-Breaks
 unfolding count_outcome
 returns-in-Breaks c =
-    sym (check_broken _ _ _ _ (passed (goal.at.returns-in-Breaks c).In_default) (sets_passed (goal.at.returns-in-Breaks c).In_default-examine_sets) _ (sym (checked (goal.at.returns-in-Breaks c).After-check_steps) ∙ c.in-Breaks.is))
+    sym (check_broken _ _ _ _ (passed (goal.at.returns-in-Breaks c).In_default) (sets_passed (goal.at.returns-in-Breaks c).In_default-examine_sets) _
+    (sym (checked (goal.at.returns-in-Breaks c).After-check_steps) ∙ c.in-Breaks.is))
 
 pub returns-else-end-left : goal.returns-else-end-left
 unfolding count_outcome
 returns-else-end-left c =
     rw c.count_curves.ensures
-    (sym (check_ended _ _ _ _ (passed (goal.at.returns-else-end-left c).In_default) (sets_passed (goal.at.returns-else-end-left c).In_default-examine_sets) _ (sym (checked (goal.at.returns-else-end-left c).After-check_steps) ∙ c.in-Ends.is) c.if-end-left.false))
+    (sym (check_ended _ _ _ _ (passed (goal.at.returns-else-end-left c).In_default) (sets_passed (goal.at.returns-else-end-left c).In_default-examine_sets) _
+    (sym (checked (goal.at.returns-else-end-left c).After-check_steps) ∙ c.in-Ends.is) c.if-end-left.false))

@@ -28,7 +28,11 @@ front t c =
     let a = c.args in
     elim c.if-n-ge10.branch [
       | then-n-ge10 w ↦ record { digits = decimal (a.n / 10); put = rw (w.out-is, w.to-is) w.put_decimal-to.ensures; whole = decimal_more a.n w.if-n-ge10.true }
-      | else-n-ge10 w ↦ record { digits = []; put = rw (w.out-is, w.to-is) (wrote_nil a.out.now a.at); whole = decimal_one a.n (omega (arith, w.if-n-ge10.false)) }
+      | else-n-ge10 w ↦ record {
+        digits = [];
+        put = rw (w.out-is, w.to-is) (wrote_nil a.out.now a.at);
+        whole = decimal_one a.n (omega (arith, w.if-n-ge10.false));
+      }
     ]
 
 pub put_byte-requires : goal.put_byte-requires

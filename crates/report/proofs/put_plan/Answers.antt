@@ -12,7 +12,10 @@ put_head-to-requires c =
 pub put_steps-to-requires : goal.put_steps-to-requires
 put_steps-to-requires c =
     let a = c.args in
-    record { drops_len = c.requires.drops_len; loads_bound = omega (arith, c.requires, c.put_head-to.ensures.behind, plan_length a.head a.order.now a.drops.now a.loads.now a.end) }
+    record {
+      drops_len = c.requires.drops_len;
+      loads_bound = omega (arith, c.requires, c.put_head-to.ensures.behind, plan_length a.head a.order.now a.drops.now a.loads.now a.end);
+    }
 
 pub put_end-to-requires : goal.put_end-to-requires
 put_end-to-requires c =

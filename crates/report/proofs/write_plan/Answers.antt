@@ -20,7 +20,11 @@ short c =
 
 pub put_plan-needed-requires : goal.put_plan-needed-requires
 put_plan-needed-requires c =
-    record { drops_len = c.requires.drops_len; count_value = c.requires.count_value; end_len_bound = short (goal.at.put_plan-needed-requires c).After-shared_slice_known-1 }
+    record {
+      drops_len = c.requires.drops_len;
+      count_value = c.requires.count_value;
+      end_len_bound = short (goal.at.put_plan-needed-requires c).After-shared_slice_known-1;
+    }
 
 pub returns-then-out-needed : goal.returns-then-out-needed
 returns-then-out-needed c =
@@ -30,7 +34,12 @@ returns-then-out-needed c =
     (fill_short t a.out.now w c.if-out-needed.true)
 
 pub put_plan-requires : goal.put_plan-requires
-put_plan-requires c = record { drops_len = c.requires.drops_len; count_value = c.requires.count_value; end_len_bound = short (goal.at.put_plan-requires c).After-shared_slice_known-1 }
+put_plan-requires c =
+    record {
+      drops_len = c.requires.drops_len;
+      count_value = c.requires.count_value;
+      end_len_bound = short (goal.at.put_plan-requires c).After-shared_slice_known-1;
+    }
 
 pub returns : goal.returns
 returns c =

@@ -24,10 +24,9 @@ given : (c : In-Planned)
     → Given c.args.job.now
     c.in-Planned.head c.in-Planned.count c.in-Planned.end (filled c)
 given c =
-    let the_bytes : Bytes c.args.job.now = bytes_of c.args.job.now (λ k l. omega (arith, c.shared_slice_known-1.given k)) in
     let r = c.plan_job in
     planned_job c.args.job.now
-    (the_bytes) _ _ r.ensures.answer (omega arith) _
+    (bytes (goal.at.In-Planned c).After-shared_slice_known-1) _ _ r.ensures.answer (omega arith) _
     _ _ _ c.in-Planned.is r.ensures.lists
 
 pub slice_bounds-order-end : goal.slice_bounds-order-end
@@ -52,7 +51,12 @@ slice_bounds-write_plan-end-in-Planned-2 c = sym (given (goal.at.slice_bounds-wr
 
 pub write_plan-requires : goal.write_plan-requires
 write_plan-requires c =
-    let g = given (goal.at.write_plan-requires c).In-Planned in record { drops_len = (g.drops_long ∙ sym g.order_long, g.loads_long ∙ sym g.order_long); count_value = g.count; tests_bound = (g.few, g.room, g.method, omega (arith, g.few, g.order_long)) }
+    let g = given (goal.at.write_plan-requires c).In-Planned in
+    record {
+      drops_len = (g.drops_long ∙ sym g.order_long, g.loads_long ∙ sym g.order_long);
+      count_value = g.count;
+      tests_bound = (g.few, g.room, g.method, omega (arith, g.few, g.order_long));
+    }
 
 pub returns-in-Refused : goal.returns-in-Refused
 returns-in-Refused c =

@@ -26,8 +26,7 @@ passed c = examined_passed _ _ c.in_default.is c.examine_sizing.ensures
 -- the local list has an entry for each test
 enough : (c : After-in_order) → length c.args.wants.now ≤ length c.in_order.new.steps
 enough c =
-    let the_passed : let a = c.args in sizing_known a.curves a.wants.now a.order.now ≡ done tt = examined_passed _ _ c.in_default.is c.examine_sizing.ensures in
-    omega (arith, c.in_order.auto.steps, (exact _ _ _ (the_passed)).0.tests_bound)
+    omega (arith, c.in_order.auto.steps, (exact _ _ _ (passed (goal.at.After-in_order c).In_default)).0.tests_bound)
 
 pub slice_bounds-all_sizes-end : goal.slice_bounds-all_sizes-end
 slice_bounds-all_sizes-end c = sym (length-take-le _ _ (enough (goal.at.slice_bounds-all_sizes-end c).After-in_order))
@@ -38,7 +37,8 @@ returns c =
     let a = c.args in
     let both =
     sized _ _ _ (passed (goal.at.returns c).In_default) _ _
-    (ap (take (length a.wants.now)) c.in_order.ensures ∙ first_steps _ _ _ (passed (goal.at.returns c).In_default) _ (omega (arith, (exact _ _ _ (passed (goal.at.returns c).In_default)).0.tests_bound)))
+    (ap (take (length a.wants.now)) c.in_order.ensures
+    ∙ first_steps _ _ _ (passed (goal.at.returns c).In_default) _ (omega (arith, (exact _ _ _ (passed (goal.at.returns c).In_default)).0.tests_bound)))
     c.all_sizes.ensures in
     record { answer = both.0; counts = both.1.0; every = both.1.1 }
 

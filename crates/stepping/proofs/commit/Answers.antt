@@ -30,21 +30,16 @@ slice_bounds-commit_at-end c =
 -- what is answered
 answers : (c : After-commit_at-answer) → let a = c.args in commit_outcome c.commit_at-answer.result ≡ commit a.state a.position
 answers c =
-    let the_entries : length c.args.state.wants ≡ 256 = omega arith in
     let s = c.args.state in
     c.commit_at-answer.ensures ∙ ap (λ (ws : List ℕ). commit_at s.capacity s.held s.committed ws c.args.position)
-    (first_entries s.wants s.tests c.steps_of-end.result (the_entries) c.steps_of-end.ensures)
+    (first_entries s.wants s.tests c.steps_of-end.result (entries (goal.at.After-commit_at-answer c).Start) c.steps_of-end.ensures)
 
 -- a step that was carried out
 carried_is : (c : After-commit_at-answer) (l : NextStep) → c.commit_at-answer.result ≡ CommitAnswer.Carried l
     → let a = c.args in commit a.state a.position ≡ done l
 unfolding commit_outcome
 carried_is c l e =
-    let the_answers : let a = c.args in commit_outcome c.commit_at-answer.result ≡ commit a.state a.position = let the_entries : length c.args.state.wants ≡ 256 = omega arith in
-    let s = c.args.state in
-    c.commit_at-answer.ensures ∙ ap (λ (ws : List ℕ). commit_at s.capacity s.held s.committed ws c.args.position)
-    (first_entries s.wants s.tests c.steps_of-end.result (the_entries) c.steps_of-end.ensures) in
-    sym (the_answers) ∙ rw e refl
+    sym (answers c) ∙ rw e refl
 
 pub overflow_add-after : goal.overflow_add-after
 overflow_add-after c =
@@ -65,4 +60,7 @@ unfolding commit_outcome
 returns c =
     let a = c.args in
     let r = c.in_default.field-0 in
-    record { answer = answers (goal.at.returns c).After-commit_at-answer; state = sym (unchanged a.state a.position (number r) (figure r) (sym (answers (goal.at.returns c).After-commit_at-answer) ∙ rw c.in_default.is refl)) }
+    record {
+      answer = answers (goal.at.returns c).After-commit_at-answer;
+      state = sym (unchanged a.state a.position (number r) (figure r) (sym (answers (goal.at.returns c).After-commit_at-answer) ∙ rw c.in_default.is refl));
+    }

@@ -23,7 +23,8 @@ pub returns-else-not-is_done : goal.returns-else-not-is_done
 unfolding commit_outcome
 returns-else-not-is_done c =
     let a = c.args in
-    sym (commit_behind a.capacity a.held a.committed a.wants.now a.position (next_done (goal.at.returns-else-not-is_done c).After-is_done ∙ c.if-not-is_done.false))
+    sym (commit_behind a.capacity a.held a.committed a.wants.now a.position (next_done (goal.at.returns-else-not-is_done c).After-is_done
+    ∙ c.if-not-is_done.false))
 
 pub returns-else-position-committed : goal.returns-else-position-committed
 unfolding commit_outcome

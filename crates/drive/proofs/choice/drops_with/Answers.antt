@@ -27,7 +27,8 @@ by_rule c x e =
 
 pub returns-then-size-excess : goal.returns-then-size-excess
 returns-then-size-excess c =
-    by_rule (goal.at.returns-then-size-excess c).After-without-candidates _ (sym (all_victims 64 _ c.without-candidates.result _ (omega (arith, c.size-size.ensures, c.if-size-excess.true))
+    by_rule (goal.at.returns-then-size-excess c).After-without-candidates _
+    (sym (all_victims 64 _ c.without-candidates.result _ (omega (arith, c.size-size.ensures, c.if-size-excess.true))
     (in_range 64 c.without-candidates.result (omega (arith, c.without-candidates.type_inv)))))
 
 pub find_uses-count-requires : goal.find_uses-count-requires
@@ -53,4 +54,6 @@ returns c =
     let unused : c.without.result ≡ c.without-candidates.result ∖ c.wanted_later-used.result =
     c.without.ensures in
     let g = rw (sym unused) at c.find_uses-count.ensures in
-    by_rule (goal.at.returns c).After-without-candidates _ (c.drop_from_far.ensures c.without-candidates.result _ g (omega (arith, c.without-candidates.type_inv)) (omega (arith, c.if-size-excess.false, c.size-size.ensures)))
+    by_rule (goal.at.returns c).After-without-candidates _
+    (c.drop_from_far.ensures c.without-candidates.result _ g (omega (arith, c.without-candidates.type_inv))
+    (omega (arith, c.if-size-excess.false, c.size-size.ensures)))

@@ -72,16 +72,17 @@ taken : (c : After-common-group)
     let a = c.args in
     Met a.candidates q.left c.common-group.result q.k a.later.now
 taken c =
-    let the_within : c.loop-left.k < length c.args.later.now = let q = c.loop-left in
-    let x = some q.left (omega (arith, c.loop-left-test.true)) in
-    used_ends x.0 c.args.used q.k _ c.requires.0 (omega (arith, x.1, q.invariant.part x.0, bit-∩ x.0 c.args.candidates c.args.used))
-    (q.invariant.ahead x.0 x.1) in
     let i = c.loop-left.invariant in
-    one_met _ c.args.used _ _ _ _ (the_within) i.part i.ahead c.common-group.ensures
+    one_met _ c.args.used _ _ _ _ (within (goal.at.After-common-group c).In-loop-left) i.part i.ahead c.common-group.ensures
 
 pub overflow_add-count : goal.overflow_add-count
 overflow_add-count c =
-    omega (arith, c.loop-left.invariant.room, any_size _ _ c.any-count.ensures.value c.any-count.ensures.value_2, (taken (goal.at.overflow_add-count c).After-common-group).split)
+    omega (
+      arith,
+      c.loop-left.invariant.room,
+      any_size _ _ c.any-count.ensures.value c.any-count.ensures.value_2,
+      (taken (goal.at.overflow_add-count c).After-common-group).split,
+    )
 
 pub overflow_add-k : goal.overflow_add-k
 overflow_add-k c = omega (arith, within (goal.at.overflow_add-k c).In-loop-left, c.well_formed)

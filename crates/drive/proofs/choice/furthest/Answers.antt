@@ -11,7 +11,10 @@ use Rattle.drive.proofs.choice.furthest.Goals as goal
 pub returns-then-never-eq0 : goal.returns-then-never-eq0
 returns-then-never-eq0 c =
     let f = c.first_to_go.ensures in
-    record { by_index = λ ws h. absurd (omega (arith, c.if-never-eq0.true)); by_index_2 = λ ws z h used. first_of_same ws _ _ _ (f.same_value h) f.by_index used }
+    record {
+      by_index = λ ws h. absurd (omega (arith, c.if-never-eq0.true));
+      by_index_2 = λ ws z h used. first_of_same ws _ _ _ (f.same_value h) f.by_index used;
+    }
 
 pub returns-then-further : goal.returns-then-further
 returns-then-further c =

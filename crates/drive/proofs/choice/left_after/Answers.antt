@@ -31,4 +31,8 @@ returns c =
     let w = q.invariant.walked in
     let s = c.args.same in
     let all = sizes_eq (s ∷ []) (q.go ∷ s ∖ q.go ∷ []) (λ x. omega (arith, w.part x, bit-∖ x s q.go)) in
-    rw c.without.ensures record { gone_value = omega (arith, q.invariant.count, c.loop-n-test.false, all); by_index = λ x. omega (arith, bit-∖ x s q.go); by_index_2 = λ x y i n m. let b = bit-∖ y s q.go in w.lower y x (omega arith) (omega arith) (omega (arith, bit-∖ x s q.go, w.part x)) }
+    rw c.without.ensures record {
+      gone_value = omega (arith, q.invariant.count, c.loop-n-test.false, all);
+      by_index = λ x. omega (arith, bit-∖ x s q.go);
+      by_index_2 = λ x y i n m. let b = bit-∖ y s q.go in w.lower y x (omega arith) (omega arith) (omega (arith, bit-∖ x s q.go, w.part x));
+    }

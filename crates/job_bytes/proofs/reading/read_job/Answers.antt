@@ -38,7 +38,8 @@ returns-in-Refused-examine_capacity c =
     let x = c.examine_capacity in
     let both =
     job_refused a.job.now a.wants.now _ _ (whole_head a.job.now _ _
-    (head_booked a.job.now _ (fields (goal.at.returns-in-Refused-examine_capacity c).After-head_of-head) _ _ (examined_refused _ _ _ c.in-Refused-examine_capacity.is x.ensures))) in
+    (head_booked a.job.now _ (fields (goal.at.returns-in-Refused-examine_capacity c).After-head_of-head) _ _
+    (examined_refused _ _ _ c.in-Refused-examine_capacity.is x.ensures))) in
     record { answer = both.0; lent = both.1 }
 
 pub read_tests-requires : goal.read_tests-requires

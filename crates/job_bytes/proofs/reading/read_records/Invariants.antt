@@ -14,7 +14,8 @@ invariant-loop-j l =
       turns : l.j ≤ 8;
       fits : l.used ≤ length l.rest;
       same : l.answer ≡ l.initial.answer;
-      goes : read_groups 1 3 4 l.curves 8 0 l.map 0 (l.at + 1) (drop 1 l.rest) ≡ read_groups 1 3 4 l.curves (8 - l.j) l.j l.map l.set (l.at + l.used) (drop l.used l.rest);
+      goes : read_groups 1 3 4 l.curves 8 0 l.map 0 (l.at + 1) (drop 1 l.rest) ≡ read_groups 1 3 4 l.curves (8 - l.j) l.j l.map l.set (l.at + l.used)
+          (drop l.used l.rest);
     }
 
 abbrev pub decreases-loop-j : goal.decreases-loop-j

@@ -73,4 +73,7 @@ returns c =
     let l = c.loop-j in
     let n = bytes_end l.j l.rest (omega arith) in
     let e : lib.Seq.sets a.out.now (a.to + 1) (group_bytes 8 a.s ++ (0 ∷ [])) ≡ set l.out l.end 0 = l.invariant.goes ∙ rw n refl in
-    record { room = λ h. (end_is (goal.at.returns c).After-loop-j, rw (← e, ← map_is (goal.at.returns c).After-loop-j) (map_last a.s a.to a.out.now)); none = λ h. absurd (omega arith) }
+    record {
+      room = λ h. (end_is (goal.at.returns c).After-loop-j, rw (← e, ← map_is (goal.at.returns c).After-loop-j) (map_last a.s a.to a.out.now));
+      none = λ h. absurd (omega arith);
+    }

@@ -46,4 +46,8 @@ loop-j-preserved c =
 pub returns : goal.returns
 unfolding head_bytes fields_map
 returns c =
-    let z : c.loop-j.j ≡ 0 = omega arith in record { map = rw z at c.loop-j.invariant.1; len = (rw z at c.loop-j.invariant.2 ∙ sym (head_length c.args.values.now), omega (arith, rows)) }
+    let z : c.loop-j.j ≡ 0 = omega arith in
+    record {
+      map = rw z at c.loop-j.invariant.1;
+      len = (rw z at c.loop-j.invariant.2 ∙ sym (head_length c.args.values.now), omega (arith, rows));
+    }

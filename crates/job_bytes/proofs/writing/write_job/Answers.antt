@@ -23,9 +23,7 @@ known c = examined_passed c.examine_job.result _ c.in_default.is c.examine_job.e
 
 few : (c : In_default) → length c.args.wants.now ≤ 256
 few c =
-    let the_known : let a =
-    c.args in job_known_by a.method (job_of a.rig a.wants.now) ≡ done tt = examined_passed c.examine_job.result _ c.in_default.is c.examine_job.ensures in
-    let a = c.args in ((job_by_exact (job_of a.rig a.wants.now) a.method).0 (the_known)).0.tests_bound
+    let a = c.args in ((job_by_exact (job_of a.rig a.wants.now) a.method).0 (known c)).0.tests_bound
 
 pub returns-in-Refused : goal.returns-in-Refused
 unfolding count_outcome
@@ -53,15 +51,20 @@ bytes c = let a = c.args in job_bytes (request a.method (job_of a.rig a.wants.no
 own : (c : After-put_records-needed) → let p = c.put_records-needed in
     (p.result ≡ length (bytes c)) × (p.result ≤ length p.new.out) × (take p.result p.new.out ≡ bytes c)
 own c =
-    let the_few : length c.args.wants.now ≤ 256 = let the_known : let a =
-    c.args in job_known_by a.method (job_of a.rig a.wants.now) ≡ done tt = examined_passed c.examine_job.result _ c.in_default.is c.examine_job.ensures in
-    let a = c.args in ((job_by_exact (job_of a.rig a.wants.now) a.method).0 (the_known)).0.tests_bound in
     let p = c.put_records-needed.ensures in
     let a = c.args in
     let q = request a.method (job_of a.rig a.wants.now) in
     let n : c.put_records-needed.result ≡ length (bytes c) = omega (arith, p.end, c.head_shape-head.ensures.len.0, job_length q) in
     let m : length (bytes c) ≤ 2345 =
-    omega (arith, rows, c.head_shape-head.ensures.len.0, c.head_shape-head.ensures.len.1, job_length q, records_le a.wants.now, the_few) in
+    omega (
+      arith,
+      rows,
+      c.head_shape-head.ensures.len.0,
+      c.head_shape-head.ensures.len.1,
+      job_length q,
+      records_le a.wants.now,
+      (few (goal.at.After-put_records-needed c).In_default),
+    ) in
     let s = job_sets q _ _ _ c.head_shape-head.result.len c.head_shape-head.ensures.len.0 c.put_head.ensures p.bytes in
     let z : c.put_records-needed.result ≡ 0 + length (bytes c) = omega arith in
     (n, own_fits (bytes c) _ _ _ z s (omega arith), own_bytes (bytes c) _ _ _ z s (omega arith))

@@ -23,10 +23,9 @@ read : (c : In-Read) →
     (read_bytes c.args.job.now ≡ done (record { head = h; wants = take h.tests w }))
     × (length (take h.tests w) ≡ h.tests) × (h.tests ≤ 256)
 read c =
-    let the_bytes : Bytes c.args.job.now = bytes_of c.args.job.now (λ k l. omega (arith, c.shared_slice_known-1.given k)) in
     let r = c.read_job in
     let x = answer_done c.args.job.now _
-    (the_bytes) (omega arith) _ _ (read_done _ _ _ r.ensures.answer c.in-Read.is)
+    (bytes (goal.at.In-Read c).After-shared_slice_known-1) (omega arith) _ _ (read_done _ _ _ r.ensures.answer c.in-Read.is)
     r.ensures.lent in
     (x.read, x.tests, x.few)
 

@@ -9,7 +9,8 @@ abbrev pub invariant-loop-i : goal.invariant-loop-i
 invariant-loop-i l =
     record {
       turns : l.i ≤ length l.counts;
-      rest : Rest l.initial.out l.at (sizes_text (get_or l.counts 63 0) 1 l.counts) l.out l.to (sizes_text (get_or l.counts 63 0) (l.i + 1) (lib.ListN.drop l.i l.counts));
+      rest : Rest l.initial.out l.at (sizes_text (get_or l.counts 63 0) 1 l.counts) l.out l.to
+          (sizes_text (get_or l.counts 63 0) (l.i + 1) (lib.ListN.drop l.i l.counts));
     }
 
 abbrev pub decreases-loop-i : goal.decreases-loop-i

@@ -19,7 +19,8 @@ read : (c : In-Read)
     c.read_job.new.wants
 read c =
     let r = c.read_job in
-    answer_done c.args.job.now _ (bytes_of c.args.job.now (λ k l. omega (arith, c.shared_slice_known-1.given k))) (omega arith) _ _ (read_done _ _ _ r.ensures.answer c.in-Read.is) r.ensures.lent
+    answer_done c.args.job.now _ (bytes_of c.args.job.now (λ k l. omega (arith, c.shared_slice_known-1.given k))) (omega arith) _ _
+    (read_done _ _ _ r.ensures.answer c.in-Read.is) r.ensures.lent
 
 pub slice_bounds-wants-end : goal.slice_bounds-wants-end
 slice_bounds-wants-end c = omega (arith, (read (goal.at.slice_bounds-wants-end c).In-Read).few, c.read_job.auto.wants)
@@ -35,7 +36,8 @@ returns-in-Refused c =
     let a = c.args in
     let r = c.read_job in
     as_refused (size_job a.job.now) _ _ (not_read a.job.now _ _
-    (answer_refused a.job.now _ (bytes (goal.at.returns-in-Refused c).After-shared_slice_known-1) (omega arith) _ _ (read_refused _ _ _ r.ensures.answer c.in-Refused.is)))
+    (answer_refused a.job.now _ (bytes (goal.at.returns-in-Refused c).After-shared_slice_known-1) (omega arith) _ _
+    (read_refused _ _ _ r.ensures.answer c.in-Refused.is)))
 
 pub returns-in-Read : goal.returns-in-Read
 returns-in-Read c = rw (was_read c.args.job.now _ (read (goal.at.returns-in-Read c).In-Read).read) c.size_list.ensures

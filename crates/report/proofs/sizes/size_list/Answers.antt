@@ -39,10 +39,16 @@ pub returns-in-Refused-answer : goal.returns-in-Refused-answer
 returns-in-Refused-answer c =
     let a = c.args in
     let s = c.all_sizes-sizes in
-    list_refused (record { head = a.head; wants = a.wants.now }) _ (given (goal.at.returns-in-Refused-answer c).In_default).0 _ _ s.ensures.answer s.ensures.counts _ c.in-Refused-answer.is
+    list_refused (record {
+      head = a.head;
+      wants = a.wants.now;
+    }) _ (given (goal.at.returns-in-Refused-answer c).In_default).0 _ _ s.ensures.answer s.ensures.counts _ c.in-Refused-answer.is
 
 pub returns-in-Passed : goal.returns-in-Passed
 returns-in-Passed c =
     let a = c.args in
     let s = c.all_sizes-sizes in
-    list_sized (record { head = a.head; wants = a.wants.now }) _ (given (goal.at.returns-in-Passed c).In_default).0 _ _ s.ensures.answer s.ensures.counts c.in-Passed.is
+    list_sized (record {
+      head = a.head;
+      wants = a.wants.now;
+    }) _ (given (goal.at.returns-in-Passed c).In_default).0 _ _ s.ensures.answer s.ensures.counts c.in-Passed.is

@@ -1,4 +1,5 @@
--- `report::sizes::wanted_in` meets its contract. The invariant: the number of the whole word is that of the digits behind n; and n has as many digits as were read.
+-- `report::sizes::wanted_in` meets its contract. The invariant: the number of the whole word is that of the digits behind n; and n has as many digits as were
+-- read.
 use mathlib.Core.Path.{◌≡◌}
 use Prim.Native.Nat.{◌-◌, ◌^◌, ◌≤◌, ◌<◌}
 use lib.ListN.{length, get_or}
