@@ -1,13 +1,11 @@
 -- The examination of handed numbers, test by test: which refusal the tests so far come to.
-use mathlib.Core.Path.{◌≡◌, refl, sym, ap, ◌∙◌}
+use mathlib.Core.Path.{◌≡◌, refl, ap, ◌∙◌}
 use mathlib.Core.Bool.{true, false}
 use Prim.Native.Nat.{ℕ, ◌≤◌, ◌<◌}
 use lib.Dec.{leb}
 use lib.ListN.{length}
 use borrow.Author.Tests.{le-leb, lt-leb, leb-true}
-use Rattle.job.specs.declared.Refusal.{Refusal}
-use Rattle.job.specs.declared.Examined.{Examined}
-use Rattle.job.specs.Refusal.{Outcome, done, refused, number, figure, examined_outcome, ◌>>◌, demand}
+use Rattle.job.specs.Refusal.{Outcome, done, refused, ◌>>◌, demand}
 use Rattle.job.specs.declared.Rig.{Rig}
 use Rattle.job.specs.Words.{Job}
 use Rattle.job.specs.Handed.{between, places_known, curves_known, tests_known, method_known, wants_known, numbers_known, booked_known, job_known_by}
@@ -61,6 +59,16 @@ module _ (rig : Rig) (tests : ℕ) where
   unfolding numbers_known counts_known
   known_bounds e = counts_bounds rig.curves tests (both_done (places_known rig.places) _ tt e).1
 
+-- ---- 10, the method
+module _ {A : Type 0} (method : ℕ) (rest : Outcome A) where
+  pub method_passed : is_method method ≡ true → ◌>>◌ (method_known method) rest ≡ rest
+  unfolding method_known demand ◌>>◌
+  method_passed h = rw h refl
+
+  pub method_refused : is_method method ≡ false → ◌>>◌ (method_known method) rest ≡ refused 10 3
+  unfolding method_known demand ◌>>◌
+  method_refused h = rw h refl
+
 -- ---- the whole, by its parts
 module _ (method : ℕ) (job : Job) where
   -- all that is asked before the booked places
@@ -74,32 +82,6 @@ module _ (method : ℕ) (job : Job) where
       (booked_known job.rig))
       ∙ both_assoc (numbers_known job.rig (length job.wants)) _ (booked_known job.rig)
 
-  pub by_refused : (k i : ℕ) → numbers_known job.rig (length job.wants) ≡ refused k i → job_known_by method job ≡ refused k i
+  pub by_method : numbers_known job.rig (length job.wants) ≡ done tt → is_method method ≡ false → job_known_by method job ≡ refused 10 3
   unfolding job_known_by
-  by_refused k i e = refused_both _ _ k i e
-
-  module _ (e : numbers_known job.rig (length job.wants) ≡ done tt) where
-    pub by_method : is_method method ≡ false → job_known_by method job ≡ refused 10 3
-    unfolding job_known_by method_known demand ◌>>◌
-    by_method h = rw (e, h) refl
-
-    module _ (h : is_method method ≡ true) where
-      by_rest : job_known_by method job ≡ ◌>>◌ (wants_known job.rig.curves job.wants) (booked_known job.rig)
-      unfolding job_known_by method_known demand ◌>>◌
-      by_rest = rw (e, h) refl
-
-      pub by_wants : (k i : ℕ) → wants_known job.rig.curves job.wants ≡ refused k i → job_known_by method job ≡ refused k i
-      by_wants k i w = by_rest ∙ refused_both _ _ k i w
-
-      pub by_booked : wants_known job.rig.curves job.wants ≡ done tt → job_known_by method job ≡ booked_known job.rig
-      by_booked w = by_rest ∙ done_both _ _ w
-
--- ---- an examination that a function answered
-pub examined_refused : (e : Examined) (r : Refusal) (o : Outcome (Unit {0})) → e ≡ Examined.Refused r → examined_outcome e ≡ o
-    → o ≡ refused (number r) (figure r)
-unfolding examined_outcome
-examined_refused e r o p q = sym q ∙ rw p refl
-
-pub examined_passed : (e : Examined) (o : Outcome (Unit {0})) → e ≡ Examined.Passed → examined_outcome e ≡ o → o ≡ done tt
-unfolding examined_outcome
-examined_passed e o p q = sym q ∙ rw p refl
+  by_method e h = done_both _ _ e ∙ method_refused method _ h

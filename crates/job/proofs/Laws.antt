@@ -11,10 +11,9 @@ use lib.ListN.{length, get_or, drop, drop_of_length-le}
 use lib.Seq.{drop-cons}
 use native.Mathlib.Numerals.{add-one}
 use Rattle.job.specs.declared.Refusal.{Refusal}
-use Rattle.job.specs.declared.Head.{Head}
-use Rattle.job.specs.declared.JobRead.{JobRead}
-use Rattle.job.specs.declared.Counted.{Counted}
-use Rattle.job.specs.Refusal.{Outcome, done, refused, number, figure, read_outcome, count_outcome}
+use Rattle.std.specs.Prelude.{Result, Ok, Err, IsErrAnd}
+use Rattle.std.proofs.lemmas.Result.{err_from_is_err_and}
+use Rattle.job.specs.Refusal.{Outcome, done, refused, number, figure, outcome}
 use Rattle.job.specs.Refusal.{◌>>=◌, ◌>>◌, mapped, demand, room, fitting, leaves, overwritten}
 use Rattle.job.specs.Handed.{each}
 pub use Rattle.lists.proofs.Tests.{both, and}
@@ -176,18 +175,31 @@ made_done made old new e = (rw e refl, rw e refl)
 
 -- ---- what an answer says of the outcome that it stands for
 
-pub count_done : (r : Counted) (o : Outcome ℕ) (n : ℕ) → count_outcome r ≡ o → r ≡ Counted.Count n → o ≡ done n
-unfolding count_outcome
-count_done r o n p e = sym p ∙ rw e refl
+module _ {A : Type 0} (r : Result A Refusal) (o : Outcome A) where
+  pub outcome_done : (a : A) → r ≡ Ok a → outcome r ≡ o → o ≡ done a
+  unfolding outcome
+  outcome_done a e p = sym p ∙ rw e refl
 
-pub count_refused : (r : Counted) (o : Outcome ℕ) (x : Refusal) → count_outcome r ≡ o → r ≡ Counted.Refused x → o ≡ refused (number x) (figure x)
-unfolding count_outcome
-count_refused r o x p e = sym p ∙ rw e refl
+  pub outcome_refused : (x : Refusal) → r ≡ Err x → outcome r ≡ o → o ≡ refused (number x) (figure x)
+  unfolding outcome
+  outcome_refused x e p = sym p ∙ rw e refl
 
-pub read_done : (r : JobRead) (o : Outcome Head) (h : Head) → read_outcome r ≡ o → r ≡ JobRead.Read h → o ≡ done h
-unfolding read_outcome
-read_done r o h p e = sym p ∙ rw e refl
+-- ---- a `?`: it hands the refusal of a call on, or the value to what comes behind
 
-pub read_refused : (r : JobRead) (o : Outcome Head) (x : Refusal) → read_outcome r ≡ o → r ≡ JobRead.Refused x → o ≡ refused (number x) (figure x)
-unfolding read_outcome
-read_refused r o x p e = sym p ∙ rw e refl
+module _ {A B : Type 0} (r : Result B Refusal) (x : Refusal) {a : Outcome A} where
+  pub refused_then : (b : Outcome B) → IsErrAnd r (λ y. y ≡ x) → outcome {A = A} (Err x) ≡ a → outcome r ≡ ◌>>◌ a b
+  unfolding outcome ◌>>◌
+  refused_then b h e = let p = err_from_is_err_and r h in rw (p.1, p.2, sym e) refl
+
+  pub refused_with : (f : A → Outcome B) → IsErrAnd r (λ y. y ≡ x) → outcome {A = A} (Err x) ≡ a → outcome r ≡ ◌>>=◌ a f
+  unfolding outcome ◌>>=◌
+  refused_with f h e = let p = err_from_is_err_and r h in rw (p.1, p.2, sym e) refl
+
+module _ {A B : Type 0} (v : A) {a : Outcome A} {c : Outcome B} where
+  pub passed_then : {b : Outcome B} → outcome (Ok v) ≡ a → c ≡ b → c ≡ ◌>>◌ a b
+  unfolding outcome ◌>>◌
+  passed_then e p = p ∙ rw (sym e) refl
+
+  pub passed_with : (f : A → Outcome B) → outcome (Ok v) ≡ a → c ≡ f v → c ≡ ◌>>=◌ a f
+  unfolding outcome ◌>>=◌
+  passed_with f e p = p ∙ rw (sym e) refl

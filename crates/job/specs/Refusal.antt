@@ -1,14 +1,10 @@
 -- What a call comes to, in the numbers of document 01: "When the rig says no".
 -- A call ends in a value, or in a refusal with its number and its figure.
-use Rattle.std.specs.Prelude.{Bool, true, false, List, ℕ, leb, length}
+use Rattle.std.specs.Prelude.{Bool, true, false, List, ℕ, leb, length, Result, Ok, Err}
 unfoldable pub use Rattle.lists.specs.Lent.{overwritten}
 use Rattle.job.specs.declared.Refusal.{Refusal}
 use Rattle.job.specs.declared.Refusal.TheVariants.{Truncated, BadHeader, EmptyGroup, UnknownCurve, TrailingBytes, TestTooLarge, BadOrder}
 use Rattle.job.specs.declared.Refusal.TheVariants.{BufferTooSmall, BadArgument, BadPlanBytes, PlanRejected, TooManyBooked, UnknownHeld, NotNext}
-use Rattle.job.specs.declared.Head.{Head}
-use Rattle.job.specs.declared.JobRead.{JobRead}
-use Rattle.job.specs.declared.Counted.{Counted}
-use Rattle.job.specs.declared.Examined.{Examined}
 
 pub data Outcome (A : Type 0) : Type 0 where
   done : A → Outcome A
@@ -52,20 +48,10 @@ figure (NotNext i) = i
 
 -- ---- "Any answer that is an enum has a definition that gives this paper's number and values for each of the enum's cases."
 
--- of reading a job
-unfoldable pub read_outcome : JobRead → Outcome Head
-read_outcome (JobRead.Read h) = done h
-read_outcome (JobRead.Refused r) = refused (number r) (figure r)
-
--- of an examination
-unfoldable pub examined_outcome : Examined → Outcome (Unit {0})
-examined_outcome Examined.Passed = done tt
-examined_outcome (Examined.Refused r) = refused (number r) (figure r)
-
--- of a function that answers a count
-unfoldable pub count_outcome : Counted → Outcome ℕ
-count_outcome (Counted.Count n) = done n
-count_outcome (Counted.Refused r) = refused (number r) (figure r)
+-- of every function that answers a value or a refusal
+unfoldable pub outcome : {A : Type 0} → Result A Refusal → Outcome A
+outcome (Ok a) = done a
+outcome (Err r) = refused (number r) (figure r)
 
 -- ---- "Sequence": what comes later is asked only where nothing before it refused
 

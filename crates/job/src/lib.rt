@@ -1,7 +1,7 @@
 #![tactic(auto)]
 // The job of a rig: its head, the refusals, what the library's functions answer, and the examination of handed numbers and lists.
 ghost use Rattle.std.specs.Prelude.{◌≡◌, ◌≤◌, length};
-ghost use Rattle.job.specs.Refusal.{number, figure, examined_outcome};
+ghost use Rattle.job.specs.Refusal.{number, figure, outcome};
 ghost use Rattle.job.specs.Words.{job_of, capacity};
 ghost use Rattle.job.specs.Handed.{between, is_method, numbers_known, wants_known, wants_fit, booked_known, booked_below, held_known, job_known_by, counts_known};
 ghost use Rattle.job.specs.Order.{order_known};
@@ -83,20 +83,20 @@ pub fn figure_of(r: Refusal) -> u64
     ensures { result ≡ figure r }
 {
     match r {
-        Refusal::Truncated(i) => i as u64,
-        Refusal::BadHeader(i) => i as u64,
-        Refusal::EmptyGroup(i) => i as u64,
-        Refusal::UnknownCurve(i) => i as u64,
-        Refusal::TrailingBytes(i) => i as u64,
-        Refusal::TestTooLarge(i) => i as u64,
-        Refusal::BadOrder(i) => i as u64,
-        Refusal::BufferTooSmall(i) => i as u64,
-        Refusal::BadArgument(i) => i as u64,
-        Refusal::BadPlanBytes(i) => i as u64,
-        Refusal::PlanRejected(i) => i as u64,
-        Refusal::TooManyBooked(i) => i as u64,
-        Refusal::UnknownHeld(i) => i as u64,
-        Refusal::NotNext(i) => i as u64,
+        Refusal::Truncated(i)
+        | Refusal::BadHeader(i)
+        | Refusal::EmptyGroup(i)
+        | Refusal::UnknownCurve(i)
+        | Refusal::TrailingBytes(i)
+        | Refusal::TestTooLarge(i)
+        | Refusal::BadOrder(i)
+        | Refusal::BufferTooSmall(i)
+        | Refusal::BadArgument(i)
+        | Refusal::BadPlanBytes(i)
+        | Refusal::PlanRejected(i)
+        | Refusal::TooManyBooked(i)
+        | Refusal::UnknownHeld(i)
+        | Refusal::NotNext(i) => i as u64,
     }
 }
 
@@ -126,27 +126,6 @@ pub struct Head {
     pub method: usize,
 }
 
-// What reading a job answers.
-#[derive(Clone, Copy)]
-pub enum JobRead {
-    Read(Head),
-    Refused(Refusal),
-}
-
-// What an examination of handed numbers and lists answers.
-#[derive(Clone, Copy)]
-pub enum Examined {
-    Passed,
-    Refused(Refusal),
-}
-
-// What a call answers that counts its result: entries, bytes or loads.
-#[derive(Clone, Copy)]
-pub enum Counted {
-    Count(usize),
-    Refused(Refusal),
-}
-
 // ---- 10 and 13
 
 // "Places in the drive 1 to 64. Curves 1 to 64".
@@ -157,24 +136,24 @@ fn in_bounds(x: usize, most: usize) -> bool
 }
 
 // 10, of curves and a number of tests.
-pub fn examine_counts(curves: usize, tests: usize) -> Examined
-    ensures { examined_outcome result ≡ counts_known curves tests }
+pub fn examine_counts(curves: usize, tests: usize) -> Result<(), Refusal>
+    ensures { outcome result ≡ counts_known curves tests }
 {
     if !in_bounds(curves, MOST_CURVES) {
-        return Examined::Refused(Refusal::BadArgument(1));
+        return Err(Refusal::BadArgument(1));
     }
     if MOST_TESTS < tests {
-        return Examined::Refused(Refusal::BadArgument(2));
+        return Err(Refusal::BadArgument(2));
     }
-    Examined::Passed
+    Ok(())
 }
 
 // "10 in its own order": as far as the number of tests.
-fn examine_numbers(rig: Rig, tests: usize) -> Examined
-    ensures { examined_outcome result ≡ numbers_known rig tests }
+fn examine_numbers(rig: Rig, tests: usize) -> Result<(), Refusal>
+    ensures { outcome result ≡ numbers_known rig tests }
 {
     if !in_bounds(rig.places, MOST_PLACES) {
-        return Examined::Refused(Refusal::BadArgument(0));
+        return Err(Refusal::BadArgument(0));
     }
     examine_counts(rig.curves, tests)
 }
@@ -191,9 +170,9 @@ fn is_method(method: usize) -> bool
 }
 
 // 10, 4 + t: "wants of test t name a foreign curve".
-fn examine_wants(curves: usize, wants: &[u64]) -> Examined
+fn examine_wants(curves: usize, wants: &[u64]) -> Result<(), Refusal>
     requires { (curves ≤ 64) × (length wants.now ≤ 256) }
-    ensures { examined_outcome result ≡ wants_known curves wants.now }
+    ensures { outcome result ≡ wants_known curves wants.now }
 {
     let all = bitset::below(curves);
     let mut t = 0;
@@ -201,165 +180,149 @@ fn examine_wants(curves: usize, wants: &[u64]) -> Examined
         if bitset::inside(wants[t], all) {
             t += 1;
         } else {
-            return Examined::Refused(Refusal::BadArgument(4 + t));
+            return Err(Refusal::BadArgument(4 + t));
         }
     }
-    Examined::Passed
+    Ok(())
 }
 
 // 13: "booked not below places", with the figure that goes with it.
-pub fn examine_capacity(rig: Rig, figure: usize) -> Examined
-    ensures { examined_outcome result ≡ booked_below rig figure }
+pub fn examine_capacity(rig: Rig, figure: usize) -> Result<(), Refusal>
+    ensures { outcome result ≡ booked_below rig figure }
 {
     if rig.booked < rig.places {
-        return Examined::Passed;
+        return Ok(());
     }
-    Examined::Refused(Refusal::TooManyBooked(figure))
+    Err(Refusal::TooManyBooked(figure))
 }
 
 // Of the booked places: 10, its last, then 13.
-fn examine_booked(rig: Rig) -> Examined
-    ensures { examined_outcome result ≡ booked_known rig }
+fn examine_booked(rig: Rig) -> Result<(), Refusal>
+    ensures { outcome result ≡ booked_known rig }
 {
     if MOST_BOOKED < rig.booked {
-        return Examined::Refused(Refusal::BadArgument(260));
+        return Err(Refusal::BadArgument(260));
     }
     examine_capacity(rig, 0)
 }
 
 // 10 and 13, of a job and a method: what writing a job is handed. With method 0, of a job alone.
-pub fn examine_job(rig: Rig, method: usize, wants: &[u64]) -> Examined
-    ensures { examined_outcome result ≡ job_known_by method (job_of rig wants.now) }
+pub fn examine_job(rig: Rig, method: usize, wants: &[u64]) -> Result<(), Refusal>
+    ensures { outcome result ≡ job_known_by method (job_of rig wants.now) }
 {
-    if let Examined::Refused(r) = examine_numbers(rig, wants.len()) {
-        return Examined::Refused(r);
-    }
+    examine_numbers(rig, wants.len())?;
     if !is_method(method) {
-        return Examined::Refused(Refusal::BadArgument(3));
+        return Err(Refusal::BadArgument(3));
     }
-    if let Examined::Refused(r) = examine_wants(rig.curves, wants) {
-        return Examined::Refused(r);
-    }
+    examine_wants(rig.curves, wants)?;
     examine_booked(rig)
 }
 
 // ---- 14, 7 and 8
 
 // 14: "a held curve that the job doesn't have, with the lowest such curve".
-fn examine_held(curves: usize, held: u64) -> Examined
+fn examine_held(curves: usize, held: u64) -> Result<(), Refusal>
     requires { curves ≤ 64 }
-    ensures { examined_outcome result ≡ held_known curves held }
+    ensures { outcome result ≡ held_known curves held }
 {
     let unknown = bitset::without(held, bitset::below(curves));
     if unknown == 0 {
-        return Examined::Passed;
+        return Ok(());
     }
-    Examined::Refused(Refusal::UnknownHeld(bitset::lowest(unknown)))
+    Err(Refusal::UnknownHeld(bitset::lowest(unknown)))
 }
 
 // 7: "a test wants more curves than places", with the lowest such test; `most` is what the drive can hold.
-pub fn examine_sizes(most: usize, wants: &[u64]) -> Examined
-    ensures { examined_outcome result ≡ wants_fit most wants.now }
+pub fn examine_sizes(most: usize, wants: &[u64]) -> Result<(), Refusal>
+    ensures { outcome result ≡ wants_fit most wants.now }
 {
     let mut t = 0;
     while t < wants.len() {
         if most < bitset::size(wants[t]) {
-            return Examined::Refused(Refusal::TestTooLarge(t));
+            return Err(Refusal::TestTooLarge(t));
         }
         t += 1;
     }
-    Examined::Passed
+    Ok(())
 }
 
 // 7, of a rig: by places less booked.
-fn examine_fit(rig: Rig, wants: &[u64]) -> Examined
-    ensures { examined_outcome result ≡ wants_fit (capacity rig) wants.now }
+fn examine_fit(rig: Rig, wants: &[u64]) -> Result<(), Refusal>
+    ensures { outcome result ≡ wants_fit (capacity rig) wants.now }
 {
     let most = capacity(rig);
     examine_sizes(most, wants)
 }
 
 // 8: "first position with a number out of range or seen before, or first missing or surplus position, the smaller".
-fn examine_order(tests: usize, order: &[u16]) -> Examined
+fn examine_order(tests: usize, order: &[u16]) -> Result<(), Refusal>
     requires { tests ≤ 256 }
-    ensures { examined_outcome result ≡ order_known tests order.now }
+    ensures { outcome result ≡ order_known tests order.now }
 {
     let mut seen = [false; MOST_TESTS];
     let mut i: usize = 0;
     while i < order.len() {
         if tests <= i {
-            return Examined::Refused(Refusal::BadOrder(i));
+            return Err(Refusal::BadOrder(i));
         }
         let t = order[i] as usize;
         if tests <= t {
-            return Examined::Refused(Refusal::BadOrder(i));
+            return Err(Refusal::BadOrder(i));
         }
         if seen[t] {
-            return Examined::Refused(Refusal::BadOrder(i));
+            return Err(Refusal::BadOrder(i));
         }
         seen[t] = true;
         i += 1;
     }
     if i < tests {
-        return Examined::Refused(Refusal::BadOrder(i));
+        return Err(Refusal::BadOrder(i));
     }
-    Examined::Passed
+    Ok(())
 }
 
 // ---- what the other calls are handed
 
 // Of what ordering is handed: 10, 13, 7.
-pub fn examine_ordering(rig: Rig, method: usize, wants: &[u64]) -> Examined
-    ensures { examined_outcome result ≡ ordering_known method (job_of rig wants.now) }
+pub fn examine_ordering(rig: Rig, method: usize, wants: &[u64]) -> Result<(), Refusal>
+    ensures { outcome result ≡ ordering_known method (job_of rig wants.now) }
 {
-    if let Examined::Refused(r) = examine_job(rig, method, wants) {
-        return Examined::Refused(r);
-    }
+    examine_job(rig, method, wants)?;
     examine_fit(rig, wants)
 }
 
 // Of what the plan check is handed, but for the plan: 10, 13, 14, 8.
-pub fn examine_checking(rig: Rig, wants: &[u64], held: u64, order: &[u16]) -> Examined
-    ensures { examined_outcome result ≡ checking_known (job_of rig wants.now) held order.now }
+pub fn examine_checking(rig: Rig, wants: &[u64], held: u64, order: &[u16]) -> Result<(), Refusal>
+    ensures { outcome result ≡ checking_known (job_of rig wants.now) held order.now }
 {
-    if let Examined::Refused(r) = examine_job(rig, 0, wants) {
-        return Examined::Refused(r);
-    }
-    if let Examined::Refused(r) = examine_held(rig.curves, held) {
-        return Examined::Refused(r);
-    }
+    examine_job(rig, 0, wants)?;
+    examine_held(rig.curves, held)?;
     examine_order(wants.len(), order)
 }
 
 // Of what planning is handed: 10, 13, 14, 8, 7.
-pub fn examine_planning(rig: Rig, wants: &[u64], held: u64, order: &[u16]) -> Examined
-    ensures { examined_outcome result ≡ planning_known (job_of rig wants.now) held order.now }
+pub fn examine_planning(rig: Rig, wants: &[u64], held: u64, order: &[u16]) -> Result<(), Refusal>
+    ensures { outcome result ≡ planning_known (job_of rig wants.now) held order.now }
 {
-    if let Examined::Refused(r) = examine_checking(rig, wants, held, order) {
-        return Examined::Refused(r);
-    }
+    examine_checking(rig, wants, held, order)?;
     examine_fit(rig, wants)
 }
 
 // Of an order alone, for as many tests as it has entries: 10, 8.
-pub fn examine_order_alone(order: &[u16]) -> Examined
-    ensures { examined_outcome result ≡ order_alone_known order.now }
+pub fn examine_order_alone(order: &[u16]) -> Result<(), Refusal>
+    ensures { outcome result ≡ order_alone_known order.now }
 {
     if MOST_TESTS < order.len() {
-        return Examined::Refused(Refusal::BadArgument(2));
+        return Err(Refusal::BadArgument(2));
     }
     examine_order(order.len(), order)
 }
 
 // Of what the walk for every drive size is handed, 02, wish 9: 10, 8.
-pub fn examine_sizing(curves: usize, wants: &[u64], order: &[u16]) -> Examined
-    ensures { examined_outcome result ≡ sizing_known curves wants.now order.now }
+pub fn examine_sizing(curves: usize, wants: &[u64], order: &[u16]) -> Result<(), Refusal>
+    ensures { outcome result ≡ sizing_known curves wants.now order.now }
 {
-    if let Examined::Refused(r) = examine_counts(curves, wants.len()) {
-        return Examined::Refused(r);
-    }
-    if let Examined::Refused(r) = examine_wants(curves, wants) {
-        return Examined::Refused(r);
-    }
+    examine_counts(curves, wants.len())?;
+    examine_wants(curves, wants)?;
     examine_order(wants.len(), order)
 }

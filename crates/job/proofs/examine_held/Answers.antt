@@ -5,7 +5,7 @@ use native.Mathlib.Nat.{min-eq_left}
 use lib.Count.{count_trailing_zeros}
 use borrow.Author.Tests.{eq-eqb, ne_eqb}
 use Rattle.bitset.specs.Set.{◌∖◌, inside, below}
-use Rattle.job.specs.Refusal.{examined_outcome}
+use Rattle.job.specs.Refusal.{outcome}
 use Rattle.job.specs.Handed.{all_curves, held_known}
 use Rattle.job.proofs.Laws.{demand_done, demand_refused}
 use Rattle.job.proofs.examine_held.Goals.{After-without-unknown}
@@ -19,12 +19,12 @@ unknown c =
     c.without-unknown.ensures ∙ ap (λ (x : ℕ). a.held ∖ x) own
 
 pub returns-then-unknown-eq0 : goal.returns-then-unknown-eq0
-unfolding examined_outcome held_known inside
+unfolding outcome held_known inside
 returns-then-unknown-eq0 c =
     sym (demand_done _ 14 _ (eq-eqb _ 0 (sym (unknown (goal.at.returns-then-unknown-eq0 c).After-without-unknown) ∙ c.if-unknown-eq0.true)))
 
 pub returns : goal.returns
-unfolding examined_outcome held_known inside
+unfolding outcome held_known inside
 returns c =
     let lowest : c.lowest.result ≡ count_trailing_zeros 64 c.without-unknown.result = c.lowest.ensures in
     rw (lowest ∙ ap (count_trailing_zeros 64) (unknown (goal.at.returns c).After-without-unknown))

@@ -6,7 +6,7 @@ use borrow.Author.Rules.{rules, set_long}
 use borrow.Author.Tests.{lt-leb, le-leb}
 use lib.ListN.{length, get_or, take}
 use lib.Seq.{take-suc}
-use Rattle.job.specs.Refusal.{examined_outcome, demand}
+use Rattle.job.specs.Refusal.{outcome, demand}
 use Rattle.job.proofs.Marks.{unmarked, marked}
 use Rattle.job.proofs.OrderTurns.{order_surplus, order_range, order_again, order_pass, order_end}
 use Rattle.job.proofs.examine_order.Goals as goal
@@ -15,7 +15,7 @@ pub loop-i-init : goal.loop-i-init
 loop-i-init c = record { turns = search rules; long = refl; marks = unmarked 256; goes = refl }
 
 pub returns-then-tests-i : goal.returns-then-tests-i
-unfolding examined_outcome
+unfolding outcome
 returns-then-tests-i c =
     let a = c.args in
     sym (c.loop-i.invariant.goes ∙ order_surplus a.tests a.order.now c.loop-i.i c.loop-i-test.true c.if-tests-i.true)
@@ -24,13 +24,13 @@ pub overflow_cast-t : goal.overflow_cast-t
 overflow_cast-t c = omega (arith, c.shared_slice_known-1.given c.loop-i.i)
 
 pub returns-then-tests-t : goal.returns-then-tests-t
-unfolding examined_outcome
+unfolding outcome
 returns-then-tests-t c =
     let a = c.args in
     sym (c.loop-i.invariant.goes ∙ order_range a.tests a.order.now c.loop-i.i (omega arith) (omega arith) c.if-tests-t.true)
 
 pub returns-then-seen-t : goal.returns-then-seen-t
-unfolding examined_outcome
+unfolding outcome
 returns-then-seen-t c =
     let a = c.args in
     sym (c.loop-i.invariant.goes
@@ -50,14 +50,14 @@ loop-i-preserved c =
     }
 
 pub returns-then-i-tests : goal.returns-then-i-tests
-unfolding examined_outcome demand
+unfolding outcome demand
 returns-then-i-tests c =
     let a = c.args in
     sym (c.loop-i.invariant.goes ∙ order_end a.tests a.order.now c.loop-i.i (omega arith) (omega arith)
     ∙ rw (lt-leb a.tests c.loop-i.i c.if-i-tests.true) refl)
 
 pub returns : goal.returns
-unfolding examined_outcome demand
+unfolding outcome demand
 returns c =
     let a = c.args in
     sym (c.loop-i.invariant.goes ∙ order_end a.tests a.order.now c.loop-i.i (omega arith) (omega arith)

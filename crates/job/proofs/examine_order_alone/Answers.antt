@@ -1,7 +1,7 @@
 -- `job::examine_order_alone` meets its contract.
 use mathlib.Core.Path.{sym, ◌∙◌}
 use borrow.Author.Tests.{lt-leb}
-use Rattle.job.specs.Refusal.{examined_outcome}
+use Rattle.job.specs.Refusal.{outcome}
 use Rattle.job.specs.Handed.{tests_known}
 use Rattle.job.specs.Calls.{order_alone_known}
 use Rattle.job.proofs.Laws.{demand_refused, done_both}
@@ -9,7 +9,7 @@ use Rattle.job.proofs.Examination.{refused_both, few_tests}
 use Rattle.job.proofs.examine_order_alone.Goals as goal
 
 pub returns-then-order-gt-MOST_TESTS : goal.returns-then-order-gt-MOST_TESTS
-unfolding examined_outcome order_alone_known tests_known
+unfolding outcome order_alone_known tests_known
 returns-then-order-gt-MOST_TESTS c = sym (refused_both _ _ 10 2 (demand_refused _ 10 2 (lt-leb _ 256 c.if-order-gt-MOST_TESTS.true)))
 
 pub returns : goal.returns

@@ -1,17 +1,12 @@
 -- `job::examine_planning` meets its contract.
-use mathlib.Core.Path.{sym, ◌∙◌}
-use Rattle.job.specs.Refusal.{examined_outcome}
 use Rattle.job.specs.Calls.{planning_known}
-use Rattle.job.proofs.Laws.{done_both}
-use Rattle.job.proofs.Examination.{refused_both, examined_refused, examined_passed}
+use Rattle.job.proofs.Laws.{refused_then, passed_then}
 use Rattle.job.proofs.examine_planning.Goals as goal
 
-pub returns-in-Refused : goal.returns-in-Refused
-unfolding examined_outcome planning_known
-returns-in-Refused c = sym (refused_both _ _ _ _ (examined_refused _ _ _ c.in-Refused.is c.examine_checking.ensures))
+pub returns-in_err-examine_checking : goal.returns-in_err-examine_checking
+unfolding planning_known
+returns-in_err-examine_checking c = refused_then _ _ _ c.from_residual.ensures.1 c.in_err-examine_checking.ensures
 
 pub returns : goal.returns
 unfolding planning_known
-returns c =
-    c.examine_fit.ensures
-    ∙ sym (done_both _ _ (examined_passed _ _ c.in_default.is c.examine_checking.ensures))
+returns c = passed_then _ c.in_ok-examine_checking.ensures c.examine_fit.ensures

@@ -5,13 +5,13 @@ use borrow.Author.Tests.{le-leb, lt-leb}
 use lib.ListN.{get_or}
 use lib.Dec.{leb}
 use Rattle.bitset.specs.Set.{size}
-use Rattle.job.specs.Refusal.{refused, examined_outcome}
+use Rattle.job.specs.Refusal.{refused, outcome}
 use Rattle.job.specs.Handed.{wants_fit}
 use Rattle.job.proofs.Laws.{each_pass, each_fail, each_end}
 use Rattle.job.proofs.examine_sizes.Goals as goal
 
 pub returns-then-most-size : goal.returns-then-most-size
-unfolding examined_outcome wants_fit
+unfolding outcome wants_fit
 returns-then-most-size c =
     sym (c.loop-t.invariant.1
     ∙ each_fail (λ w. leb (size w) c.args.most) 7 0
@@ -30,7 +30,7 @@ loop-t-preserved c = (
 )
 
 pub returns : goal.returns
-unfolding examined_outcome wants_fit
+unfolding outcome wants_fit
 returns c =
     sym (c.loop-t.invariant.1
     ∙ each_end (λ w. leb (size w) c.args.most) 7 0 c.args.wants.now c.loop-t.t

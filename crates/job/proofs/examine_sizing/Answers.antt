@@ -1,36 +1,34 @@
 -- `job::examine_sizing` meets its contract.
-use mathlib.Core.Path.{◌≡◌, sym, ◌∙◌}
+use mathlib.Core.Path.{sym}
 use lib.ListN.{length}
-use Rattle.job.specs.Refusal.{done, examined_outcome}
-use Rattle.job.specs.Handed.{counts_known}
+use Prim.Native.Nat.{◌≤◌}
+use Rattle.job.specs.Refusal.{outcome}
 use Rattle.job.specs.Calls.{sizing_known}
-use Rattle.job.proofs.Laws.{done_both}
-use Rattle.job.proofs.Examination.{refused_both, counts_bounds, examined_refused, examined_passed}
-use Rattle.job.proofs.examine_sizing.Goals.{In_default}
+use Rattle.job.proofs.Laws.{refused_then, passed_then}
+use Rattle.job.proofs.Examination.{counts_bounds}
+use Rattle.job.proofs.examine_sizing.Goals.{In_ok-examine_counts}
 use Rattle.job.proofs.examine_sizing.Goals as goal
 
 -- behind the first examination
-passed : (c : In_default) → let a = c.args in counts_known a.curves (length a.wants.now) ≡ done tt
-passed c = examined_passed _ _ c.in_default.is c.examine_counts.ensures
+bounds : (c : In_ok-examine_counts) → (c.args.curves ≤ 64) × (length c.args.wants.now ≤ 256)
+unfolding outcome
+bounds c = counts_bounds _ _ (sym c.in_ok-examine_counts.ensures)
 
-pub returns-in-Refused : goal.returns-in-Refused
-unfolding examined_outcome sizing_known
-returns-in-Refused c = sym (refused_both _ _ _ _ (examined_refused _ _ _ c.in-Refused.is c.examine_counts.ensures))
+pub returns-in_err-examine_counts : goal.returns-in_err-examine_counts
+unfolding sizing_known
+returns-in_err-examine_counts c = refused_then _ _ _ c.from_residual.ensures.1 c.in_err-examine_counts.ensures
 
 pub examine_wants-requires : goal.examine_wants-requires
-examine_wants-requires c = counts_bounds _ _ (passed (goal.at.examine_wants-requires c).In_default)
+examine_wants-requires c = bounds (goal.at.examine_wants-requires c).In_ok-examine_counts
 
-pub returns-in-Refused-examine_wants : goal.returns-in-Refused-examine_wants
-unfolding examined_outcome sizing_known
-returns-in-Refused-examine_wants c =
-    sym (done_both _ _ (passed (goal.at.returns-in-Refused-examine_wants c).In_default)
-    ∙ refused_both _ _ _ _ (examined_refused _ _ _ c.in-Refused-examine_wants.is c.examine_wants.ensures))
+pub returns-in_err-examine_wants : goal.returns-in_err-examine_wants
+unfolding sizing_known
+returns-in_err-examine_wants c =
+    passed_then _ c.in_ok-examine_counts.ensures (refused_then _ _ _ c.from_residual-in_err-examine_wants.ensures.1 c.in_err-examine_wants.ensures)
 
 pub examine_order-requires : goal.examine_order-requires
-examine_order-requires c = (counts_bounds _ _ (passed (goal.at.examine_order-requires c).In_default)).1
+examine_order-requires c = (bounds (goal.at.examine_order-requires c).In_ok-examine_counts).1
 
 pub returns : goal.returns
 unfolding sizing_known
-returns c =
-    c.examine_order.ensures
-    ∙ sym (done_both _ _ (passed (goal.at.returns c).In_default) ∙ done_both _ _ (examined_passed _ _ c.in_default-examine_wants.is c.examine_wants.ensures))
+returns c = passed_then _ c.in_ok-examine_counts.ensures (passed_then _ c.in_ok-examine_wants.ensures c.examine_order.ensures)

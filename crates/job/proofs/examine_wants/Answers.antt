@@ -4,7 +4,7 @@ use native.Mathlib.Omega.{arith}
 use lib.ListN.{get_or}
 use native.Mathlib.Nat.{min-eq_left}
 use Rattle.bitset.specs.Set.{inside, below}
-use Rattle.job.specs.Refusal.{examined_outcome}
+use Rattle.job.specs.Refusal.{outcome}
 use Rattle.job.specs.Handed.{all_curves, wants_known}
 use Rattle.job.proofs.Laws.{each_pass, each_fail, each_end}
 use Rattle.job.proofs.examine_wants.Goals as goal
@@ -27,7 +27,7 @@ loop-t-preserved c = (
 )
 
 pub returns-else-inside : goal.returns-else-inside
-unfolding examined_outcome wants_known
+unfolding outcome wants_known
 returns-else-inside c =
     sym (c.loop-t.invariant.1
     ∙ each_fail (λ w. inside w (all_curves c.args.curves)) 10 4
@@ -39,7 +39,7 @@ returns-else-inside c =
     c.requires.0)) ∙ sym c.inside.ensures ∙ c.if-inside.false))
 
 pub returns : goal.returns
-unfolding examined_outcome wants_known
+unfolding outcome wants_known
 returns c =
     sym (c.loop-t.invariant.1
     ∙ each_end (λ w. inside w (all_curves c.args.curves)) 10 4 c.args.wants.now
