@@ -186,6 +186,10 @@ module _ {A : Type 0} (r : Result A Refusal) (o : Outcome A) where
 
 -- ---- a `?`: it hands the refusal of a call on, or the value to what comes behind
 
+pub handed_on : {B : Type 0} (r : Result B Refusal) (x : Refusal) → IsErrAnd r (λ y. y ≡ x) → outcome r ≡ refused (number x) (figure x)
+unfolding outcome
+handed_on r x h = let p = err_from_is_err_and r h in rw (p.1, p.2) refl
+
 module _ {A B : Type 0} (r : Result B Refusal) (x : Refusal) {a : Outcome A} where
   pub refused_then : (b : Outcome B) → IsErrAnd r (λ y. y ≡ x) → outcome {A = A} (Err x) ≡ a → outcome r ≡ ◌>>◌ a b
   unfolding outcome ◌>>◌

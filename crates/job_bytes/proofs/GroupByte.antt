@@ -11,11 +11,12 @@ use lib.Dec.{ltb}
 use lib.ListN.{length, get_or, drop, drop_of_length-le}
 use lib.Pow.{pow_mono}
 use borrow.Author.Tests.{lt-ltb, le-ltb}
+use Rattle.std.specs.Prelude.{Result, Ok, Err}
 use Rattle.bitset.specs.Set.{◌∪◌, bit, inside}
 use Rattle.bitset.proofs.Bits.{bit_empty}
 use Rattle.bitset.proofs.Parts.{≼-inside}
-use Rattle.job_bytes.specs.declared.set_bytes.GroupRead.{GroupRead}
-use Rattle.job_bytes.specs.declared.set_bytes.GroupRead.TheVariants.{Curves, Owed, Empty, Unknown}
+use Rattle.job_bytes.specs.declared.set_bytes.GroupFault.{GroupFault}
+use Rattle.job_bytes.specs.declared.set_bytes.GroupFault.TheVariants.{Owed, Empty, Unknown}
 use Rattle.job.specs.Refusal.{Outcome, done, refused, ◌>>=◌, ◌>>◌, mapped, demand}
 use Rattle.job.specs.Handed.{all_curves}
 use Rattle.job_bytes.specs.SetBytes.{Got, got, byte_at, group_outcome, read_group, read_groups}
@@ -24,7 +25,7 @@ use Rattle.job.proofs.JobExact.{inside_below}
 use Rattle.job_bytes.proofs.Turns.{byte_there, cons_here}
 
 -- the contract of `read_due`, of a group whose bit is d; with 1 for d, that of `read_group`
-abbrev pub Answers : List ℕ → ℕ → ℕ → ℕ → ℕ → GroupRead → Type 0
+abbrev pub Answers : List ℕ → ℕ → ℕ → ℕ → ℕ → Result ℕ GroupFault → Type 0
 Answers bs k d j curves r =
     (owed empty unknown i : ℕ) → group_outcome owed empty unknown i r ≡ mapped (λ g. g.value) (read_group owed empty unknown (min curves 64) d j i (drop k bs))
 
@@ -47,25 +48,25 @@ no_such_group b j curves p h = go (inside (b * 2 ^ (8 * j)) (all_curves (min cur
 
 module _ (bs : List ℕ) (k j curves : ℕ) where
   -- nothing: the bit does not stand
-  pub due_none : (d : ℕ) → d ≡ 0 → Answers bs k d j curves (Curves 0)
+  pub due_none : (d : ℕ) → d ≡ 0 → Answers bs k d j curves (Ok 0)
   unfolding group_outcome read_group mapped
   due_none d e owed empty unknown i = rw e refl
 
-  pub due_owed : length bs ≤ k → Answers bs k 1 j curves Owed
+  pub due_owed : length bs ≤ k → Answers bs k 1 j curves (Err Owed)
   unfolding group_outcome read_group byte_at ◌>>=◌ mapped
   due_owed h owed empty unknown i = rw (drop_of_length-le bs h) refl
 
   module _ (h : k < length bs) where
-    pub due_empty : get_or bs k 0 ≡ 0 → Answers bs k 1 j curves Empty
+    pub due_empty : get_or bs k 0 ≡ 0 → Answers bs k 1 j curves (Err Empty)
     unfolding group_outcome read_group ◌>>=◌ ◌>>◌ demand mapped
     due_empty z owed empty unknown i = rw (byte_there owed i k bs h, le-ltb 0 (get_or bs k 0) (omega arith)) refl
 
     module _ (p : 0 < get_or bs k 0) where
-      pub due_unknown : inside (get_or bs k 0 * 2 ^ (8 * j)) (all_curves (min curves 64)) ≡ false → Answers bs k 1 j curves Unknown
+      pub due_unknown : inside (get_or bs k 0 * 2 ^ (8 * j)) (all_curves (min curves 64)) ≡ false → Answers bs k 1 j curves (Err Unknown)
       unfolding group_outcome read_group ◌>>=◌ ◌>>◌ demand mapped
       due_unknown f owed empty unknown i = rw (byte_there owed i k bs h, lt-ltb 0 (get_or bs k 0) p, f) refl
 
-      pub due_curves : (s : ℕ) → s ≡ get_or bs k 0 * 2 ^ (8 * j) → inside s (all_curves (min curves 64)) ≡ true → Answers bs k 1 j curves (Curves s)
+      pub due_curves : (s : ℕ) → s ≡ get_or bs k 0 * 2 ^ (8 * j) → inside s (all_curves (min curves 64)) ≡ true → Answers bs k 1 j curves (Ok s)
       unfolding group_outcome read_group ◌>>=◌ ◌>>◌ demand mapped
       due_curves s e f owed empty unknown i = rw (byte_there owed i k bs h, lt-ltb 0 (get_or bs k 0) p, ← e, f) refl
 
@@ -74,24 +75,24 @@ nothing_inside : (s n : ℕ) → s ≡ 0 → inside s (all_curves n) ≡ true
 nothing_inside s n e = rw e (≼-inside 0 (all_curves n) (λ k. omega (arith, bit_empty k)))
 
 module _ (bs : List ℕ) (k j curves : ℕ) where
-  pub marked_owed : (d : ℕ) → d ≤ 1 → 0 < d → length bs ≤ k → Answers bs k d j curves Owed
+  pub marked_owed : (d : ℕ) → d ≤ 1 → 0 < d → length bs ≤ k → Answers bs k d j curves (Err Owed)
   marked_owed d l p h = let e : d ≡ 1 = omega arith in rw e (due_owed bs k j curves h)
 
   module _ (h : k < length bs) where
     abbrev counted : ℕ → ℕ
     counted d = get_or bs k 0 * d
 
-    pub marked_empty : (d : ℕ) → d ≤ 1 → counted d < d → Answers bs k d j curves Empty
+    pub marked_empty : (d : ℕ) → d ≤ 1 → counted d < d → Answers bs k d j curves (Err Empty)
     marked_empty d l p = let e : d ≡ 1 = omega arith in let q = rw e at p in rw e (due_empty bs k j curves h (omega arith))
 
     pub marked_curves : (d : ℕ) → d ≤ 1 → d ≤ counted d → (s : ℕ) → s ≡ counted d * 2 ^ (8 * j)
-        → inside s (all_curves (min curves 64)) ≡ true → Answers bs k d j curves (Curves s)
+        → inside s (all_curves (min curves 64)) ≡ true → Answers bs k d j curves (Ok s)
     marked_curves zero l p s v f = let e : s ≡ 0 = v ∙ rw (mul-zero, zero-mul) in rw e (due_none bs k j curves 0 refl)
     marked_curves (suc zero) l p s v f = due_curves bs k j curves h (omega arith) s (v ∙ rw mul-one) f
     marked_curves (suc (suc d)) l p s v f = absurd (omega arith)
 
     pub marked_unknown : (d : ℕ) → d ≤ 1 → d ≤ counted d → (s : ℕ) → s ≡ counted d * 2 ^ (8 * j)
-        → inside s (all_curves (min curves 64)) ≡ false → Answers bs k d j curves Unknown
+        → inside s (all_curves (min curves 64)) ≡ false → Answers bs k d j curves (Err Unknown)
     marked_unknown zero l p s v f = let t = nothing_inside s (min curves 64) (v ∙ rw (mul-zero, zero-mul)) in let z : ◌≡◌ {A = ℕ} 0 1 =
         cc in absurd (omega arith)
     marked_unknown (suc zero) l p s v f = let e : s ≡ get_or bs k 0 * 2 ^ (8 * j) = v ∙ rw mul-one in due_unknown bs k j curves h (omega arith) (rw e at f)
@@ -144,7 +145,7 @@ no_number true true g e = refused≢done (sym e)
 no_number true false g e = let z : ◌≡◌ {A = ℕ} 0 1 = cc in omega arith
 no_number false u g e = let z : ◌≡◌ {A = ℕ} 0 1 = cc in omega arith
 
-owed_outcome : (i : ℕ) → group_outcome 0 1 1 i Owed ≡ refused 0 i
+owed_outcome : (i : ℕ) → group_outcome 0 1 1 i (Err Owed) ≡ refused 0 i
 unfolding group_outcome
 owed_outcome i = refl
 
@@ -152,7 +153,7 @@ unmarked : (curves j k : ℕ) (bs : List ℕ) → read_group 0 1 1 curves 0 j 0 
 unfolding read_group
 unmarked curves j k bs = refl
 
-pub owed_end : (bs : List ℕ) (k d j curves : ℕ) → Answers bs k d j curves Owed → length bs ≤ k
+pub owed_end : (bs : List ℕ) (k d j curves : ℕ) → Answers bs k d j curves (Err Owed) → length bs ≤ k
 owed_end bs k d j curves f =
     go d (dec_le (length bs) k) (mapped_refused (λ (g : Got ℕ). g.value) (read_group 0 1 1 (min curves 64) d j 0 (drop k bs)) 0 0
     (sym (f 0 1 1 0) ∙ owed_outcome 0))
@@ -167,7 +168,7 @@ module _ (owed empty unknown curves map s a k j : ℕ) (bs : List ℕ) (below : 
   abbrev here : Outcome (Got ℕ)
   here = read_groups owed empty unknown curves (8 - j) j map s (a + k) (drop k bs)
 
-  said : (r : GroupRead) → Answers bs k (bit j map) j curves r
+  said : (r : Result ℕ GroupFault) → Answers bs k (bit j map) j curves r
       → group_outcome owed empty unknown (a + k) r ≡ mapped (λ g. g.value) (read_group owed empty unknown curves (bit j map) j (a + k) (drop k bs))
   said r f = let e : min curves 64 ≡ curves = min-eq_left {n = curves} {m = 64} few in rw e at (f owed empty unknown (a + k))
 
@@ -175,25 +176,25 @@ module _ (owed empty unknown curves map s a k j : ℕ) (bs : List ℕ) (below : 
   unfolding ◌>>=◌
   faulty n e = cons_here owed empty unknown curves map s a k j bs below ∙ rw e refl
 
-  pub answer_owed : Answers bs k (bit j map) j curves Owed → here ≡ refused owed (a + k)
+  pub answer_owed : Answers bs k (bit j map) j curves (Err Owed) → here ≡ refused owed (a + k)
   unfolding group_outcome
-  answer_owed f = faulty owed (mapped_refused (λ g. g.value) _ owed (a + k) (sym (said Owed f)))
+  answer_owed f = faulty owed (mapped_refused (λ g. g.value) _ owed (a + k) (sym (said (Err Owed) f)))
 
-  pub answer_empty : Answers bs k (bit j map) j curves Empty → here ≡ refused empty (a + k)
+  pub answer_empty : Answers bs k (bit j map) j curves (Err Empty) → here ≡ refused empty (a + k)
   unfolding group_outcome
-  answer_empty f = faulty empty (mapped_refused (λ g. g.value) _ empty (a + k) (sym (said Empty f)))
+  answer_empty f = faulty empty (mapped_refused (λ g. g.value) _ empty (a + k) (sym (said (Err Empty) f)))
 
-  pub answer_unknown : Answers bs k (bit j map) j curves Unknown → here ≡ refused unknown (a + k)
+  pub answer_unknown : Answers bs k (bit j map) j curves (Err Unknown) → here ≡ refused unknown (a + k)
   unfolding group_outcome
-  answer_unknown f = faulty unknown (mapped_refused (λ g. g.value) _ unknown (a + k) (sym (said Unknown f)))
+  answer_unknown f = faulty unknown (mapped_refused (λ g. g.value) _ unknown (a + k) (sym (said (Err Unknown) f)))
 
-  pub answer_curves : (x : ℕ) → k ≤ length bs → Answers bs k (bit j map) j curves (Curves x)
+  pub answer_curves : (x : ℕ) → k ≤ length bs → Answers bs k (bit j map) j curves (Ok x)
       → (k + bit j map ≤ length bs)
       × (here ≡ read_groups owed empty unknown curves (8 - (j + 1)) (j + 1) map (s ∪ x) (a + (k + bit j map)) (drop (k + bit j map) bs))
   unfolding group_outcome ◌>>=◌
   answer_curves x l f =
       let r = read_group owed empty unknown curves (bit j map) j (a + k) (drop k bs) in
-      let d = mapped_done (λ (g : Got ℕ). g.value) r x (sym (said (Curves x) f)) in
+      let d = mapped_done (λ (g : Got ℕ). g.value) r x (sym (said (Ok x) f)) in
       let o = group_takes owed empty unknown curves j (a + k) k bs (bit j map) d.0 (omega arith) l d.1 in
       let v = d.2 in
       let n : a + k + bit j map ≡ a + (k + bit j map) = omega arith in

@@ -8,9 +8,7 @@ use lib.Pow.{pow-add}
 use lib.ListN.{length, get_or, drop, drop_of_length-le}
 use borrow.Author.Tests.{lt-ltb, le-ltb}
 use Rattle.job.specs.declared.Head.{Head}
-use Rattle.job.specs.declared.Refusal.{Refusal}
-use Rattle.job.specs.declared.Counted.{Counted}
-use Rattle.job.specs.Refusal.{Outcome, done, refused, number, figure, count_outcome, ◌>>=◌, ◌>>◌, mapped, demand}
+use Rattle.job.specs.Refusal.{done, refused, ◌>>=◌, ◌>>◌, demand}
 use Rattle.job.specs.Handed.{booked_below}
 use Rattle.job_bytes.specs.declared.fields.Field.{Field}
 use Rattle.job_bytes.specs.SetBytes.{Got, got}
@@ -27,15 +25,6 @@ pub byte_more : (w v b : ℕ) → v < 2 ^ (8 * w) → b < 256 → b + 256 * v < 
 byte_more w v b h l = let e : 8 * suc w ≡ 8 + 8 * w = omega arith in rw (e, pow-add 2 8 (8 * w)) (omega arith)
 
 -- what an answer says of the outcome that it stands for
-module _ {A : Type 0} (o : Outcome A) (f : ℕ → A) (r : Counted) (e : o ≡ mapped f (count_outcome r)) where
-  pub by_count : (n : ℕ) → r ≡ Counted.Count n → o ≡ done (f n)
-  unfolding mapped count_outcome
-  by_count n c = e ∙ rw c refl
-
-  pub by_refusal : (x : Refusal) → r ≡ Counted.Refused x → o ≡ refused (number x) (figure x)
-  unfolding mapped count_outcome
-  by_refusal x c = e ∙ rw c refl
-
 module _ (bs : List ℕ) where
   -- ---- a number of w bytes
   number_next : (w i : ℕ) → i < length bs

@@ -10,9 +10,8 @@ use lib.Seq.{drop-drop, drop-cons, take-suc-set}
 use borrow.Author.Tests.{lt-leb, le-leb}
 use Rattle.job.specs.declared.Refusal.{Refusal}
 use Rattle.job.specs.declared.Head.{Head}
-use Rattle.job.specs.declared.Counted.{Counted}
-use Rattle.job.specs.declared.Examined.{Examined}
-use Rattle.job.specs.Refusal.{Outcome, done, refused, number, figure, count_outcome, ◌>>=◌, ◌>>◌, mapped, demand, room, overwritten, leaves}
+use Rattle.std.specs.Prelude.{Result, Ok, Err}
+use Rattle.job.specs.Refusal.{Outcome, done, refused, number, figure, outcome, ◌>>=◌, ◌>>◌, mapped, demand, room, overwritten, leaves}
 use Rattle.job_bytes.specs.SetBytes.{Got, got, byte_at, read_groups}
 use Rattle.job_bytes.specs.JobBytes.{Request, read_head, read_record, read_records, at_end, read_bytes, read_job, read_job_answer, read_job_wants}
 use Rattle.job.proofs.Laws.{refused≢done, done_same, mapped_done, done_mapped, refused_mapped}
@@ -55,30 +54,30 @@ pub list_more : (l : List ℕ) (t s : ℕ) → t < length l → take (t + 1) (se
 list_more l t s h = rw (add-one, take-suc-set l t s h)
 
 -- ---- where the loops over tests and groups are left: all is read and the answer still stands, or the answer is the reading's refusal
-abbrev pub LeftWith : Examined → Outcome (Got (List ℕ)) → Got (List ℕ) → Type 0
-LeftWith answer o g = ((answer ≡ Examined.Passed) × (o ≡ done g)) ⊎ ((r : Refusal) × (answer ≡ Examined.Refused r) × (o ≡ refused (number r) (figure r)))
+abbrev pub LeftWith : Result (Unit {0}) Refusal → Outcome (Got (List ℕ)) → Got (List ℕ) → Type 0
+LeftWith answer o g = ((answer ≡ Ok tt) × (o ≡ done g)) ⊎ ((r : Refusal) × (answer ≡ Err r) × (o ≡ refused (number r) (figure r)))
 
-module _ (answer : Examined) (o : Outcome (Got (List ℕ))) (g : Got (List ℕ)) (left : LeftWith answer o g) where
-  pub left_refused : (r : Refusal) → answer ≡ Examined.Refused r → o ≡ refused (number r) (figure r)
+module _ (answer : Result (Unit {0}) Refusal) (o : Outcome (Got (List ℕ))) (g : Got (List ℕ)) (left : LeftWith answer o g) where
+  pub left_refused : (r : Refusal) → answer ≡ Err r → o ≡ refused (number r) (figure r)
   left_refused r e =
       ⊎_elim
       (λ w. let p = w.0 in let z : ◌≡◌ {A = ℕ} 0 1 = cc in absurd (omega arith))
       (λ w. let p = w.1 in let q : w.0 ≡ r = cc in w.2 ∙ ap (λ (x : Refusal). refused (number x) (figure x)) q)
       left
 
-  pub left_passed : answer ≡ Examined.Passed → o ≡ done g
+  pub left_passed : answer ≡ Ok tt → o ≡ done g
   left_passed e = ⊎_elim (λ w. w.1) (λ w. let p = w.1 in let z : ◌≡◌ {A = ℕ} 0 1 = cc in absurd (omega arith)) left
 
 -- what `read_records` promises of each
-abbrev pub Promised : Counted → Outcome (Got (List ℕ)) → List ℕ → Type 0
-Promised r o sets = (count_outcome r ≡ mapped (λ (g : Got (List ℕ)). g.next) o) × ((g : Got (List ℕ)) → o ≡ done g → sets ≡ g.value)
+abbrev pub Promised : Result ℕ Refusal → Outcome (Got (List ℕ)) → List ℕ → Type 0
+Promised r o sets = (outcome r ≡ mapped (λ (g : Got (List ℕ)). g.next) o) × ((g : Got (List ℕ)) → o ≡ done g → sets ≡ g.value)
 
-pub promise_refused : (r : Refusal) (o : Outcome (Got (List ℕ))) (sets : List ℕ) → o ≡ refused (number r) (figure r) → Promised (Counted.Refused r) o sets
-unfolding count_outcome
+pub promise_refused : (r : Refusal) (o : Outcome (Got (List ℕ))) (sets : List ℕ) → o ≡ refused (number r) (figure r) → Promised (Err r) o sets
+unfolding outcome
 promise_refused r o sets e = (refused_mapped (λ (g : Got (List ℕ)). g.next) o (number r) (figure r) e, λ g d. absurd (refused≢done (sym e ∙ d)))
 
-pub promise_done : (o : Outcome (Got (List ℕ))) (g : Got (List ℕ)) → o ≡ done g → Promised (Counted.Count g.next) o g.value
-unfolding count_outcome
+pub promise_done : (o : Outcome (Got (List ℕ))) (g : Got (List ℕ)) → o ≡ done g → Promised (Ok g.next) o g.value
+unfolding outcome
 promise_done o g e = (done_mapped (λ (g : Got (List ℕ)). g.next) o g e, λ h d. ap (λ (x : Got (List ℕ)). x.value) (done_same (sym e ∙ d)))
 
 -- ---- the whole job: without a head, and behind a head of n bytes

@@ -1,8 +1,8 @@
 -- A set of curves in bytes: "a group map, where bit j says that a byte follows for curves 8j to 8j+7, bytes in rising j, bit i of it being curve 8j+i".
-use Rattle.std.specs.Prelude.{List, [], ◌∷◌, ℕ, zero, suc, ◌+◌, ◌*◌, ◌/◌, ◌%◌, ◌^◌, ◌<◌, ltb}
+use Rattle.std.specs.Prelude.{Result, Ok, Err, List, [], ◌∷◌, ℕ, zero, suc, ◌+◌, ◌*◌, ◌/◌, ◌%◌, ◌^◌, ◌<◌, ltb}
 use Rattle.bitset.specs.Set.{◌∪◌, bit, inside}
-use Rattle.job_bytes.specs.declared.set_bytes.GroupRead.{GroupRead}
-use Rattle.job_bytes.specs.declared.set_bytes.GroupRead.TheVariants.{Curves, Owed, Empty, Unknown}
+use Rattle.job_bytes.specs.declared.set_bytes.GroupFault.{GroupFault}
+use Rattle.job_bytes.specs.declared.set_bytes.GroupFault.TheVariants.{Owed, Empty, Unknown}
 use Rattle.job.specs.Refusal.{Outcome, done, refused, ◌>>=◌, ◌>>◌, demand}
 use Rattle.job.specs.Handed.{all_curves}
 
@@ -73,8 +73,8 @@ module _ (owed empty unknown curves : ℕ) where
     read_groups k (suc j) map (s ∪ g.value) g.next g.rest
 
 -- the answer to the reading of one group byte, which stands at offset i, in the numbers of the three refusals
-unfoldable pub group_outcome : (owed empty unknown : ℕ) → ℕ → GroupRead → Outcome ℕ
-group_outcome owed empty unknown i (Curves s) = done s
-group_outcome owed empty unknown i Owed = refused owed i
-group_outcome owed empty unknown i Empty = refused empty i
-group_outcome owed empty unknown i Unknown = refused unknown i
+unfoldable pub group_outcome : (owed empty unknown : ℕ) → ℕ → Result ℕ GroupFault → Outcome ℕ
+group_outcome owed empty unknown i (Ok s) = done s
+group_outcome owed empty unknown i (Err Owed) = refused owed i
+group_outcome owed empty unknown i (Err Empty) = refused empty i
+group_outcome owed empty unknown i (Err Unknown) = refused unknown i

@@ -1,14 +1,14 @@
 // Job bytes, read: the head, then one record for each test.
 ghost use Rattle.std.specs.Prelude.{◌≡◌, not, ◌&&◌, List, [], ◌++◌, ℕ, ◌+◌, ◌*◌, ◌≤◌, length, take, drop, eqb};
 ghost use Rattle.job.specs.Handed.{between};
-ghost use Rattle.job.specs.Refusal.{done, mapped, read_outcome, count_outcome};
+ghost use Rattle.job.specs.Refusal.{done, mapped, outcome};
 ghost use Rattle.job_bytes.specs.SetBytes.{Got, got};
 ghost use Rattle.job_bytes.specs.JobBytes.{fields, read_number, read_field, method_read, head_of, head_fields, read_head, read_records};
 ghost use Rattle.job_bytes.specs.JobBytes.{read_job_answer, read_job_wants};
 
 use crate::fields::{FIELDS, Field, MAPS, row};
-use crate::set_bytes::{GroupRead, read_due};
-use job::{Counted, Examined, Head, JobRead, Refusal, Rig, examine_capacity};
+use crate::set_bytes::{GroupFault, read_due};
+use job::{Head, Refusal, Rig, examine_capacity};
 
 // "Two-byte numbers have the low byte first": the number of so many bytes at a position.
 fn number_at(job: &[u8], at: usize, width: usize) -> usize
@@ -38,23 +38,23 @@ fn holds(field: Field, value: usize) -> bool
 }
 
 // A field, if its bit stands: "cut before value". The next one begins at `at + stands * width`.
-fn read_field(job: &[u8], at: usize, stands: usize, field: Field) -> Counted
+fn read_field(job: &[u8], at: usize, stands: usize, field: Field) -> Result<usize, Refusal>
     requires { (stands ≤ 1) × (field.width ≤ 8) × (at ≤ length job.now) }
     ensures { read_field field stands at (drop at job.now)
-        ≡ mapped (λ v. got v (at + stands * field.width) (drop (at + stands * field.width) job.now)) (count_outcome result) }
+        ≡ mapped (λ v. got v (at + stands * field.width) (drop (at + stands * field.width) job.now)) (outcome result) }
 {
     if stands == 0 {
-        return Counted::Count(field.absent);
+        return Ok(field.absent);
     }
     let width = field.width;
     if job.len() - at < width {
-        return Counted::Refused(Refusal::Truncated(job.len()));
+        return Err(Refusal::Truncated(job.len()));
     }
     let value = number_at(job, at, width);
     if holds(field, value) {
-        return Counted::Count(value);
+        return Ok(value);
     }
-    Counted::Refused(Refusal::BadHeader(at))
+    Err(Refusal::BadHeader(at))
 }
 
 // "Old job files with method 2 still read, as method 1".
@@ -81,89 +81,80 @@ fn head_of(values: &[usize]) -> Head
 }
 
 // The head: "The first byte is a bit map; then only the fields whose bit stands, in bit order." Their values go to `values`; answers where the head ends.
-fn read_fields(job: &[u8], values: &mut [usize]) -> Counted
+fn read_fields(job: &[u8], values: &mut [usize]) -> Result<usize, Refusal>
     requires { length values.old ≡ length fields }
-    ensures { head_fields job.now ≡ mapped (λ n. got (head_of values.new) n (drop n job.now)) (count_outcome result) }
+    ensures { head_fields job.now ≡ mapped (λ n. got (head_of values.new) n (drop n job.now)) (outcome result) }
 {
     if job.len() == 0 {
-        return Counted::Refused(Refusal::Truncated(0));
+        return Err(Refusal::Truncated(0));
     }
     let mut map = job[0] as usize;
     if MAPS <= map {
-        return Counted::Refused(Refusal::BadHeader(0));
+        return Err(Refusal::BadHeader(0));
     }
     let mut at: usize = 1;
-    let mut j: usize = 0;
-    while j < FIELDS {
+    for j in 0..FIELDS {
         let field = row(j);
-        match read_field(job, at, map % 2, field) {
-            Counted::Refused(r) => {
-                return Counted::Refused(r);
-            }
-            Counted::Count(value) => {
-                values[j] = value;
-            }
-        }
+        values[j] = read_field(job, at, map % 2, field)?;
         at += map % 2 * field.width;
         map /= 2;
-        j += 1;
     }
-    Counted::Count(at)
+    Ok(at)
 }
 
 // One record for each test, from `start` on, always eight rounds a record; answers where the last one ends. "The first faulty byte ends the reading, in the
 // middle of a test's groups as well."
-fn read_records(job: &[u8], start: usize, tests: usize, curves: usize, list: &mut [u64]) -> Counted
+fn read_records(
+    job: &[u8],
+    start: usize,
+    tests: usize,
+    curves: usize,
+    list: &mut [u64],
+) -> Result<usize, Refusal>
     requires { (start ≤ length job.now) × (tests ≤ length list.old) × (curves ≤ 64) }
-    ensures end { count_outcome result ≡ mapped (λ g. g.next) (read_records curves tests [] start (drop start job.now)) }
+    ensures end { outcome result ≡ mapped (λ g. g.next) (read_records curves tests [] start (drop start job.now)) }
     ensures sets { (g : Got (List ℕ)) → read_records curves tests [] start (drop start job.now) ≡ done g
         → take tests list.new ≡ g.value }
 {
-    let mut answer = Examined::Passed;
+    let mut answer = Ok(());
     let mut at = start;
-    let mut t: usize = 0;
-    'tests: while t < tests {
+    'tests: for t in 0..tests {
         // "Each record is read from the rest of the bytes, starting where the last one ended."
         let rest = &job[at..];
         if rest.len() == 0 {
-            answer = Examined::Refused(Refusal::Truncated(job.len()));
+            answer = Err(Refusal::Truncated(job.len()));
             break 'tests;
         }
         let map = rest[0];
         let mut set: u64 = 0;
         let mut used: usize = 1;
-        let mut j: usize = 0;
-        while j < 8 {
+        for j in 0..8 {
             match read_due(rest, used, map, j, curves) {
-                GroupRead::Curves(group) => {
+                Ok(group) => {
                     set = set | group;
                     used += ((map >> j) % 2) as usize;
                 }
-                GroupRead::Owed => {
-                    answer = Examined::Refused(Refusal::Truncated(job.len()));
+                Err(GroupFault::Owed) => {
+                    answer = Err(Refusal::Truncated(job.len()));
                     break 'tests;
                 }
-                GroupRead::Empty => {
+                Err(GroupFault::Empty) => {
                     let offset = at + used;
-                    answer = Examined::Refused(Refusal::EmptyGroup(offset));
+                    answer = Err(Refusal::EmptyGroup(offset));
                     break 'tests;
                 }
-                GroupRead::Unknown => {
+                Err(GroupFault::Unknown) => {
                     let offset = at + used;
-                    answer = Examined::Refused(Refusal::UnknownCurve(offset));
+                    answer = Err(Refusal::UnknownCurve(offset));
                     break 'tests;
                 }
             }
-            j += 1;
         }
         list[t] = set;
         at += used;
-        t += 1;
     }
-    match answer {
-        Examined::Refused(r) => Counted::Refused(r),
-        Examined::Passed => Counted::Count(at),
-    }
+    answer?;
+    Ok(at)
 }
 
 // The first n numbers of `from` go to the front of `to`.
@@ -179,43 +170,33 @@ fn copy_front(to: &mut [u64], from: &[u64], n: usize)
 }
 
 // The tests behind a head that was read, from `start` on: the records, 6, 9.
-fn read_tests(job: &[u8], head: Head, start: usize, wants: &mut [u64]) -> JobRead
+fn read_tests(job: &[u8], head: Head, start: usize, wants: &mut [u64]) -> Result<Head, Refusal>
     requires { read_head job.now ≡ done (got head start (drop start job.now)) }
-    ensures answer { read_outcome result ≡ read_job_answer job.now wants.old }
+    ensures answer { outcome result ≡ read_job_answer job.now wants.old }
     ensures lent { wants.new ≡ read_job_wants job.now wants.old }
 {
     let tests = head.tests;
     let mut list = [0u64; job::MOST_TESTS];
-    match read_records(job, start, tests, head.rig.curves, &mut list) {
-        Counted::Refused(r) => JobRead::Refused(r),
-        Counted::Count(end) => {
-            if end < job.len() {
-                return JobRead::Refused(Refusal::TrailingBytes(end));
-            }
-            if wants.len() < tests {
-                return JobRead::Refused(Refusal::BufferTooSmall(tests));
-            }
-            copy_front(wants, &list, tests);
-            JobRead::Read(head)
-        }
+    let end = read_records(job, start, tests, head.rig.curves, &mut list)?;
+    if end < job.len() {
+        return Err(Refusal::TrailingBytes(end));
     }
+    if wants.len() < tests {
+        return Err(Refusal::BufferTooSmall(tests));
+    }
+    copy_front(wants, &list, tests);
+    Ok(head)
 }
 
 // Reads job bytes; on success the wants of the tests stand at the front of `wants`.
-pub fn read_job(job: &[u8], wants: &mut [u64]) -> JobRead
-    ensures answer { read_outcome result ≡ read_job_answer job.now wants.old }
+pub fn read_job(job: &[u8], wants: &mut [u64]) -> Result<Head, Refusal>
+    ensures answer { outcome result ≡ read_job_answer job.now wants.old }
     ensures lent { wants.new ≡ read_job_wants job.now wants.old }
 {
     let mut values = [0usize; FIELDS];
-    match read_fields(job, &mut values) {
-        Counted::Refused(r) => JobRead::Refused(r),
-        Counted::Count(start) => {
-            let head = head_of(&values);
-            // 13, at the last byte of the head
-            if let Examined::Refused(r) = examine_capacity(head.rig, start - 1) {
-                return JobRead::Refused(r);
-            }
-            read_tests(job, head, start, wants)
-        }
-    }
+    let start = read_fields(job, &mut values)?;
+    let head = head_of(&values);
+    // 13, at the last byte of the head
+    examine_capacity(head.rig, start - 1)?;
+    read_tests(job, head, start, wants)
 }

@@ -6,11 +6,9 @@ ghost use Rattle.bitset.specs.Set.{bit};
 ghost use Rattle.job.specs.Refusal.{mapped, room, leaves};
 ghost use Rattle.job_bytes.specs.SetBytes.{group_map, set_bytes, group_outcome, read_group};
 
-// What stands where the byte of a group is due.
+// Why the byte of a group is not read.
 #[derive(Clone, Copy)]
-pub enum GroupRead {
-    // the group's curves
-    Curves(u64),
+pub enum GroupFault {
     // the bytes end
     Owed,
     // a byte that is zero
@@ -21,33 +19,39 @@ pub enum GroupRead {
 
 // The byte of a group, if its bit stands in the group map: without a branch on the bit, but where the bytes end. Of a group whose bit does not stand there are
 // no curves.
-pub fn read_due(rest: &[u8], at: usize, map: u8, group: usize, curves: usize) -> GroupRead
+pub fn read_due(
+    rest: &[u8],
+    at: usize,
+    map: u8,
+    group: usize,
+    curves: usize,
+) -> Result<u64, GroupFault>
     ensures { (owed empty unknown i : ℕ) → group_outcome owed empty unknown i result
         ≡ mapped (λ g. g.value) (read_group owed empty unknown (min curves 64) (bit group map) group i (drop at rest.now)) }
 {
     if 8 <= group {
-        return GroupRead::Curves(0);
+        return Ok(0);
     }
     let stands = ((map >> group) % 2) as usize;
     if rest.len() <= at {
         if stands == 0 {
-            return GroupRead::Curves(0);
+            return Ok(0);
         }
-        return GroupRead::Owed;
+        return Err(GroupFault::Owed);
     }
     let byte = rest[at] as usize * stands;
     if byte < stands {
-        return GroupRead::Empty;
+        return Err(GroupFault::Empty);
     }
     let set = (byte as u64) << (8 * group);
     if bitset::inside(set, bitset::below(curves)) {
-        return GroupRead::Curves(set);
+        return Ok(set);
     }
-    GroupRead::Unknown
+    Err(GroupFault::Unknown)
 }
 
 // The byte of a group, at a position of the bytes. A u64 has curves below 64 alone, so a number of curves above 64 counts as 64.
-pub fn read_group(rest: &[u8], at: usize, group: usize, curves: usize) -> GroupRead
+pub fn read_group(rest: &[u8], at: usize, group: usize, curves: usize) -> Result<u64, GroupFault>
     ensures { (owed empty unknown i : ℕ) → group_outcome owed empty unknown i result
         ≡ mapped (λ g. g.value) (read_group owed empty unknown (min curves 64) 1 group i (drop at rest.now)) }
 {
@@ -55,12 +59,12 @@ pub fn read_group(rest: &[u8], at: usize, group: usize, curves: usize) -> GroupR
         return read_due(rest, at, 1 << group, group, curves);
     }
     if rest.len() <= at {
-        return GroupRead::Owed;
+        return Err(GroupFault::Owed);
     }
     if rest[at] == 0 {
-        return GroupRead::Empty;
+        return Err(GroupFault::Empty);
     }
-    GroupRead::Unknown
+    Err(GroupFault::Unknown)
 }
 
 // Writes a set's bytes from `to` on, where ten bytes are free, with a zero byte behind them that the next may be written over; answers where they end.

@@ -1,13 +1,13 @@
 // Job bytes, written: the head, then one record for each test.
 ghost use Rattle.std.specs.Prelude.{◌≡◌, [], ◌∷◌, ◌++◌, ◌+◌, ◌*◌, ◌≤◌, length, get_or};
 ghost use Rattle.std.proofs.lemmas.List.Edits.{sets};
-ghost use Rattle.job.specs.Refusal.{count_outcome};
+ghost use Rattle.job.specs.Refusal.{outcome};
 ghost use Rattle.job.specs.Words.{job_of};
 ghost use Rattle.job_bytes.specs.JobBytes.{fields, number_bytes, head_bytes, record_bytes, write_job_answer, write_job_buffer};
 
 use crate::fields::{FIELDS, row};
 use crate::set_bytes::{put_front, put_set_at};
-use job::{Counted, Examined, Refusal, Rig, examine_job};
+use job::{Refusal, Rig, examine_job};
 
 // What the values of a head come to: its map, where a field's bit stands unless it holds its absent value, and how many bytes it takes.
 #[derive(Clone, Copy)]
@@ -89,21 +89,19 @@ fn put_records(wants: &[u64], at: usize, out: &mut [u8]) -> usize
 const MOST_BYTES: usize = 1 + 8 * FIELDS + 9 * job::MOST_TESTS + 1;
 
 // Writes the bytes of a job to the beginning of `out`, and answers how many they are.
-pub fn write_job(rig: Rig, method: usize, wants: &[u64], out: &mut [u8]) -> Counted
-    ensures answer { count_outcome result ≡ write_job_answer method (job_of rig wants.now) out.old }
+pub fn write_job(rig: Rig, method: usize, wants: &[u64], out: &mut [u8]) -> Result<usize, Refusal>
+    ensures answer { outcome result ≡ write_job_answer method (job_of rig wants.now) out.old }
     ensures lent { out.new ≡ write_job_buffer method (job_of rig wants.now) out.old }
 {
-    if let Examined::Refused(r) = examine_job(rig, method, wants) {
-        return Counted::Refused(r);
-    }
+    examine_job(rig, method, wants)?;
     let values = [rig.places, rig.curves, wants.len(), method, rig.booked];
     let head = head_shape(&values);
     let mut bytes = [0u8; MOST_BYTES];
     put_head(&values, head.map, &mut bytes);
     let needed = put_records(wants, head.len, &mut bytes);
     if out.len() < needed {
-        return Counted::Refused(Refusal::BufferTooSmall(needed));
+        return Err(Refusal::BufferTooSmall(needed));
     }
     put_front(&bytes[..needed], out);
-    Counted::Count(needed)
+    Ok(needed)
 }

@@ -3,14 +3,14 @@ use mathlib.Core.Path.{◌≡◌, refl, sym, ◌∙◌}
 use mathlib.Core.Bool.{true, false}
 use Prim.Native.Nat.{◌+◌, ◌*◌}
 use native.Mathlib.Omega.{arith}
-use Rattle.job.specs.Refusal.{count_outcome, ◌>>◌, mapped, demand}
+use Rattle.job.specs.Refusal.{outcome, ◌>>◌, mapped, demand}
 use Rattle.job_bytes.specs.JobBytes.{read_field}
 use Rattle.job_bytes.proofs.HeadRoundTrip.{holds}
 use Rattle.job_bytes.proofs.Heads.{field_cut, field_judged}
 use Rattle.job_bytes.proofs.reading.read_field.Goals as goal
 
 pub returns-then-stands-eq0 : goal.returns-then-stands-eq0
-unfolding read_field mapped count_outcome
+unfolding read_field mapped outcome
 returns-then-stands-eq0 c =
     let a = c.args in
     let d : a.stands ≡ 0 = c.if-stands-eq0.true in
@@ -18,14 +18,14 @@ returns-then-stands-eq0 c =
     rw (d, n) refl
 
 pub returns-then-job-at : goal.returns-then-job-at
-unfolding mapped count_outcome
+unfolding mapped outcome
 returns-then-job-at c =
     let a = c.args in
     let d : a.stands ≡ 1 = omega arith in
     rw d (field_cut a.job.now a.field a.at (omega arith) (omega arith))
 
 pub returns-then-holds : goal.returns-then-holds
-unfolding holds mapped count_outcome demand ◌>>◌
+unfolding holds mapped outcome demand ◌>>◌
 returns-then-holds c =
     let a = c.args in
     let d : a.stands ≡ 1 = omega arith in
@@ -34,7 +34,7 @@ returns-then-holds c =
     rw (d, n) (field_judged a.job.now a.field a.at _ c.number_at-value.ensures ∙ rw h refl)
 
 pub returns : goal.returns
-unfolding holds mapped count_outcome demand ◌>>◌
+unfolding holds mapped outcome demand ◌>>◌
 returns c =
     let a = c.args in
     let d : a.stands ≡ 1 = omega arith in

@@ -4,10 +4,11 @@ use mathlib.Core.List.{List, []}
 use mathlib.Core.Logic.{inl, inr}
 use native.Mathlib.Omega.{arith}
 use lib.ListN.{length, get_or, take, drop, length-set}
-use borrow.Author.Rules.{rules}
+use Rattle.std.proofs.Common.{Err}
 use Rattle.bitset.specs.Set.{bit}
 use Rattle.job.specs.declared.Refusal.TheVariants.{Truncated, EmptyGroup, UnknownCurve}
-use Rattle.job.specs.Refusal.{Outcome, refused}
+use Rattle.job.specs.Refusal.{Outcome, refused, outcome}
+use Rattle.job.proofs.Laws.{handed_on}
 use Rattle.job_bytes.specs.SetBytes.{Got, got, read_groups}
 use Rattle.job_bytes.specs.JobBytes.{read_records}
 use Rattle.job_bytes.proofs.Turns.{groups_end, records_end}
@@ -16,8 +17,8 @@ use Rattle.job_bytes.proofs.GroupByte.{Answers, owed_end, answer_owed, answer_em
 use Rattle.job_bytes.proofs.Records.{record_none, record_fault, record_read, list_more, LeftWith, left_refused, left_passed, promise_refused}
 use Rattle.job_bytes.proofs.Records.{promise_done}
 use Rattle.job_bytes.proofs.reading.read_records.Goals.{Left-tests}
-use Rattle.job_bytes.proofs.reading.read_records.Goals.{else-tests-test, then-tests-test+then-rest-eq0, then-tests-test+else-rest-eq0+then-loop-j-test+in-Owed}
-use Rattle.job_bytes.proofs.reading.read_records.Goals.{then-tests-test+else-rest-eq0+then-loop-j-test+in-Empty, then-tests-test+else-rest-eq0+then-loop-j-test+in-Unknown}
+use Rattle.job_bytes.proofs.reading.read_records.Goals.{else-tests-test, then-tests-test+then-rest-eq0, then-tests-test+else-rest-eq0+then-loop-j-test+in-Err-Owed}
+use Rattle.job_bytes.proofs.reading.read_records.Goals.{then-tests-test+else-rest-eq0+then-loop-j-test+in-Err-Empty, then-tests-test+else-rest-eq0+then-loop-j-test+in-Err-Unknown}
 use Rattle.job_bytes.proofs.reading.read_records.Goals as goal
 
 pub loop-j-preserved : goal.loop-j-preserved
@@ -29,9 +30,9 @@ loop-j-preserved c =
     let g = c.loop-j in
     let d = bit g.j (get_or rest 0 0) in
     let h : g.j < 8 = c.loop-j-test.true in
-    let f = subst (Answers rest g.used d g.j a.curves) c.in-Curves.is c.read_due.ensures in
-    let r = answer_curves 1 3 4 a.curves (get_or rest 0 0) g.set at g.used g.j rest h c.requires.2 c.in-Curves.group g.invariant.fits f in
-    record { turns = omega arith; fits = r.0; same = g.invariant.same; goes = g.invariant.goes ∙ r.1 }
+    let f = subst (Answers rest g.used d g.j a.curves) c.in-Ok.is c.read_due.ensures in
+    let r = answer_curves 1 3 4 a.curves (get_or rest 0 0) g.set at g.used g.j rest h c.requires.2 c.in-Ok.group g.invariant.fits f in
+    record { fits = r.0; same = g.invariant.same; goes = g.invariant.goes ∙ r.1 }
 
 pub tests-preserved : goal.tests-preserved
 tests-preserved c =
@@ -46,7 +47,6 @@ tests-preserved c =
     let long = rest_long job q.at in
     let read = rw full at c.loop-j.invariant.goes ∙ groups_end 1 3 4 a.curves (get_or rest 0 0) set (q.at + u) (drop u rest) in
     record {
-      turns = search rules;
       within = omega arith;
       long = simp length-set q.invariant.long;
       fine = c.loop-j.invariant.same ∙ q.invariant.fine;
@@ -100,32 +100,34 @@ left k =
             q.invariant.goes
                 ∙ record_none job a.curves a.tests q.t q.at (take q.t q.list) w.tests-test.true (omega arith) ∙ ap (refused 1) e,
           )
-      | then-tests-test+else-rest-eq0+then-loop-j-test+in-Owed w ↦
+      | then-tests-test+else-rest-eq0+then-loop-j-test+in-Err-Owed w ↦
           let p = w.loop-j in
-          let f = subst (Answers part p.used (bit p.j (get_or part 0 0)) p.j a.curves) w.in-Owed.is w.read_due.ensures in
+          let f = subst (Answers part p.used (bit p.j (get_or part 0 0)) p.j a.curves) (w.in-Err-Owed.is ∙ ap Err w.in-Err-Owed.field-0-is) w.read_due.ensures in
           let e = p.invariant.goes ∙ answer_owed 1 3 4 a.curves (get_or part 0 0) p.set q.at p.used p.j part w.loop-j-test.true pre.2 f in
           let n : q.at + p.used ≡ length job = omega (arith, owed_end part p.used (bit p.j (get_or part 0 0)) p.j a.curves f, p.invariant.fits) in
           inr (Truncated (length job), w.answer-is, fault k w.tests-test.true 1 (q.at + p.used) (omega (arith, w.if-rest-eq0.false)) e ∙ ap (refused 1) n)
-      | then-tests-test+else-rest-eq0+then-loop-j-test+in-Empty w ↦
+      | then-tests-test+else-rest-eq0+then-loop-j-test+in-Err-Empty w ↦
           let p = w.loop-j in
-          let f = subst (Answers part p.used (bit p.j (get_or part 0 0)) p.j a.curves) w.in-Empty.is w.read_due.ensures in
+          let f = subst (Answers part p.used (bit p.j (get_or part 0 0)) p.j a.curves) (w.in-Err-Empty.is ∙ ap Err w.in-Err-Empty.field-0-is) w.read_due.ensures in
           let e = p.invariant.goes ∙ answer_empty 1 3 4 a.curves (get_or part 0 0) p.set q.at p.used p.j part w.loop-j-test.true pre.2 f in
           inr (EmptyGroup (q.at + p.used), w.answer-is, fault k w.tests-test.true 3 (q.at + p.used) (omega (arith, w.if-rest-eq0.false)) e)
-      | then-tests-test+else-rest-eq0+then-loop-j-test+in-Unknown w ↦
+      | then-tests-test+else-rest-eq0+then-loop-j-test+in-Err-Unknown w ↦
           let p = w.loop-j in
-          let f = subst (Answers part p.used (bit p.j (get_or part 0 0)) p.j a.curves) w.in-Unknown.is w.read_due.ensures in
+          let f = subst (Answers part p.used (bit p.j (get_or part 0 0)) p.j a.curves) (w.in-Err-Unknown.is ∙ ap Err w.in-Err-Unknown.field-0-is) w.read_due.ensures in
           let e = p.invariant.goes ∙ answer_unknown 1 3 4 a.curves (get_or part 0 0) p.set q.at p.used p.j part w.loop-j-test.true pre.2 f in
           inr (UnknownCurve (q.at + p.used), w.answer-is, fault k w.tests-test.true 4 (q.at + p.used) (omega (arith, w.if-rest-eq0.false)) e)
     ]
 
-pub returns-in-Refused : goal.returns-in-Refused
-returns-in-Refused c =
+pub returns-in_err-answer : goal.returns-in_err-answer
+unfolding outcome
+returns-in_err-answer c =
+    let x = c.in_err-answer.field-0.0 in
     let both =
-    promise_refused c.in-Refused.r _ _ (left_refused _ _ _ (left (goal.at.returns-in-Refused c).Left-tests) c.in-Refused.r c.in-Refused.is) in
-    record { end = both.0; sets = both.1 }
+    promise_refused x _ _ (left_refused _ _ _ (left (goal.at.returns-in_err-answer c).Left-tests) x c.in_err-answer.was) in
+    record { end = handed_on _ _ c.from_residual.ensures.1 ∙ both.0; sets = both.1 }
 
-pub returns-in-Passed : goal.returns-in-Passed
-returns-in-Passed c =
+pub returns : goal.returns
+returns c =
     let both =
-    promise_done _ _ (left_passed _ _ _ (left (goal.at.returns-in-Passed c).Left-tests) c.in-Passed.is) in
+    promise_done _ _ (left_passed _ _ _ (left (goal.at.returns c).Left-tests) c.in_ok-answer.was) in
     record { end = both.0; sets = both.1 }

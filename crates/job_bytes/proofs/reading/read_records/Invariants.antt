@@ -11,25 +11,17 @@ use Rattle.job_bytes.proofs.reading.read_records.Given as goal
 abbrev pub invariant-loop-j : goal.invariant-loop-j
 invariant-loop-j l =
     record {
-      turns : l.j ≤ 8;
       fits : l.used ≤ length l.rest;
       same : l.answer ≡ l.initial.answer;
       goes : read_groups 1 3 4 l.curves 8 0 l.map 0 (l.at + 1) (drop 1 l.rest) ≡ read_groups 1 3 4 l.curves (8 - l.j) l.j l.map l.set (l.at + l.used)
           (drop l.used l.rest);
     }
 
-abbrev pub decreases-loop-j : goal.decreases-loop-j
-decreases-loop-j l = 8 - l.j
-
 abbrev pub invariant-tests : goal.invariant-tests
 invariant-tests l =
     record {
-      turns : l.t ≤ l.tests;
       within : l.at ≤ length l.job;
       long : length l.list ≡ length l.initial.list;
       fine : l.answer ≡ l.initial.answer;
       goes : read_records l.curves l.tests [] l.start (drop l.start l.job) ≡ read_records l.curves (l.tests - l.t) (take l.t l.list) l.at (drop l.at l.job);
     }
-
-abbrev pub decreases-tests : goal.decreases-tests
-decreases-tests l = l.tests - l.t
