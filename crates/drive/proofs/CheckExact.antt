@@ -8,13 +8,12 @@ use native.Mathlib.Omega.{arith}
 use lib.Dec.{leb, eqb}
 use lib.ListN.{length}
 use borrow.Author.Tests.{eqb-true, eq-eqb, leb-true, le-leb}
+use Rattle.std.specs.Prelude.{Result, Ok, Err}
 use Rattle.bitset.specs.Set.{◌∩◌, ◌∖◌, size, inside}
 use Rattle.bitset.proofs.Bits.{bitwise}
 use Rattle.bitset.proofs.Parts.{◌≼◌, Apart, inside-≼, ≼-inside, apart_common, common_apart}
 use Rattle.lists.proofs.Tests.{both, and}
 use Rattle.drive.specs.declared.Sets.{Sets}
-use Rattle.drive.specs.declared.Checked.{Checked}
-use Rattle.drive.specs.declared.Checked.TheVariants.{Ends, Breaks}
 use Rattle.drive.specs.Steps.{Move, moved, held_after, sets_of}
 use Rattle.drive.specs.Check.{or_breaks, keeps, check_from}
 
@@ -86,35 +85,35 @@ module _ (capacity all h : ℕ) (m : Move) where
 
 module _ (capacity all : ℕ) where
   -- what an answer says of the steps from step i on, with h held
-  abbrev Says : ℕ → ℕ → List Move → Checked → Type 0
-  Says i h ms (Ends e) = (e ≡ held_after h (sets_of ms)) × AllKept capacity all h ms
-  Says i h ms (Breaks j) = (k : ℕ) × (j ≡ i + k) × FirstFault capacity all h ms k
+  abbrev Says : ℕ → ℕ → List Move → Result ℕ ℕ → Type 0
+  Says i h ms (Ok e) = (e ≡ held_after h (sets_of ms)) × AllKept capacity all h ms
+  Says i h ms (Err j) = (k : ℕ) × (j ≡ i + k) × FirstFault capacity all h ms k
 
   says : (i h : ℕ) (ms : List Move) → Says i h ms (check_from capacity all i h ms)
   unfolding check_from held_after or_breaks
   says i h [] = (refl, none)
   says i h (m ∷ ms) = go (keeps capacity all h m) refl (check_from capacity all (suc i) (moved h m.sets) ms) (says (suc i) (moved h m.sets) ms)
     where
-      go : (b : Bool) → keeps capacity all h m ≡ b → (o : Checked) → Says (suc i) (moved h m.sets) ms o → Says i h (m ∷ ms) (or_breaks b i o)
-      go true e (Ends x) s = (s.0, step (kept capacity all h m e) s.1)
-      go true e (Breaks j) s = (suc s.0, omega (arith, s.1), later (kept capacity all h m e) s.2)
+      go : (b : Bool) → keeps capacity all h m ≡ b → (o : Result ℕ ℕ) → Says (suc i) (moved h m.sets) ms o → Says i h (m ∷ ms) (or_breaks b i o)
+      go true e (Ok x) s = (s.0, step (kept capacity all h m e) s.1)
+      go true e (Err j) s = (suc s.0, omega (arith, s.1), later (kept capacity all h m e) s.2)
       go false e o s = (0, omega arith, here (λ ok. false≢true (sym e ∙ keeping capacity all h m ok)))
 
-  ends : {h : ℕ} {ms : List Move} (i : ℕ) → AllKept capacity all h ms → check_from capacity all i h ms ≡ Ends (held_after h (sets_of ms))
+  ends : {h : ℕ} {ms : List Move} (i : ℕ) → AllKept capacity all h ms → check_from capacity all i h ms ≡ Ok (held_after h (sets_of ms))
   unfolding check_from held_after or_breaks
   ends i none = refl
   ends i (step {h = h} {m = m} ok r) = rw (keeping capacity all h m ok) (ends (suc i) r)
 
-  breaks : {h : ℕ} {ms : List Move} {k : ℕ} (i : ℕ) → FirstFault capacity all h ms k → check_from capacity all i h ms ≡ Breaks (i + k)
+  breaks : {h : ℕ} {ms : List Move} {k : ℕ} (i : ℕ) → FirstFault capacity all h ms k → check_from capacity all i h ms ≡ Err (i + k)
   unfolding check_from or_breaks
   breaks i (here {h = h} {m = m} broken) = go (keeps capacity all h m) refl _
     where
-      go : (b : Bool) → keeps capacity all h m ≡ b → (o : Checked) → or_breaks b i o ≡ Breaks (i + 0)
+      go : (b : Bool) → keeps capacity all h m ≡ b → (o : Result ℕ ℕ) → or_breaks b i o ≡ Err (i + 0)
       go true e o = absurd (broken (kept capacity all h m e))
-      go false e o = ap Breaks (omega arith)
+      go false e o = ap Err (omega arith)
   breaks i (later {h = h} {m = m} {k = k} ok r) =
       let n : suc i + k ≡ i + suc k = omega arith in
-      rw (keeping capacity all h m ok) (breaks (suc i) r ∙ ap Breaks n)
+      rw (keeping capacity all h m ok) (breaks (suc i) r ∙ ap Err n)
 
   fault_below : {h : ℕ} {ms : List Move} {k : ℕ} → FirstFault capacity all h ms k → k < length ms
   fault_below (here broken) = omega arith
@@ -122,21 +121,21 @@ module _ (capacity all : ℕ) where
 
   module _ (i h : ℕ) (ms : List Move) where
     -- THE CHECK ENDS exactly where every step keeps the rules; and with nothing but what is held then
-    pub check_exact : check_from capacity all i h ms ≡ Ends (held_after h (sets_of ms)) ↔ AllKept capacity all h ms
+    pub check_exact : check_from capacity all i h ms ≡ Ok (held_after h (sets_of ms)) ↔ AllKept capacity all h ms
     check_exact = ((λ e. (rw e at (says i h ms)).1), ends i)
 
-    pub check_held : (e : ℕ) → check_from capacity all i h ms ≡ Ends e → (e ≡ held_after h (sets_of ms)) × AllKept capacity all h ms
+    pub check_held : (e : ℕ) → check_from capacity all i h ms ≡ Ok e → (e ≡ held_after h (sets_of ms)) × AllKept capacity all h ms
     check_held e p = rw p at (says i h ms)
 
     -- THE STEP NAMED IS THE FIRST THAT BREAKS A RULE; and it is one of the steps
-    pub fault_exact : (k : ℕ) → check_from capacity all i h ms ≡ Breaks (i + k) ↔ FirstFault capacity all h ms k
+    pub fault_exact : (k : ℕ) → check_from capacity all i h ms ≡ Err (i + k) ↔ FirstFault capacity all h ms k
     fault_exact k = (there, breaks i)
       where
-        there : check_from capacity all i h ms ≡ Breaks (i + k) → FirstFault capacity all h ms k
+        there : check_from capacity all i h ms ≡ Err (i + k) → FirstFault capacity all h ms k
         there p =
             let s = rw p at (says i h ms) in
             let same : s.0 ≡ k = omega (arith, s.1) in
             rw same at s.2
 
-    pub fault_within : (j : ℕ) → check_from capacity all i h ms ≡ Breaks j → (i ≤ j) × (j < i + length ms)
+    pub fault_within : (j : ℕ) → check_from capacity all i h ms ≡ Err j → (i ≤ j) × (j < i + length ms)
     fault_within j p = let s = rw p at (says i h ms) in (omega (arith, s.1), omega (arith, s.1, fault_below s.2))

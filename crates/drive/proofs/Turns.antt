@@ -9,13 +9,11 @@ use native.Mathlib.Numerals.{add-one}
 use native.Mathlib.Nat.{add-zero}
 use lib.ListN.{length, get_or, drop, set, length-set, drop_of_length-le, get_or-eq_default}
 use lib.Seq.{drop-cons, drop-drop, get_or-drop, get_or-set_same, get_or-set_other, ext_get_or, sets}
+use Rattle.std.specs.Prelude.{Option, Some, None, Ok, Err}
 use Rattle.bitset.specs.Set.{◌∪◌, size, bit}
 use Rattle.lists.specs.Choice.{Found}
 use Rattle.lists.proofs.Overwritten.{sets_cons}
 use Rattle.drive.specs.declared.Sets.{Sets}
-use Rattle.drive.specs.declared.Checked.TheVariants.{Ends, Breaks}
-use Rattle.drive.specs.declared.choice.NextUse.{NextUse}
-use Rattle.drive.specs.declared.choice.NextUse.TheVariants.{At, Never}
 use Rattle.drive.specs.Steps.{moved, held_after, drops_of, loads_of, moves}
 use Rattle.drive.specs.Check.{or_breaks, keeps, check_from}
 use Rattle.drive.specs.Uses.{later, use_by, next_use}
@@ -98,7 +96,7 @@ module _ (capacity all h i : ℕ) (ws ds ls : List ℕ) (d l : ℕ) (b : Bool) (
       rw (asked, drops, loads, drop-cons ws i 0 below)
       (rw (drop-drop 1 i ds, drop-drop 1 i ls, get_or-drop i ds 0 0, get_or-drop i ls 0 0, add-zero i, add-one i) refl)
 
-  pub check_breaks : b ≡ false → check_from capacity all i h (moves (drop i ws) (drop i ds) (drop i ls)) ≡ Breaks i
+  pub check_breaks : b ≡ false → check_from capacity all i h (moves (drop i ws) (drop i ds) (drop i ls)) ≡ Err i
   unfolding or_breaks
   check_breaks e = turn ∙ rw e refl
 
@@ -108,7 +106,7 @@ module _ (capacity all h i : ℕ) (ws ds ls : List ℕ) (d l : ℕ) (b : Bool) (
   check_goes e = turn ∙ rw e refl
 
 -- no step is left
-pub check_end : (capacity all h i : ℕ) (ws ds ls : List ℕ) → length ws ≤ i → check_from capacity all i h (moves (drop i ws) ds ls) ≡ Ends h
+pub check_end : (capacity all h i : ℕ) (ws ds ls : List ℕ) → length ws ≤ i → check_from capacity all i h (moves (drop i ws) ds ls) ≡ Ok h
 unfolding check_from moves
 check_end capacity all h i ws ds ls e = rw (drop_of_length-le ws e) refl
 
@@ -118,24 +116,24 @@ unfolding drops_for victims
 no_drops pick capacity h w ws e = let z : size (h ∪ w) - capacity ≡ 0 = omega arith in rw z refl
 
 -- ---- the next use by the step's number: `step_of s` where the first of the later steps is step s
-unfoldable pub step_of : ℕ → NextUse → NextUse
-step_of s (At m) = At (s + m)
-step_of s Never = Never
+unfoldable pub step_of : ℕ → Option ℕ → Option ℕ
+step_of s (Some m) = Some (s + m)
+step_of s None = None
 
-pub use_wanted : (c s : ℕ) (ws : List ℕ) → s < length ws → bit c (get_or ws s 0) ≡ 1 → step_of s (next_use c (drop s ws)) ≡ At s
+pub use_wanted : (c s : ℕ) (ws : List ℕ) → s < length ws → bit c (get_or ws s 0) ≡ 1 → step_of s (next_use c (drop s ws)) ≡ Some s
 unfolding step_of next_use use_by
-use_wanted c s ws h b = rw (drop-cons ws s 0 h, b) (ap At (omega arith))
+use_wanted c s ws h b = rw (drop-cons ws s 0 h, b) (ap Some (omega arith))
 
 pub use_later : (c s : ℕ) (ws : List ℕ) → s < length ws → bit c (get_or ws s 0) ≡ 0
     → step_of s (next_use c (drop s ws)) ≡ step_of (s + 1) (next_use c (drop (s + 1) ws))
 unfolding next_use use_by
 use_later c s ws h b = rw (add-one s, drop-cons ws s 0 h, b) (go (next_use c (drop (suc s) ws)))
   where
-    go : (u : NextUse) → step_of s (later u) ≡ step_of (suc s) u
-    go Never = unfold step_of later in refl
-    go (At m) = unfold step_of later in ap At (omega arith)
+    go : (u : Option ℕ) → step_of s (later u) ≡ step_of (suc s) u
+    go None = unfold step_of later in refl
+    go (Some m) = unfold step_of later in ap Some (omega arith)
 
-pub use_never : (c s : ℕ) (ws : List ℕ) → length ws ≤ s → step_of s (next_use c (drop s ws)) ≡ Never
+pub use_never : (c s : ℕ) (ws : List ℕ) → length ws ≤ s → step_of s (next_use c (drop s ws)) ≡ None
 unfolding step_of next_use
 use_never c s ws h = rw (drop_of_length-le ws h) refl
 

@@ -1,14 +1,12 @@
--- The check of steps, which answers what is held at the end, or the first step that breaks a rule: `Checked`, declared in the code.
-use Rattle.std.specs.Prelude.{Bool, true, false, ◌&&◌, List, [], ◌∷◌, ℕ, suc, leb, eqb}
+-- The check of steps, which answers what is held at the end, or the first step that breaks a rule.
+use Rattle.std.specs.Prelude.{Bool, true, false, ◌&&◌, List, [], ◌∷◌, ℕ, suc, leb, eqb, Result, Ok, Err}
 use Rattle.bitset.specs.Set.{◌∩◌, ◌∖◌, size, inside}
-use Rattle.drive.specs.declared.Checked.{Checked}
-use Rattle.drive.specs.declared.Checked.TheVariants.{Ends, Breaks}
 use Rattle.drive.specs.Steps.{Move, moved}
 
 -- by whether step i keeps the rules, and by what is answered of the later steps
-unfoldable pub or_breaks : Bool → ℕ → Checked → Checked
+unfoldable pub or_breaks : Bool → ℕ → Result ℕ ℕ → Result ℕ ℕ
 or_breaks true i later = later
-or_breaks false i later = Breaks i
+or_breaks false i later = Err i
 
 -- with a capacity, and the curves all that there are
 module _ (capacity all : ℕ) where
@@ -20,6 +18,6 @@ module _ (capacity all : ℕ) where
       && leb (size (moved h m.sets)) capacity
 
   -- "first step breaking a rule": from step i on, with h held
-  unfoldable pub check_from : ℕ → ℕ → List Move → Checked
-  check_from i h [] = Ends h
+  unfoldable pub check_from : ℕ → ℕ → List Move → Result ℕ ℕ
+  check_from i h [] = Ok h
   check_from i h (m ∷ ms) = or_breaks (keeps h m) i (check_from (suc i) (moved h m.sets) ms)

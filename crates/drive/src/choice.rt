@@ -1,23 +1,16 @@
 // Which curves a step drops.
-ghost use Rattle.std.specs.Prelude.{◌≡◌, List, ℕ, ◌+◌, ◌-◌, ◌^◌, ◌≤◌, ◌<◌, length, get_or};
+ghost use Rattle.std.specs.Prelude.{◌≡◌, List, ℕ, ◌+◌, ◌-◌, ◌^◌, ◌≤◌, ◌<◌, length, get_or, Some, None};
 ghost use Rattle.bitset.specs.Set.{◌∖◌, size, bit};
 ghost use Rattle.drive.specs.Uses.{further};
 ghost use Rattle.drive.specs.Plan.{furthest, victims, drops_for};
 ghost use Rattle.drive.specs.Steps.{together};
 ghost use Rattle.drive.specs.ContractWords.{Grouped, UsedAt, GoesFirst};
 
-// Document 01: "its next use, which is a later step or never". At(0) is the step after the present one.
-#[derive(Clone, Copy)]
-pub enum NextUse {
-    At(usize),
-    Never,
-}
-
-// "Every candidate curve goes with its next use."
+// "Every candidate curve goes with its next use, which is a later step or never": none is never, and step 0 is the one after the present step.
 #[derive(Clone, Copy)]
 pub struct Candidate {
     pub curve: usize,
-    pub next: NextUse,
+    pub next: Option<usize>,
 }
 
 // Whether the next use of `a` is further than that of `b`: "never is furthest".
@@ -27,13 +20,13 @@ fn further(a: Candidate, b: Candidate) -> bool
     let x = a.next;
     let y = b.next;
     match x {
-        NextUse::Never => match y {
-            NextUse::Never => false,
-            NextUse::At(_) => true,
+        None => match y {
+            None => false,
+            Some(_) => true,
         },
-        NextUse::At(m) => match y {
-            NextUse::Never => false,
-            NextUse::At(n) => n < m,
+        Some(m) => match y {
+            None => false,
+            Some(n) => n < m,
         },
     }
 }
@@ -152,19 +145,19 @@ fn groups_left(rest: u64, count: usize) -> usize
 
 // The candidate "whose next use in a later step is furthest": the first of those never used against the first of a group, whose next use is `step`.
 fn furthest(never: u64, group: u64, step: usize) -> Candidate
-    ensures by_index { (ws : List ℕ) → 0 < never → UsedAt NextUse.Never never ws → GoesFirst ws never result }
-    ensures by_index_2 { (ws : List ℕ) → never ≡ 0 → 0 < group → UsedAt (NextUse.At step) group ws → GoesFirst ws group result }
+    ensures by_index { (ws : List ℕ) → 0 < never → UsedAt None never ws → GoesFirst ws never result }
+    ensures by_index_2 { (ws : List ℕ) → never ≡ 0 → 0 < group → UsedAt (Some step) group ws → GoesFirst ws group result }
 {
     let sooner = Candidate {
         curve: first_to_go(group),
-        next: NextUse::At(step),
+        next: Some(step),
     };
     if never == 0 {
         return sooner;
     }
     let latest = Candidate {
         curve: first_to_go(never),
-        next: NextUse::Never,
+        next: None,
     };
     if further(latest, sooner) {
         return latest;

@@ -16,13 +16,6 @@ pub struct Sets {
     pub loads: u64,
 }
 
-// What the check of steps answers: what is held at the end, or the first step that breaks a rule.
-#[derive(Clone, Copy)]
-pub enum Checked {
-    Ends(u64),
-    Breaks(usize),
-}
-
 // What is held after a step: "the drops leave, the loads enter".
 pub fn moved(held: u64, sets: Sets) -> u64
     ensures { result ≡ moved held sets }
@@ -148,8 +141,8 @@ fn keeps(capacity: usize, all: u64, held: u64, want: u64, sets: Sets) -> bool
         && bitset::size(after) <= capacity
 }
 
-// The check of steps from anywhere, with `start` held before the first and the curves `all` in the job; where a list has no entry for a step, the step has no
-// drops or loads.
+// The check of steps from anywhere, with `start` held before the first and the curves `all` in the job: what is held at the end, or the first step that breaks
+// a rule. Where a list has no entry for a step, the step has no drops or loads.
 pub fn check_steps(
     capacity: usize,
     all: u64,
@@ -157,7 +150,7 @@ pub fn check_steps(
     wants: &[u64],
     drops: &[u64],
     loads: &[u64],
-) -> Checked
+) -> Result<u64, usize>
     ensures { result ≡ check_from capacity all 0 start (moves wants.now drops.now loads.now) }
 {
     let mut held = start;
@@ -168,10 +161,10 @@ pub fn check_steps(
             loads: lists::entry(loads, i),
         };
         if !keeps(capacity, all, held, wants[i], sets) {
-            return Checked::Breaks(i);
+            return Err(i);
         }
         held = moved(held, sets);
         i += 1;
     }
-    Checked::Ends(held)
+    Ok(held)
 }

@@ -1,10 +1,9 @@
 -- 02, wish 9, "Every drive size together": the load counts of our plan for one list, from an empty drive, for 1 to 64 places. "Purchasing compares drives."
-use Rattle.std.specs.Prelude.{Bool, true, false, not, ◌&&◌, List, [], ◌∷◌, ℕ, zero, suc, max, leb, eqb}
+use Rattle.std.specs.Prelude.{Bool, true, false, not, ◌&&◌, List, [], ◌∷◌, ℕ, zero, suc, max, leb, eqb, Option, Some, None}
 use Rattle.bitset.specs.Set.{size}
 use Rattle.lists.specs.Choice.{Found, nobody, found, keep}
 use Rattle.drive.specs.Steps.{load_count}
 use Rattle.drive.specs.Plan.{furthest, plan_from}
-use Rattle.every_size.specs.declared.Size.{Size}
 
 -- how many curves the largest of the tests wants
 unfoldable pub largest : List ℕ → ℕ
@@ -47,7 +46,7 @@ fewest_from loads places (entry ∷ entries) = keep (serves loads entry) places 
 abbrev pub fewest_places : ℕ → List ℕ → Found ℕ
 fewest_places loads entries = fewest_from loads 1 entries
 
--- "the fewest places .. or none" as the code answers them: `Size`, declared there
-unfoldable pub size_found : Size → Found ℕ
-size_found (Size.Places p) = found p
-size_found Size.NoSize = nobody
+-- "the fewest places .. or none" as the code answers them
+unfoldable pub size_found : Option ℕ → Found ℕ
+size_found (Some p) = found p
+size_found None = nobody

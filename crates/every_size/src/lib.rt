@@ -11,13 +11,6 @@ ghost use Rattle.every_size.specs.ContractWords.{sum, holds_at, held_next, Slott
 // "the mark 65535, which no count reaches".
 pub const MARK: u16 = 65_535;
 
-// The fewest places that serve, or that no size does.
-#[derive(Clone, Copy)]
-pub enum Size {
-    Places(usize),
-    NoSize,
-}
-
 // ---- one step
 
 // Loads the wanted curves: each is loaded by every drive up to its slot, and then held by every drive. `loads[s]` counts the loads of curves with slot s.
@@ -184,15 +177,15 @@ fn serves(loads: usize, entry: u16) -> bool
 }
 
 // "for a wanted count, give the fewest places that need no more loads, a marked size never serving, or none": of the entries for 1, 2, .. places.
-pub fn fewest_places(entries: &[u16], loads: usize) -> Size
+pub fn fewest_places(entries: &[u16], loads: usize) -> Option<usize>
     ensures { size_found result ≡ fewest_places loads entries.now }
 {
     let mut i: usize = 0;
     while i < entries.len() {
         if serves(loads, entries[i]) {
-            return Size::Places(i + 1);
+            return Some(i + 1);
         }
         i += 1;
     }
-    Size::NoSize
+    None
 }

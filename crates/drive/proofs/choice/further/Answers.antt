@@ -2,18 +2,18 @@
 use Rattle.drive.specs.Uses.{further}
 use Rattle.drive.proofs.choice.further.Goals as goal
 
-pub returns-in-Never-y : goal.returns-in-Never-y
+pub returns-in-None-y : goal.returns-in-None-y
 unfolding further
-returns-in-Never-y c = rw (c.in-Never.is, c.in-Never-y.is)
+returns-in-None-y c = rw (c.in-None.is, c.in-None-y.is)
 
-pub returns-in-At-y : goal.returns-in-At-y
+pub returns-in-Some-y : goal.returns-in-Some-y
 unfolding further
-returns-in-At-y c = rw (c.in-Never.is, c.in-At-y.is)
+returns-in-Some-y c = rw (c.in-None.is, c.in-Some-y.is)
 
-pub returns-in-Never-y-2 : goal.returns-in-Never-y-2
+pub returns-in-None-y-2 : goal.returns-in-None-y-2
 unfolding further
-returns-in-Never-y-2 c = rw (c.in-At.is, c.in-Never-y-2.is)
+returns-in-None-y-2 c = rw (c.in-Some.is, c.in-None-y-2.is)
 
-pub returns-in-At-y-2 : goal.returns-in-At-y-2
+pub returns-in-Some-y-2 : goal.returns-in-Some-y-2
 unfolding further
-returns-in-At-y-2 c = rw (c.in-At.is, c.in-At-y-2.is)
+returns-in-Some-y-2 c = rw (c.in-Some.is, c.in-Some-y-2.is)
