@@ -6,6 +6,7 @@ use Prim.Native.Nat.{ℕ, ◌+◌, ◌*◌, ◌≤◌}
 use native.Mathlib.Omega.{arith}
 use lib.ListN.{length}
 use borrow.Author.Tests.{eqb-true}
+use Rattle.std.specs.Prelude.{Result, Ok, Err}
 use Rattle.bitset.specs.Set.{◌∖◌, size}
 use Rattle.bitset.proofs.Laws.{⊆-∪-r, size_mono}
 use Rattle.job.specs.Refusal.{done}
@@ -13,8 +14,6 @@ use Rattle.job.specs.Words.{Job, capacity, IsJob, IsHolding, IsOrder}
 use Rattle.job.specs.Handed.{all_curves}
 use Rattle.job.specs.Calls.{checking_known}
 use Rattle.job.proofs.Laws.{done_same, refused≢done, demand_true, both_done}
-use Rattle.drive.specs.declared.Checked.{Checked}
-use Rattle.drive.specs.declared.Checked.TheVariants.{Ends, Breaks}
 use Rattle.drive.specs.Steps.{Move, moved, held_after, drops_of, sets_of, curve_count, load_count}
 use Rattle.drive.proofs.CheckExact.{AllKept, check_exact as steps-exact, check_held}
 use Rattle.drive.proofs.Balance.{balance}
@@ -38,10 +37,10 @@ pub record Passes (j : Job) (held : ℕ) (order : List ℕ) (p : Plan) : Type 0 
   pub ends : p.end ≡ held_after held (plan_sets j order p)
 
 -- steps that end
-pub steps_ended : (c : Checked) → checked_outcome c ≡ done tt → (e : ℕ) × (c ≡ Ends e)
+pub steps_ended : (c : Result ℕ ℕ) → checked_outcome c ≡ done tt → (e : ℕ) × (c ≡ Ok e)
 unfolding checked_outcome
-steps_ended (Ends e) p = (e, refl)
-steps_ended (Breaks i) p = absurd (refused≢done p)
+steps_ended (Ok e) p = (e, refl)
+steps_ended (Err i) p = absurd (refused≢done p)
 
 -- no step that keeps the rules loads more than 64 curves, where there are no more places
 loads_few : {p all h : ℕ} {ms : List Move} → p ≤ 64 → AllKept p all h ms → load_count (sets_of ms) ≤ 64 * length ms

@@ -7,6 +7,7 @@ use Prim.Native.Nat.{ℕ, ◌+◌}
 use native.Mathlib.Omega.{arith}
 use native.Mathlib.Decide.{ℕ_discrete}
 use lib.ListN.{length}
+use Rattle.std.specs.Prelude.{Result, Ok, Err}
 use Rattle.job.specs.Refusal.{Outcome, done, refused, ◌>>◌}
 use Rattle.job.specs.Words.{Job, capacity, IsJob, IsHolding, IsOrder}
 use Rattle.job.specs.Handed.{all_curves, held_known, job_known}
@@ -16,8 +17,6 @@ use Rattle.job.proofs.Laws.{refused≢done, refused_same, refused_split}
 use Rattle.job.proofs.Faults.{First}
 use Rattle.job.proofs.Refuses.{Refuses, refuses, refuses_more, refuses_both, HandedRefusal, job_by_refuses, HeldRefusal, held_refuses}
 use Rattle.job.proofs.OrderExact.{order_refuses}
-use Rattle.drive.specs.declared.Checked.{Checked}
-use Rattle.drive.specs.declared.Checked.TheVariants.{Ends, Breaks}
 use Rattle.drive.specs.Steps.{Move, held_after, curve_count}
 use Rattle.drive.proofs.CheckExact.{AllKept, FirstFault, check_exact, check_held, fault_exact}
 use Rattle.planning.specs.Plan.{Plan}
@@ -40,10 +39,10 @@ pub record Rejected (j : Job) (held : ℕ) (order : List ℕ) (p : Plan) (i : �
       × (p.end ≡ held_after held (plan_sets j order p) → ⊥))))
 
 -- steps that break a rule
-broke : (c : Checked) (i : ℕ) → checked_outcome c ≡ refused 12 i → c ≡ Breaks i
+broke : (c : Result ℕ ℕ) (i : ℕ) → checked_outcome c ≡ refused 12 i → c ≡ Err i
 unfolding checked_outcome
-broke (Ends e) i p = absurd (refused≢done (sym p))
-broke (Breaks j) i p = ap Breaks (refused_same p)
+broke (Ok e) i p = absurd (refused≢done (sym p))
+broke (Err j) i p = ap Err (refused_same p)
 
 module _ (j : Job) (held : ℕ) (order : List ℕ) (p : Plan) (i : ℕ) where
   abbrev cap : ℕ
@@ -112,7 +111,7 @@ module _ (j : Job) (held : ℕ) (order : List ℕ) (p : Plan) (i : ℕ) where
       → StepFault
   by_steps (inl e) =
       let z : i ≡ 0 + i = omega arith in
-      inl ((fault_exact cap all 0 held ms i).0 (broke (steps_checked j held order p) i e ∙ ap Breaks z))
+      inl ((fault_exact cap all 0 held ms i).0 (broke (steps_checked j held order p) i e ∙ ap Err z))
   by_steps (inr e) =
       let s = steps_ended (steps_checked j held order p) e.1 in
       let x = by_end (refused_split (end_known j held order p) (done (curve_count p.loads)) 12 i e.2) in
@@ -146,7 +145,7 @@ module _ (j : Job) (held : ℕ) (order : List ℕ) (p : Plan) (i : ℕ) where
       go (inl f) = check_sets j held order p known 12 i ((sets_exact n d l i).1 f)
       go (inr (x, y, inl f)) =
           let z : 0 + i ≡ i = omega arith in
-          check_broken j held order p known ((entries_exact n d l).1 (x, y)) i ((fault_exact cap all 0 held ms i).1 f ∙ ap Breaks z)
+          check_broken j held order p known ((entries_exact n d l).1 (x, y)) i ((fault_exact cap all 0 held ms i).1 f ∙ ap Err z)
       go (inr (x, y, inr (e, ok, o))) =
           check_other_end j held order p known ((entries_exact n d l).1 (x, y)) _ ((check_exact cap all 0 held ms).1 ok) o ∙ ap (refused 12) (sym e)
 

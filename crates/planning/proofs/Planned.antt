@@ -6,8 +6,7 @@ use native.Mathlib.Omega.{arith}
 use lib.ListN.{length, take, length-map}
 use lib.Seq.{sets}
 use borrow.Author.Tests.{lt-leb}
-use Rattle.job.specs.declared.Refusal.{Refusal}
-use Rattle.job.specs.Refusal.{Outcome, done, refused, number, figure, ◌>>=◌, ◌>>◌, mapped, demand, room, overwritten}
+use Rattle.job.specs.Refusal.{Outcome, done, refused, ◌>>=◌, ◌>>◌, mapped, demand, room, overwritten}
 use Rattle.job.specs.Words.{Job, capacity, IsJob, IsHolding, IsOrder}
 use Rattle.job.specs.Handed.{tests_known}
 use Rattle.job.specs.Calls.{planning_known}
@@ -20,24 +19,13 @@ use Rattle.drive.specs.Steps.{held_after, drops_of, loads_of, curve_count, load_
 use Rattle.drive.specs.Plan.{furthest, plan_from}
 use Rattle.drive.proofs.Moves.{length_plan}
 use Rattle.drive.proofs.Width.{plan_width}
-use Rattle.planning.specs.declared.PlanCounted.{PlanCounted}
-use Rattle.planning.specs.Plan.{SetLists, set_lists, entries, CountEnd, plan_outcome, in_order}
+use Rattle.planning.specs.Plan.{SetLists, set_lists, entries, CountEnd, in_order}
 use Rattle.planning.specs.Planning.{our_plan, planning, plan_answer, plan_lists}
 use Rattle.planning.specs.Demand3.{Demand3}
 use Rattle.planning.specs.ContractWords.{plan_tests, tests_answer, tests_lists}
 use Rattle.planning.proofs.Turns.{length_in_order}
 use Rattle.planning.proofs.Sequence.{known_exact, planning_parts, step_curves, plan_refused}
 use Rattle.planning.proofs.Demand3.{demand3}
-
--- ---- what an answer says of the outcome that it stands for
-module _ (r : PlanCounted) (o : Outcome CountEnd) (p : plan_outcome r ≡ o) where
-  pub plan_made : (n end : ℕ) → r ≡ PlanCounted.Count n end → o ≡ done (record { count = n; end = end })
-  unfolding plan_outcome
-  plan_made n end e = sym p ∙ rw e refl
-
-  pub plan_not_made : (x : Refusal) → r ≡ PlanCounted.Refused x → o ≡ refused (number x) (figure x)
-  unfolding plan_outcome
-  plan_not_made x e = sym p ∙ rw e refl
 
 -- ---- without examinations
 

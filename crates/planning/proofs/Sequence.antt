@@ -7,6 +7,7 @@ use lib.Dec.{eqb}
 use lib.ListN.{length, get_or, take}
 use lib.Seq.{sets}
 use borrow.Author.Tests.{eqb-true, eq-eqb, ne_eqb}
+use Rattle.std.specs.Prelude.{Result, Ok, Err}
 use Rattle.job.specs.Refusal.{done, refused, ◌>>=◌, ◌>>◌, demand}
 use Rattle.job.specs.Words.{Job, capacity, IsJob, IsHolding, IsOrder}
 use Rattle.job.specs.Handed.{all_curves, held_known, wants_fit, job_known}
@@ -18,8 +19,6 @@ use Rattle.job.proofs.HeldExact.{held_exact}
 use Rattle.job.proofs.OrderExact.{order_exact, own_tests}
 use Rattle.job.proofs.Orders.{order_length}
 use Rattle.lists.proofs.Overwritten.{sets_front}
-use Rattle.drive.specs.declared.Checked.{Checked}
-use Rattle.drive.specs.declared.Checked.TheVariants.{Ends, Breaks}
 use Rattle.drive.specs.Steps.{held_after, curve_count}
 use Rattle.drive.specs.Check.{check_from}
 use Rattle.drive.proofs.CheckExact.{check_held}
@@ -96,7 +95,7 @@ module _ (j : Job) (held : ℕ) (order : List ℕ) (p : Plan) where
   check_refused k i e = refused_both _ _ k i e
 
   -- what the check of the steps answers
-  abbrev pub steps_checked : Checked
+  abbrev pub steps_checked : Result ℕ ℕ
   steps_checked = check_from (capacity j.rig) (all_curves j.rig.curves) 0 held (plan_moves j order p)
 
   -- the end set is what is held, or not
@@ -114,12 +113,12 @@ module _ (j : Job) (held : ℕ) (order : List ℕ) (p : Plan) where
     check_sets k i e = done_both _ _ known ∙ refused_both _ _ k i e
 
     module _ (sets : sets_known (length j.wants) (length p.drops) (length p.loads) ≡ done tt) where
-      pub check_broken : (i : ℕ) → steps_checked ≡ Breaks i → checking j held order p ≡ refused 12 i
+      pub check_broken : (i : ℕ) → steps_checked ≡ Err i → checking j held order p ≡ refused 12 i
       unfolding checking checked_outcome ◌>>◌
       check_broken i e = done_both _ _ known ∙ done_both _ _ sets ∙ rw e refl
 
       -- steps that end with h held
-      module _ (h : ℕ) (ends : steps_checked ≡ Ends h) where
+      module _ (h : ℕ) (ends : steps_checked ≡ Ok h) where
         left : h ≡ held_after held (plan_sets j order p)
         left = (check_held (capacity j.rig) (all_curves j.rig.curves) 0 held (plan_moves j order p) h ends).0
 

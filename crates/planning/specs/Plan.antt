@@ -1,9 +1,9 @@
 -- "Plans": a plan as it is handed over, its steps with their tests, and the wants of the steps. 02 is the document of changes, and "wish" its word for one.
 use Rattle.std.specs.Prelude.{List, [], ◌∷◌, ℕ, min, length, get_or, take}
-use Rattle.job.specs.Refusal.{Outcome, done, refused, number, figure, mapped, leaves}
+use Rattle.job.specs.Refusal.{Outcome, mapped, leaves}
 use Rattle.drive.specs.declared.Sets.{Sets}
+pub use Rattle.planning.specs.declared.CountEnd.{CountEnd}
 use Rattle.drive.specs.Steps.{drops_of, loads_of, held_after, load_count}
-use Rattle.planning.specs.declared.PlanCounted.{PlanCounted}
 
 -- "a plan is a drop set and a load set for each step, the order giving the steps' tests"; and 02, wish 1, of the end step: "Handed over, it is one set beside
 -- the drops, 0 for none", "a plan in demand 3 has it too". In the rules the steps are a list of `Sets`; handed over, two lists.
@@ -42,19 +42,9 @@ entries l = min (length l.drops) (length l.loads)
 abbrev pub leaves_plan : {A : Type 0} → (A → Plan) → Outcome A → SetLists → SetLists
 leaves_plan plan o old = set_lists (leaves (mapped (λ a. (plan a).drops) o) old.drops) (leaves (mapped (λ a. (plan a).loads) o) old.loads)
 
--- wish 1: "planning answers it beside the load count": a count, of loads or of steps, and the end set
-pub record CountEnd : Type 0 where
-  pub count : ℕ
-  pub end : ℕ
-
 -- the load count and the end set of some steps, from what is held before the first
 abbrev pub count_end : ℕ → List Sets → CountEnd
 count_end held ss = record { count = load_count ss; end = held_after held ss }
-
--- "Any answer that is an enum has a definition that gives this paper's number and values": of a function that answers a count and an end set
-unfoldable pub plan_outcome : PlanCounted → Outcome CountEnd
-plan_outcome (PlanCounted.Count n end) = done (record { count = n; end = end })
-plan_outcome (PlanCounted.Refused r) = refused (number r) (figure r)
 
 -- "A step names one test, a drop set and a load set."
 pub record Step : Type 0 where

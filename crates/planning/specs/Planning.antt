@@ -1,14 +1,13 @@
 -- Planning and checking: "planning 8, 7, 9"; "checking 8, 12", after 10, 13 and 14; with the end set of 02, wish 1. `held` is what wish 6 calls "the curves now
 -- held": "The new rest is planned from the curves now held, without unloading"; "Plans from an empty drive are the case of nothing held", 0; "The plan check
 -- takes the holding as well."
+use Rattle.std.specs.Prelude.{Result, Ok, Err}
 use Rattle.std.specs.Prelude.{◌&&◌, List, ℕ, min, length, eqb}
 use Rattle.job.specs.Refusal.{Outcome, done, refused, ◌>>=◌, ◌>>◌, mapped, demand, room}
 use Rattle.job.specs.Words.{Job, capacity}
 use Rattle.job.specs.Handed.{all_curves}
 use Rattle.job.specs.Calls.{checking_known, planning_known}
 use Rattle.drive.specs.declared.Sets.{Sets}
-use Rattle.drive.specs.declared.Checked.{Checked}
-use Rattle.drive.specs.declared.Checked.TheVariants.{Ends, Breaks}
 use Rattle.drive.specs.Steps.{Move, sets_of, held_after, moves, curve_count}
 use Rattle.drive.specs.Check.{check_from}
 use Rattle.drive.specs.Plan.{furthest, plan_from}
@@ -40,9 +39,9 @@ unfoldable pub sets_known : ℕ → ℕ → ℕ → Outcome (Unit {0})
 sets_known n drops loads = demand (eqb drops n && eqb loads n) 12 (min (min drops loads) n)
 
 -- 12: "first step breaking a rule"
-unfoldable pub checked_outcome : Checked → Outcome (Unit {0})
-checked_outcome (Ends held) = done tt
-checked_outcome (Breaks i) = refused 12 i
+unfoldable pub checked_outcome : Result ℕ ℕ → Outcome (Unit {0})
+checked_outcome (Ok held) = done tt
+checked_outcome (Err i) = refused 12 i
 
 -- the moves of a plan, "the order giving the steps' tests"
 abbrev pub plan_moves : Job → List ℕ → Plan → List Move

@@ -2,22 +2,21 @@
 // Plans of a job: the examination of an order, our plan, and the plan check. The rules of one drive are those of `drive`.
 ghost use Rattle.std.specs.Prelude.{◌≡◌, ◌≤◌, min, length};
 ghost use Rattle.std.proofs.lemmas.List.Edits.{sets};
-ghost use Rattle.job.specs.Refusal.{examined_outcome, count_outcome};
+ghost use Rattle.job.specs.Refusal.{outcome};
 ghost use Rattle.job.specs.Words.{job_of};
 ghost use Rattle.drive.specs.Steps.{curve_count};
-ghost use Rattle.planning.specs.Plan.{plan_of, set_lists, plan_outcome, in_order};
+ghost use Rattle.planning.specs.Plan.{plan_of, set_lists, in_order};
 ghost use Rattle.planning.specs.Planning.{plan_answer, plan_lists, sets_known, checking};
 ghost use Rattle.planning.specs.Demand3.{Demand3};
 ghost use Rattle.planning.specs.ContractWords.{tests_answer, tests_lists};
 
-use drive::Checked;
-use job::{Counted, Examined, Refusal, Rig};
+use job::{Refusal, Rig};
 
-// What a call answers that makes or reads a plan: a count, of loads or of steps, and the end set, 0 for none.
+// 02, wish 1: "planning answers it beside the load count": a count, of loads or of steps, and the end set, 0 for none.
 #[derive(Clone, Copy)]
-pub enum PlanCounted {
-    Count(usize, u64),
-    Refused(Refusal),
+pub struct CountEnd {
+    pub count: usize,
+    pub end: u64,
 }
 
 // The smaller of two numbers.
@@ -28,15 +27,15 @@ fn smaller(a: usize, b: usize) -> usize
 }
 
 // 12: "first missing or surplus position of the drops or loads, the smaller", of the lengths of three lists.
-pub fn examine_sets(tests: usize, drops: usize, loads: usize) -> Examined
-    ensures { examined_outcome result ≡ sets_known tests drops loads }
+pub fn examine_sets(tests: usize, drops: usize, loads: usize) -> Result<(), Refusal>
+    ensures { outcome result ≡ sets_known tests drops loads }
 {
     if drops == tests {
         if loads == tests {
-            return Examined::Passed;
+            return Ok(());
         }
     }
-    Examined::Refused(Refusal::PlanRejected(smaller(smaller(drops, loads), tests)))
+    Err(Refusal::PlanRejected(smaller(smaller(drops, loads), tests)))
 }
 
 // The steps' wants, "the order giving the steps' tests", into the first entries of the list lent, as far as it has entries.
@@ -74,27 +73,23 @@ pub fn check_plan(
     drops: &[u64],
     loads: &[u64],
     end: u64,
-) -> Counted
-    ensures { count_outcome result ≡ checking (job_of rig wants.now) held order.now (plan_of drops.now loads.now end) }
+) -> Result<usize, Refusal>
+    ensures { outcome result ≡ checking (job_of rig wants.now) held order.now (plan_of drops.now loads.now end) }
 {
-    if let Examined::Refused(r) = job::examine_checking(rig, wants, held, order) {
-        return Counted::Refused(r);
-    }
+    job::examine_checking(rig, wants, held, order)?;
     let tests = wants.len();
-    if let Examined::Refused(r) = examine_sets(tests, drops.len(), loads.len()) {
-        return Counted::Refused(r);
-    }
+    examine_sets(tests, drops.len(), loads.len())?;
     let mut steps = [0u64; job::MOST_TESTS];
     in_order(wants, order, &mut steps);
     let all = bitset::below(rig.curves);
     let capacity = job::capacity(rig);
     match drive::check_steps(capacity, all, held, &steps[..tests], drops, loads) {
-        Checked::Breaks(i) => Counted::Refused(Refusal::PlanRejected(i)),
-        Checked::Ends(left) => {
+        Err(i) => Err(Refusal::PlanRejected(i)),
+        Ok(left) => {
             if end != left {
-                return Counted::Refused(Refusal::PlanRejected(tests));
+                return Err(Refusal::PlanRejected(tests));
             }
-            Counted::Count(count_curves(loads))
+            Ok(count_curves(loads))
         }
     }
 }
@@ -108,25 +103,28 @@ pub fn plan_tests(
     order: &[u16],
     drops: &mut [u64],
     loads: &mut [u64],
-) -> PlanCounted
-    ensures answer { plan_outcome result ≡ tests_answer capacity wants.now held order.now (set_lists drops.old loads.old) }
+) -> Result<CountEnd, Refusal>
+    ensures answer { outcome result ≡ tests_answer capacity wants.now held order.now (set_lists drops.old loads.old) }
     ensures lists { set_lists drops.new loads.new ≡ tests_lists capacity wants.now held order.now (set_lists drops.old loads.old) }
 {
     let tests = order.len();
     if job::MOST_TESTS < tests {
-        return PlanCounted::Refused(Refusal::BadArgument(2));
+        return Err(Refusal::BadArgument(2));
     }
     if drops.len() < tests {
-        return PlanCounted::Refused(Refusal::BufferTooSmall(tests));
+        return Err(Refusal::BufferTooSmall(tests));
     }
     if loads.len() < tests {
-        return PlanCounted::Refused(Refusal::BufferTooSmall(tests));
+        return Err(Refusal::BufferTooSmall(tests));
     }
     let mut steps = [0u64; job::MOST_TESTS];
     in_order(wants, order, &mut steps);
     // 02, wish 1: the end step "drops all that is held".
     let end = drive::plan_steps(capacity, held, &steps[..tests], drops, loads);
-    PlanCounted::Count(count_curves(&loads[..tests]), end)
+    Ok(CountEnd {
+        count: count_curves(&loads[..tests]),
+        end,
+    })
 }
 
 // Our plan for one job and one order of its tests, from the curves now held. "planning 8, 7, 9", after 10, 13 and 14.
@@ -137,14 +135,12 @@ pub fn plan(
     order: &[u16],
     drops: &mut [u64],
     loads: &mut [u64],
-) -> PlanCounted
-    ensures answer { plan_outcome result ≡ plan_answer (job_of rig wants.now) held order.now (set_lists drops.old loads.old) }
+) -> Result<CountEnd, Refusal>
+    ensures answer { outcome result ≡ plan_answer (job_of rig wants.now) held order.now (set_lists drops.old loads.old) }
     ensures lists { set_lists drops.new loads.new ≡ plan_lists (job_of rig wants.now) held order.now (set_lists drops.old loads.old) }
-    ensures demand3 { Demand3 (job_of rig wants.now) held order.now (plan_outcome result) (set_lists drops.new loads.new) }
+    ensures demand3 { Demand3 (job_of rig wants.now) held order.now (outcome result) (set_lists drops.new loads.new) }
 {
-    if let Examined::Refused(r) = job::examine_planning(rig, wants, held, order) {
-        return PlanCounted::Refused(r);
-    }
+    job::examine_planning(rig, wants, held, order)?;
     let capacity = job::capacity(rig);
     plan_tests(capacity, wants, held, order, drops, loads)
 }

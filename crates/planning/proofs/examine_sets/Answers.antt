@@ -1,17 +1,17 @@
 -- `examine_sets` meets its contract.
 use mathlib.Core.Path.{◌≡◌, sym, ap, ◌∙◌}
 use Prim.Native.Nat.{ℕ, min}
-use Rattle.job.specs.Refusal.{examined_outcome}
+use Rattle.job.specs.Refusal.{outcome}
 use Rattle.planning.proofs.Sequence.{sets_known_lem, sets_drops, sets_loads}
 use Rattle.planning.proofs.examine_sets.Goals.{then-drops-tests+else-loads-tests, else-drops-tests}
 use Rattle.planning.proofs.examine_sets.Goals as goal
 
 pub returns-then-loads-tests : goal.returns-then-loads-tests
-unfolding examined_outcome
+unfolding outcome
 returns-then-loads-tests c = sym (sets_known_lem _ _ _ c.if-drops-tests.true c.if-loads-tests.true)
 
 pub returns : goal.returns
-unfolding examined_outcome
+unfolding outcome
 returns c =
     let a = c.args in
     let least : c.smaller-2.result ≡ min (min a.drops a.loads) a.tests =

@@ -4,14 +4,15 @@ use native.Mathlib.Omega.{arith}
 use lib.ListN.{length, take}
 use lib.Seq.{length-take-le}
 use Rattle.lists.proofs.Overwritten.{sets_front}
-use Rattle.planning.specs.Plan.{set_lists, plan_outcome, in_order}
+use Rattle.job.specs.Refusal.{outcome}
+use Rattle.planning.specs.Plan.{set_lists, in_order}
 use Rattle.planning.proofs.Turns.{length_in_order}
 use Rattle.planning.proofs.Planned.{too_many, too_short, planned}
 use Rattle.planning.proofs.plan_tests.Goals.{After-in_order, After-plan_steps-end}
 use Rattle.planning.proofs.plan_tests.Goals as goal
 
 pub returns-then-tests-gt-MOST_TESTS : goal.returns-then-tests-gt-MOST_TESTS
-unfolding plan_outcome
+unfolding outcome
 returns-then-tests-gt-MOST_TESTS c =
     let a = c.args in
     let both =
@@ -19,7 +20,7 @@ returns-then-tests-gt-MOST_TESTS c =
     record { answer = both.0; lists = both.1 }
 
 pub returns-then-drops-tests : goal.returns-then-drops-tests
-unfolding plan_outcome
+unfolding outcome
 returns-then-drops-tests c =
     let a = c.args in
     let both =
@@ -27,7 +28,7 @@ returns-then-drops-tests c =
     record { answer = both.0; lists = both.1 }
 
 pub returns-then-loads-tests : goal.returns-then-loads-tests
-unfolding plan_outcome
+unfolding outcome
 returns-then-loads-tests c =
     let a = c.args in
     let both =
@@ -62,7 +63,7 @@ pub count_curves-requires : goal.count_curves-requires
 count_curves-requires c = omega (arith, long (goal.at.count_curves-requires c).After-plan_steps-end)
 
 pub returns : goal.returns
-unfolding plan_outcome
+unfolding outcome
 returns c =
     let a = c.args in
     let both =
