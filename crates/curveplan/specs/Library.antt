@@ -16,7 +16,8 @@ use Rattle.ordering.specs.Ordering.{ordering}
 use Rattle.drive.specs.declared.Sets.{Sets}
 use Rattle.drive.specs.Steps.{held_after, curve_count, load_count}
 use Rattle.drive.specs.Plan.{furthest, furthest_lowest, plan_from}
-use Rattle.planning.specs.Plan.{Plan, SetLists, first, CountEnd, in_order}
+use Rattle.planning.specs.declared.CountEnd.{CountEnd}
+use Rattle.planning.specs.Plan.{Plan, SetLists, first, in_order}
 use Rattle.planning.specs.Planning.{planning, plan_answer, plan_lists, plan_sets, checking}
 use Rattle.planning.specs.Demand3.{Demand3}
 use Rattle.stepping.specs.declared.State.{State}

@@ -5,7 +5,8 @@ use Rattle.job.specs.Refusal.{done, refused}
 use Rattle.job.specs.Words.{Job, job_of}
 use Rattle.job_bytes.specs.JobBytes.{request, read_job}
 use Rattle.ordering.specs.Ordering.{ordering}
-use Rattle.planning.specs.Plan.{SetLists, set_lists, CountEnd}
+use Rattle.planning.specs.declared.CountEnd.{CountEnd}
+use Rattle.planning.specs.Plan.{SetLists, set_lists}
 use Rattle.planning.specs.Planning.{plan_answer, plan_lists}
 use Rattle.curveplan.specs.Call.{job_to_plan}
 

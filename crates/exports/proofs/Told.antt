@@ -34,7 +34,8 @@ use Rattle.drive.specs.Steps.{Move}
 use Rattle.drive.specs.Check.{check_from}
 use Rattle.drive.proofs.CheckExact.{fault_within}
 use Rattle.drive.proofs.Moves.{length_moves}
-use Rattle.planning.specs.Plan.{Plan, SetLists, entries, CountEnd, in_order}
+use Rattle.planning.specs.declared.CountEnd.{CountEnd}
+use Rattle.planning.specs.Plan.{Plan, SetLists, entries, in_order}
 use Rattle.planning.specs.Planning.{sets_known, checked_outcome, plan_moves, end_known, checking, planning, plan_answer}
 use Rattle.planning.proofs.CheckExact.{passed, check_few}
 use Rattle.planning.proofs.Demand3.{demand3}

@@ -6,7 +6,7 @@ use Rattle.job.specs.declared.Rig.{Rig}
 use Rattle.job.specs.Refusal.{Outcome, done, refused, mapped}
 use Rattle.job.specs.Words.{Job, job_of}
 use Rattle.job_bytes.specs.SetBytes.{read_group}
-use Rattle.planning.specs.Plan.{CountEnd}
+use Rattle.planning.specs.declared.CountEnd.{CountEnd}
 use Rattle.exports.specs.declared.JobHead.{JobHead}
 
 -- the rig of numbers that are handed over one by one ..

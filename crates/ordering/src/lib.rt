@@ -1,12 +1,12 @@
 #![tactic(auto)]
 // The orders of the tests.
 ghost use Rattle.std.specs.Prelude.{◌≡◌, ◌≤◌, length};
-ghost use Rattle.job.specs.Refusal.{count_outcome, overwritten};
+ghost use Rattle.job.specs.Refusal.{outcome, overwritten};
 ghost use Rattle.job.specs.Words.{job_of};
 ghost use Rattle.ordering.specs.Methods.{order_by};
 ghost use Rattle.ordering.specs.Ordering.{order_answer, order_list};
 
-use job::{Counted, Examined, Refusal, Rig};
+use job::{Refusal, Rig};
 
 mod growing;
 
@@ -28,18 +28,21 @@ fn write_order(capacity: usize, method: usize, wants: &[u64], order: &mut [u16])
 
 // Orders the tests: "10 in its own order, then for ordering 7, 9". Answers the number of tests, which are in the first entries of the lent list; nothing
 // lent changes under a refusal.
-pub fn order_tests(rig: Rig, method: usize, wants: &[u64], order: &mut [u16]) -> Counted
-    ensures answer { count_outcome result ≡ order_answer method (job_of rig wants.now) order.old }
+pub fn order_tests(
+    rig: Rig,
+    method: usize,
+    wants: &[u64],
+    order: &mut [u16],
+) -> Result<usize, Refusal>
+    ensures answer { outcome result ≡ order_answer method (job_of rig wants.now) order.old }
     ensures list { order.new ≡ order_list method (job_of rig wants.now) order.old }
 {
-    if let Examined::Refused(r) = job::examine_ordering(rig, method, wants) {
-        return Counted::Refused(r);
-    }
+    job::examine_ordering(rig, method, wants)?;
     let n = wants.len();
     if order.len() < n {
-        return Counted::Refused(Refusal::BufferTooSmall(n));
+        return Err(Refusal::BufferTooSmall(n));
     }
     let capacity = job::capacity(rig);
     write_order(capacity, method, wants, order);
-    Counted::Count(n)
+    Ok(n)
 }

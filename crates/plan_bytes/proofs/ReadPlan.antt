@@ -11,7 +11,8 @@ use Rattle.job.specs.Handed.{counts_known}
 use Rattle.job.proofs.Laws.{done_same, both_done, bind_done, done_both, done_room, mapped_done, mapped_refused}
 use Rattle.plan_bytes.specs.PlanBytes.{Placed, Contents, tests_of, plan_in, read_step, read_steps, read_plan_bytes, plan_steps, read_plan, plan_read}
 use Rattle.plan_bytes.specs.PlanBytes.{read_plan_answer, read_plan_order, read_plan_lists}
-use Rattle.planning.specs.Plan.{SetLists, set_lists, entries, CountEnd}
+use Rattle.planning.specs.declared.CountEnd.{CountEnd}
+use Rattle.planning.specs.Plan.{SetLists, set_lists, entries}
 use Rattle.plan_bytes.proofs.Steps.{counts_passed, bytes_read}
 
 -- "There are as many steps as tests."

@@ -8,7 +8,8 @@ use Rattle.job.specs.Words.{Job}
 use Rattle.job.specs.Handed.{between, counts_known}
 use Rattle.job_bytes.specs.SetBytes.{stands, set_bytes, Got, got, byte_at, read_groups}
 use Rattle.job_bytes.specs.JobBytes.{at_end}
-use Rattle.planning.specs.Plan.{Plan, plan_of, SetLists, entries, leaves_plan, CountEnd, Step, steps}
+use Rattle.planning.specs.declared.CountEnd.{CountEnd}
+use Rattle.planning.specs.Plan.{Plan, plan_of, SetLists, entries, leaves_plan, Step, steps}
 use Rattle.planning.specs.Planning.{checking}
 use Rattle.plan_bytes.specs.declared.StepPart.{StepPart}
 

@@ -8,7 +8,8 @@ use Rattle.job.specs.declared.Refusal.{Refusal}
 use Rattle.job.specs.Refusal.{Outcome, done, refused, number, figure}
 use Rattle.job.proofs.Laws.{refused≢done, done_same}
 use Rattle.planning.specs.declared.PlanCounted.{PlanCounted}
-use Rattle.planning.specs.Plan.{CountEnd, plan_outcome}
+use Rattle.planning.specs.declared.CountEnd.{CountEnd}
+use Rattle.planning.specs.Plan.{plan_outcome}
 
 module _ (x : PlanCounted) (o : Outcome CountEnd) (told : plan_outcome x ≡ o) where
   -- the rule is done, so no refusal was answered

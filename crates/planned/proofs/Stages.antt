@@ -22,7 +22,8 @@ use Rattle.ordering.proofs.Complete.{order_complete}
 use Rattle.ordering.proofs.Ordered.{order_entries}
 use Rattle.drive.specs.declared.Sets.{Sets}
 use Rattle.planning.specs.declared.PlanCounted.{PlanCounted}
-use Rattle.planning.specs.Plan.{handed, SetLists, entries, leaves_plan, CountEnd, plan_outcome}
+use Rattle.planning.specs.declared.CountEnd.{CountEnd}
+use Rattle.planning.specs.Plan.{handed, SetLists, entries, leaves_plan, plan_outcome}
 use Rattle.planning.specs.Planning.{planning, plan_answer, plan_lists}
 use Rattle.planning.proofs.Planned.{plan_made, plan_not_made}
 use Rattle.planning.proofs.Sequence.{exact_known, planning_known_lem}

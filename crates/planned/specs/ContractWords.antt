@@ -5,7 +5,8 @@ use Rattle.job.specs.declared.Head.{Head}
 use Rattle.job.specs.Refusal.{Outcome, done, refused, number, figure, ◌>>=◌, ◌>>◌, mapped, room, leaves}
 use Rattle.job_bytes.specs.JobBytes.{read_bytes}
 use Rattle.drive.specs.Steps.{curve_count}
-use Rattle.planning.specs.Plan.{SetLists, entries, leaves_plan, CountEnd}
+use Rattle.planning.specs.declared.CountEnd.{CountEnd}
+use Rattle.planning.specs.Plan.{SetLists, entries, leaves_plan}
 use Rattle.planned.specs.declared.JobPlanned.{JobPlanned}
 use Rattle.planned.specs.Planned.{Planned, order_request, plan_job}
 

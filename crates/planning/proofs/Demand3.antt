@@ -24,7 +24,8 @@ use Rattle.drive.specs.Plan.{furthest}
 use Rattle.drive.proofs.Moves.{wants_of_lem, loads_of_lem, length_plan}
 use Rattle.drive.proofs.Holdings.{AllFit}
 use Rattle.drive.proofs.Best.{furthest_passes, furthest_is_fewest}
-use Rattle.planning.specs.Plan.{Plan, handed, SetLists, first, entries, CountEnd, count_end, in_order}
+use Rattle.planning.specs.declared.CountEnd.{CountEnd}
+use Rattle.planning.specs.Plan.{Plan, handed, SetLists, first, entries, count_end, in_order}
 use Rattle.planning.specs.Planning.{our_plan, planning, plan_answer, plan_lists, checking}
 use Rattle.planning.specs.Demand3.{Demand3}
 use Rattle.planning.proofs.Sequence.{known_exact, exact_known, planning_parts, planning_known_lem, steps_length, sets_known_lem, check_ended, plan_refused}

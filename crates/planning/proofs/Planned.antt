@@ -19,7 +19,8 @@ use Rattle.drive.specs.Steps.{held_after, drops_of, loads_of, curve_count, load_
 use Rattle.drive.specs.Plan.{furthest, plan_from}
 use Rattle.drive.proofs.Moves.{length_plan}
 use Rattle.drive.proofs.Width.{plan_width}
-use Rattle.planning.specs.Plan.{SetLists, set_lists, entries, CountEnd, in_order}
+use Rattle.planning.specs.declared.CountEnd.{CountEnd}
+use Rattle.planning.specs.Plan.{SetLists, set_lists, entries, in_order}
 use Rattle.planning.specs.Planning.{our_plan, planning, plan_answer, plan_lists}
 use Rattle.planning.specs.Demand3.{Demand3}
 use Rattle.planning.specs.ContractWords.{plan_tests, tests_answer, tests_lists}

@@ -4,7 +4,8 @@ use Rattle.job.specs.Refusal.{Outcome, done, ◌>>=◌, ◌>>◌, mapped, room}
 use Rattle.job.specs.Handed.{tests_known}
 use Rattle.drive.specs.declared.Sets.{Sets}
 use Rattle.drive.specs.Plan.{furthest, plan_from}
-use Rattle.planning.specs.Plan.{handed, SetLists, entries, leaves_plan, CountEnd, count_end, in_order}
+use Rattle.planning.specs.declared.CountEnd.{CountEnd}
+use Rattle.planning.specs.Plan.{handed, SetLists, entries, leaves_plan, count_end, in_order}
 
 module _ (capacity : ℕ) (wants : List ℕ) (held : ℕ) (order : List ℕ) (lent : SetLists) where
   -- 10 and 9, of the lists alone

@@ -6,7 +6,8 @@ use Rattle.bitset.specs.Set.{size}
 use Rattle.job.specs.Refusal.{Outcome, done, refused}
 use Rattle.job.specs.Words.{Job, capacity, IsJob, IsHolding, IsOrder}
 use Rattle.drive.specs.Steps.{curve_count}
-use Rattle.planning.specs.Plan.{Plan, handed, SetLists, first, entries, CountEnd}
+use Rattle.planning.specs.declared.CountEnd.{CountEnd}
+use Rattle.planning.specs.Plan.{Plan, handed, SetLists, first, entries}
 use Rattle.planning.specs.Planning.{our_plan, checking}
 
 -- Of what planning answered, and of what the drops and loads lent to it hold afterwards, for one job, one holding and one order.

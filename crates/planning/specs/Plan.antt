@@ -2,7 +2,7 @@
 use Rattle.std.specs.Prelude.{List, [], ◌∷◌, ℕ, min, length, get_or, take}
 use Rattle.job.specs.Refusal.{Outcome, mapped, leaves}
 use Rattle.drive.specs.declared.Sets.{Sets}
-pub use Rattle.planning.specs.declared.CountEnd.{CountEnd}
+use Rattle.planning.specs.declared.CountEnd.{CountEnd}
 use Rattle.drive.specs.Steps.{drops_of, loads_of, held_after, load_count}
 
 -- "a plan is a drop set and a load set for each step, the order giving the steps' tests"; and 02, wish 1, of the end step: "Handed over, it is one set beside

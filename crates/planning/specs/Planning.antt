@@ -11,7 +11,8 @@ use Rattle.drive.specs.declared.Sets.{Sets}
 use Rattle.drive.specs.Steps.{Move, sets_of, held_after, moves, curve_count}
 use Rattle.drive.specs.Check.{check_from}
 use Rattle.drive.specs.Plan.{furthest, plan_from}
-use Rattle.planning.specs.Plan.{Plan, handed, SetLists, entries, leaves_plan, CountEnd, count_end, in_order}
+use Rattle.planning.specs.declared.CountEnd.{CountEnd}
+use Rattle.planning.specs.Plan.{Plan, handed, SetLists, entries, leaves_plan, count_end, in_order}
 
 -- "Our plan", from what is held; "If more is held than now fits, the first step drops down by the usual rule"
 unfoldable pub our_plan : Job → ℕ → List ℕ → List Sets

@@ -13,7 +13,8 @@ use Rattle.job.proofs.Laws.{both_done, done_room, mapped_done, mapped_refused, d
 use Rattle.lists.proofs.Overwritten.{front}
 use Rattle.drive.specs.Steps.{load_count}
 use Rattle.planning.specs.declared.PlanCounted.{PlanCounted}
-use Rattle.planning.specs.Plan.{Plan, SetLists, first, entries, CountEnd, count_end, plan_outcome}
+use Rattle.planning.specs.declared.CountEnd.{CountEnd}
+use Rattle.planning.specs.Plan.{Plan, SetLists, first, entries, count_end, plan_outcome}
 use Rattle.planning.specs.Planning.{planning, checking, plan_answer}
 use Rattle.planning.proofs.Planned.{plan_made, plan_not_made}
 use Rattle.plan_bytes.specs.PlanBytes.{Contents, tests_of, plan_in, plan_steps, read_plan, plan_read, read_plan_bytes, read_plan_answer, read_plan_order, read_plan_lists}

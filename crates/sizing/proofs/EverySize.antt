@@ -22,7 +22,8 @@ use Rattle.drive.specs.Plan.{furthest, plan_from}
 use Rattle.every_size.specs.Sizes.{largest, count_for, all_sizes}
 use Rattle.every_size.proofs.LoadCounts.{too_small, large_enough, together_few, counted, unreached, marked, falling, entry_at_least, entry_reached, length_sizes, size_at}
 use Rattle.every_size.proofs.LoadCounts.{serves_exact, serves_not, fewest_found, fewest_none}
-use Rattle.planning.specs.Plan.{SetLists, entries, CountEnd, count_end, in_order}
+use Rattle.planning.specs.declared.CountEnd.{CountEnd}
+use Rattle.planning.specs.Plan.{SetLists, entries, count_end, in_order}
 use Rattle.planning.specs.Planning.{our_plan, planning, plan_answer}
 use Rattle.planning.proofs.Turns.{length_in_order}
 use Rattle.planning.proofs.Sequence.{planning_parts, plan_done}

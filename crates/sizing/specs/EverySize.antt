@@ -6,7 +6,8 @@ use Rattle.job.specs.Refusal.{done}
 use Rattle.job.specs.Words.{Job, job_of}
 use Rattle.drive.specs.Steps.{together}
 use Rattle.every_size.specs.Sizes.{mark, fewest_places}
-use Rattle.planning.specs.Plan.{SetLists, entries, CountEnd}
+use Rattle.planning.specs.declared.CountEnd.{CountEnd}
+use Rattle.planning.specs.Plan.{SetLists, entries}
 use Rattle.planning.specs.Planning.{plan_answer}
 
 -- the list for a drive with so many places, "none booked"

@@ -8,20 +8,21 @@ use lib.ListN.{length, replicate, length-replicate}
 use lib.Seq.{sets}
 use Rattle.lists.specs.Lent.{overwritten}
 use Rattle.lists.proofs.Overwritten.{front, sets_whole}
-use Rattle.job.specs.Refusal.{Outcome, done, refused, mapped}
+use Rattle.job.specs.Refusal.{Outcome, done, refused}
 use Rattle.job.specs.Words.{Job, capacity}
 use Rattle.job.specs.Calls.{planning_known}
 use Rattle.job.proofs.Laws.{done_same, both_done, done_both, refused≢done}
 use Rattle.job.proofs.Examination.{refused_both}
 use Rattle.drive.specs.declared.Sets.{Sets}
 use Rattle.drive.specs.Plan.{furthest, plan_from}
-use Rattle.planning.specs.Plan.{Plan, handed, SetLists, first, CountEnd, in_order}
+use Rattle.planning.specs.declared.CountEnd.{CountEnd}
+use Rattle.planning.specs.Plan.{Plan, handed, SetLists, first, in_order}
 use Rattle.planning.specs.Planning.{our_plan, planning, plan_answer, plan_lists}
 use Rattle.planning.proofs.Sequence.{known_exact, planning_parts, steps_length, plan_refused, plan_done}
 use Rattle.planning.proofs.Planned.{ours}
 use Rattle.planning.proofs.Demand3.{demand3}
 use Rattle.stepping.specs.declared.State.{State}
-use Rattle.stepping.specs.Stepping.{step_wants, making, tests_made, nothing, state_made}
+use Rattle.stepping.specs.Stepping.{step_wants, making}
 use Rattle.stepping.specs.InTurn.{shown, InTurn}
 use Rattle.stepping.proofs.Ahead.{ahead, to_come}
 use Rattle.stepping.proofs.InTurn.{in_turn_lem}
@@ -46,25 +47,16 @@ module _ (j : Job) (held : ℕ) (order : List ℕ) where
   unfolding making
   made_refused k i e = refused_both _ _ k i e
 
-  -- ---- what is answered when a state is made
-
-  pub not_made : (k i : ℕ) → planning_known j held order ≡ refused k i
-      → (refused k i ≡ tests_made (making j held order)) × (nothing ≡ state_made (making j held order))
-  unfolding state_made mapped
-  not_made k i e = let r = made_refused k i e in (sym (rw r refl), sym (rw r refl))
-
+  -- ---- the state that is answered
   pub is_made : planning_known j held order ≡ done tt → (most : ℕ) (wants : List ℕ) → most ≡ capacity j.rig
       → wants ≡ sets (replicate 256 0) 0 (in_order j.wants order)
-      → (done (length j.wants) ≡ tests_made (making j held order))
-      × (record { capacity = most; held = held; committed = 0; tests = length j.wants; wants = wants } ≡ state_made (making j held order))
-  unfolding state_made mapped
+      → done (record { capacity = most; held = held; committed = 0; tests = length j.wants; wants = wants }) ≡ making j held order
   is_made e most wants m w =
       let known = (planning_parts j held order e).0 in
       let few = (known_exact j held order known).0.tests_bound in
       let long = steps_length j held order known in
       let whole = sets_whole (in_order j.wants order) (replicate 256 0) (omega (arith, length-replicate {A = ℕ} 256 0)) in
-      let d = made_done e in
-      (sym (rw d refl), rw (m, w, whole) (sym (rw d refl)))
+      rw (m, w, whole) (sym (made_done e))
 
   -- "refused as in planning"
   pub refused_as_planning : (lent : ℕ) → length j.wants ≤ lent → (k i : ℕ) → making j held order ≡ refused k i ↔ planning j held order lent ≡ refused k i

@@ -4,7 +4,7 @@
 use Rattle.std.specs.Prelude.{Bool, true, false, not, ◌&&◌, List, [], ◌∷◌, ℕ, zero, suc, eqb, length, take, replicate}
 use Rattle.bitset.specs.Set.{◌∖◌}
 use Rattle.lists.specs.Lent.{overwritten}
-use Rattle.job.specs.Refusal.{Outcome, done, refused, number, figure, ◌>>◌, mapped, demand}
+use Rattle.job.specs.Refusal.{Outcome, done, refused, ◌>>◌, mapped, demand}
 use Rattle.job.specs.Words.{Job, capacity}
 use Rattle.job.specs.Calls.{planning_known}
 use Rattle.drive.specs.Steps.{moved}
@@ -13,7 +13,6 @@ use Rattle.planning.specs.Plan.{in_order}
 use Rattle.stepping.specs.declared.State.{State}
 use Rattle.stepping.specs.declared.NextStep.{NextStep}
 use Rattle.stepping.specs.declared.NextStep.TheVariants.{Step, End, Done}
-use Rattle.stepping.specs.declared.CommitAnswer.{CommitAnswer}
 
 -- ---- the next step
 
@@ -94,20 +93,15 @@ making j held order = do
     wants = overwritten (in_order j.wants order) (replicate 256 0);
   })
 
--- what is answered of it: the number of tests
+-- the number of its tests, or the refusal
 abbrev pub tests_made : Outcome State → Outcome ℕ
 tests_made o = mapped (λ s. s.tests) o
 
--- by value something has to stand in the place of a state that is not made: one that is done
+-- a state that is done, with nothing in it
 abbrev pub nothing : State
 nothing = record { capacity = 0; held = 0; committed = 0; tests = 0; wants = replicate 256 0 }
 
--- the state that is handed back
+-- the state itself; in the place of one that is not made, one that is done
 unfoldable pub state_made : Outcome State → State
 state_made (done s) = s
 state_made (refused k i) = nothing
-
--- "Any answer that is an enum has a definition that gives this paper's number and values": of a commit
-unfoldable pub commit_outcome : CommitAnswer → Outcome NextStep
-commit_outcome (CommitAnswer.Carried l) = done l
-commit_outcome (CommitAnswer.Refused r) = refused (number r) (figure r)

@@ -1,13 +1,12 @@
 #![tactic(auto)]
 // A list of tests that is carried out step by step: 02, wish 7, "Look, then commit". The host looks at the next step, and commits it when the drive has moved.
 ghost use Rattle.std.specs.Prelude.{◌≡◌, min};
-ghost use Rattle.job.specs.Refusal.{count_outcome};
+ghost use Rattle.job.specs.Refusal.{outcome};
 ghost use Rattle.job.specs.Words.{job_of};
-ghost use Rattle.stepping.specs.Stepping.{look_at, is_done, held_behind, commit_at, look, commit, after_commit, making, tests_made, nothing, state_made};
-ghost use Rattle.stepping.specs.Stepping.{commit_outcome};
+ghost use Rattle.stepping.specs.Stepping.{look_at, is_done, held_behind, commit_at, look, commit, after_commit, making};
 
 use drive::Sets;
-use job::{Counted, Examined, Refusal, Rig};
+use job::{Refusal, Rig};
 
 // Where a list stands, 02's "state": how many curves the drive can hold, those it holds, how many steps were committed, the end step among them, and the wants
 // of the steps in their order, in the first of so many entries as there are tests.
@@ -27,27 +26,6 @@ pub enum NextStep {
     Step(Sets),
     End(u64),
     Done,
-}
-
-// What making a state answers: the number of tests, and the state; under a refusal one that is done.
-#[derive(Clone, Copy)]
-pub struct Made {
-    pub answer: Counted,
-    pub state: State,
-}
-
-// What a commit answers: the step that was carried out.
-#[derive(Clone, Copy)]
-pub enum CommitAnswer {
-    Carried(NextStep),
-    Refused(Refusal),
-}
-
-// What a commit answers, and the state that it leaves.
-#[derive(Clone, Copy)]
-pub struct Committed {
-    pub answer: CommitAnswer,
-    pub state: State,
 }
 
 // ---- steps whose wants stand in a list
@@ -99,16 +77,16 @@ pub fn commit_at(
     committed: usize,
     wants: &[u64],
     position: usize,
-) -> CommitAnswer
-    ensures { commit_outcome result ≡ commit_at capacity held committed wants.now position }
+) -> Result<NextStep, Refusal>
+    ensures { outcome result ≡ commit_at capacity held committed wants.now position }
 {
     if position == committed {
         let next = look_at(capacity, held, committed, wants);
         if !is_done(next) {
-            return CommitAnswer::Carried(next);
+            return Ok(next);
         }
     }
-    CommitAnswer::Refused(Refusal::NotNext(committed))
+    Err(Refusal::NotNext(committed))
 }
 
 // ---- states by value
@@ -117,78 +95,53 @@ pub fn commit_at(
 pub fn steps_of(tests: usize) -> usize
     ensures { result ≡ min tests 256 }
 {
-    if job::MOST_TESTS < tests {
-        job::MOST_TESTS
-    } else {
-        tests
-    }
-}
-
-// A state that is done.
-fn nothing() -> State
-    ensures { result ≡ nothing }
-{
-    State {
-        capacity: 0,
-        held: 0,
-        committed: 0,
-        tests: 0,
-        wants: [0u64; 256],
-    }
+    tests.min(job::MOST_TESTS)
 }
 
 // Makes a state of a list, an order of its tests and the curves held. "refused as in planning": 10, 13, 14, 8, 7.
-pub fn make_state(rig: Rig, wants: &[u64], held: u64, order: &[u16]) -> Made
-    ensures answer { count_outcome result.answer ≡ tests_made (making (job_of rig wants.now) held order.now) }
-    ensures state { result.state ≡ state_made (making (job_of rig wants.now) held order.now) }
+pub fn make_state(rig: Rig, wants: &[u64], held: u64, order: &[u16]) -> Result<State, Refusal>
+    ensures { outcome result ≡ making (job_of rig wants.now) held order.now }
 {
-    if let Examined::Refused(r) = job::examine_planning(rig, wants, held, order) {
-        return Made {
-            answer: Counted::Refused(r),
-            state: nothing(),
-        };
-    }
-    let tests = wants.len();
+    job::examine_planning(rig, wants, held, order)?;
     let mut steps = [0u64; 256];
     planning::in_order(wants, order, &mut steps);
-    Made {
-        answer: Counted::Count(tests),
-        state: State {
-            capacity: job::capacity(rig),
-            held,
-            committed: 0,
-            tests,
-            wants: steps,
-        },
-    }
+    Ok(State {
+        capacity: job::capacity(rig),
+        held,
+        committed: 0,
+        tests: wants.len(),
+        wants: steps,
+    })
 }
 
 // The next step.
-pub fn look(state: State) -> NextStep
-    ensures { result ≡ look state }
+pub fn look(state: &State) -> NextStep
+    ensures { result ≡ look state.now }
 {
-    let wants = state.wants;
     let end = steps_of(state.tests);
-    look_at(state.capacity, state.held, state.committed, &wants[..end])
+    look_at(
+        state.capacity,
+        state.held,
+        state.committed,
+        &state.wants[..end],
+    )
 }
 
-// Carries out the step at a position, and answers it. 15.
-pub fn commit(state: State, position: usize) -> Committed
-    ensures answer { commit_outcome result.answer ≡ commit state position }
-    ensures state { result.state ≡ after_commit state position }
+// Carries out the step at a position, and answers it. 15, which leaves the state as it was.
+pub fn commit(state: &mut State, position: usize) -> Result<NextStep, Refusal>
+    ensures answer { outcome result ≡ commit state.old position }
+    ensures state { state.new ≡ after_commit state.old position }
 {
-    let wants = state.wants;
     let end = steps_of(state.tests);
     let done = state.committed;
-    let answer = commit_at(state.capacity, state.held, done, &wants[..end], position);
-    if let CommitAnswer::Carried(step) = answer {
-        let mut after = state;
-        after.held = held_behind(state.held, step);
-        after.committed = done + 1;
-        return Committed {
-            answer,
-            state: after,
-        };
-    }
-    Committed { answer, state }
+    let step = commit_at(
+        state.capacity,
+        state.held,
+        done,
+        &state.wants[..end],
+        position,
+    )?;
+    state.held = held_behind(state.held, step);
+    state.committed = done + 1;
+    Ok(step)
 }

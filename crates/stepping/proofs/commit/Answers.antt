@@ -1,66 +1,53 @@
--- `commit` meets its contract.
-use mathlib.Core.Path.{◌≡◌, refl, sym, ap, ◌∙◌}
+-- `commit` meets its contract: a step that is answered is carried out, and a refusal leaves the state as it was.
+use mathlib.Core.Path.{◌≡◌, sym, ap, ◌∙◌}
 use mathlib.Core.List.{List}
 use Prim.Native.Nat.{ℕ}
 use native.Mathlib.Omega.{arith}
-use lib.ListN.{length}
-use Rattle.job.specs.Refusal.{done, number, figure}
+use lib.ListN.{length, take}
+use Rattle.job.specs.Refusal.{Outcome, outcome, number, figure}
+use Rattle.job.proofs.Laws.{handed_on}
 use Rattle.stepping.specs.declared.NextStep.{NextStep}
-use Rattle.stepping.specs.declared.CommitAnswer.{CommitAnswer}
-use Rattle.stepping.specs.Stepping.{commit_at, commit, commit_outcome}
-use Rattle.stepping.proofs.Entries.{few_steps, count_steps, first_entries, few_wants}
+use Rattle.stepping.specs.Stepping.{commit_at, commit}
+use Rattle.stepping.proofs.Entries.{first_entries, few_wants}
 use Rattle.stepping.proofs.Exact.{carried_within, moved_on, unchanged}
-use Rattle.stepping.proofs.commit.Goals.{After-commit_at-answer, Start}
+use Rattle.stepping.proofs.commit.Goals.{Start, After-steps_of-end}
 use Rattle.stepping.proofs.commit.Goals as goal
 
 -- a state has 256 entries
-entries : (c : Start) → length c.args.state.wants ≡ 256
+entries : (c : Start) → length c.args.state.now.wants ≡ 256
 entries c = omega arith
 
-pub slice_bounds-wants-end : goal.slice_bounds-wants-end
-slice_bounds-wants-end c =
-    let s = c.args.state in
-    few_steps s.wants s.tests c.steps_of-end.result (entries (goal.at.slice_bounds-wants-end c).Start) c.steps_of-end.ensures
-
-pub slice_bounds-commit_at-end : goal.slice_bounds-commit_at-end
-slice_bounds-commit_at-end c =
-    let s = c.args.state in
-    count_steps s.wants s.tests c.steps_of-end.result (entries (goal.at.slice_bounds-commit_at-end c).Start) c.steps_of-end.ensures
-
 -- what is answered
-answers : (c : After-commit_at-answer) → let a = c.args in commit_outcome c.commit_at-answer.result ≡ commit a.state a.position
-answers c =
-    let s = c.args.state in
-    c.commit_at-answer.ensures ∙ ap (λ (ws : List ℕ). commit_at s.capacity s.held s.committed ws c.args.position)
-    (first_entries s.wants s.tests c.steps_of-end.result (entries (goal.at.After-commit_at-answer c).Start) c.steps_of-end.ensures)
+answers : (c : After-steps_of-end) (o : Outcome NextStep)
+    → let s = c.args.state.now in
+    o ≡ commit_at s.capacity s.held s.committed (take c.steps_of-end.result s.wants) c.args.position → o ≡ commit s c.args.position
+answers c o e =
+    let s = c.args.state.now in
+    e ∙ ap (λ (ws : List ℕ). commit_at s.capacity s.held s.committed ws c.args.position)
+    (first_entries s.wants s.tests c.steps_of-end.result (entries (goal.at.After-steps_of-end c).Start) c.steps_of-end.ensures)
 
--- a step that was carried out
-carried_is : (c : After-commit_at-answer) (l : NextStep) → c.commit_at-answer.result ≡ CommitAnswer.Carried l
-    → let a = c.args in commit a.state a.position ≡ done l
-unfolding commit_outcome
-carried_is c l e =
-    sym (answers c) ∙ rw e refl
+pub returns-in_err-step : goal.returns-in_err-step
+unfolding outcome
+returns-in_err-step c =
+    let x = c.in_err-step.field-0.0 in
+    let e = answers (goal.at.returns-in_err-step c).After-steps_of-end _ c.in_err-step.ensures in
+    record {
+      answer = handed_on _ _ c.from_residual.ensures.1 ∙ e;
+      state = sym (unchanged c.args.state.now c.args.position (number x) (figure x) (sym e));
+    }
 
-pub overflow_add-after : goal.overflow_add-after
-overflow_add-after c =
-    let s = c.args.state in
+pub overflow_add-state : goal.overflow_add-state
+unfolding outcome
+overflow_add-state c =
+    let s = c.args.state.now in
     let n = c.steps_of-end in
-    let e = carried_is (goal.at.overflow_add-after c).After-commit_at-answer _ c.in-Carried.is in
-    omega (arith, carried_within s c.args.position _ e, few_wants s.wants s.tests n.result (entries (goal.at.overflow_add-after c).Start) n.ensures)
-
-pub returns-in-Carried : goal.returns-in-Carried
-unfolding commit_outcome
-returns-in-Carried c =
-    let a = c.args in
-    let e = carried_is (goal.at.returns-in-Carried c).After-commit_at-answer _ c.in-Carried.is in
-    record { answer = sym e; state = moved_on a.state a.position _ _ e c.held_behind.ensures }
+    let at = goal.at.overflow_add-state c in
+    let e = answers at.After-steps_of-end _ c.in_ok-step.ensures in
+    omega (arith, carried_within s c.args.position _ (sym e), few_wants s.wants s.tests n.result (entries at.Start) n.ensures)
 
 pub returns : goal.returns
-unfolding commit_outcome
+unfolding outcome
 returns c =
     let a = c.args in
-    let r = c.in_default.field-0 in
-    record {
-      answer = answers (goal.at.returns c).After-commit_at-answer;
-      state = sym (unchanged a.state a.position (number r) (figure r) (sym (answers (goal.at.returns c).After-commit_at-answer) ∙ rw c.in_default.is refl));
-    }
+    let e = answers (goal.at.returns c).After-steps_of-end _ c.in_ok-step.ensures in
+    record { answer = e; state = moved_on a.state.now a.position _ _ (sym e) c.held_behind-state.ensures }
