@@ -11,6 +11,7 @@ use Rattle.lists.specs.Choice.{nobody, found}
 use Rattle.job.specs.Handed.{between, all_curves, counts_known}
 use Rattle.job_bytes.specs.SetBytes.{Got, got, byte_at, read_group, read_groups}
 use Rattle.job.proofs.Laws.{done_same, refused≢done, both_done, bind_done}
+use Rattle.std.specs.Prelude.{Ok}
 use Rattle.plan_bytes.specs.declared.StepRead.{StepRead}
 use Rattle.plan_bytes.specs.declared.StepPart.{StepPart}
 use Rattle.plan_bytes.specs.PlanBytes.{Placed, Contents, read_set, read_step, read_plan_bytes, plan_steps, test_part, end_parts, part_at, fetched}
@@ -77,13 +78,13 @@ module _ (curves tests : ℕ) where
       rw (← s) (record { on = omega (arith, w.on, v.on, u.on, q.on); ends = q.ends })
 
   -- a step that was read in the plan bytes
-  pub step_inside : (bs : List ℕ) (i t d l next : ℕ) (r : StepRead) → i ≤ length bs → step_outcome bs i r ≡ read_step curves tests i (drop i bs)
-      → r ≡ StepRead.Step t d l next
-      → (i ≤ next) × (next ≤ length bs)
+  pub step_inside : (bs : List ℕ) (i : ℕ) (s : StepRead) → i ≤ length bs → step_outcome bs i (Ok s) ≡ read_step curves tests i (drop i bs)
+      → (i ≤ s.next) × (s.next ≤ length bs)
   unfolding step_outcome
-  step_inside bs i t d l next r h e p =
-      let w = step_within i (length bs) (drop i bs) (got (placed i t d l next) next (drop next bs)) (simp length-drop (omega arith)) (sym e ∙ rw p refl) in
-      (w.on, omega (arith, w.ends, length-drop next bs))
+  step_inside bs i s h e =
+      let w = step_within i (length bs) (drop i bs) (got (placed i s.test s.drops s.loads s.next) s.next (drop s.next bs))
+      (simp length-drop (omega arith)) (sym e) in
+      (w.on, omega (arith, w.ends, length-drop s.next bs))
 
 -- ---- the part that is fetched
 

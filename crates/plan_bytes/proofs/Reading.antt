@@ -1,5 +1,5 @@
 -- Reading plan bytes, case by case: what the rule comes to at position k of the plan bytes bs.
-use mathlib.Core.Path.{◌≡◌, refl, sym, ◌∙◌}
+use mathlib.Core.Path.{◌≡◌, refl, ◌∙◌}
 use mathlib.Core.List.{List}
 use Prim.Native.Nat.{ℕ, zero, suc, ◌+◌, ◌-◌, ◌%◌, ◌≤◌, ◌<◌}
 use native.Mathlib.Omega.{arith}
@@ -10,38 +10,34 @@ use lib.Seq.{drop-cons}
 use borrow.Author.Tests.{lt-ltb, le-ltb, le-leb, lt-leb, eq-eqb, ne_eqb}
 use Rattle.bitset.specs.Set.{◌∪◌, bit}
 use Rattle.bitset.proofs.Bits.{bit_zero}
-use Rattle.job_bytes.specs.declared.set_bytes.GroupRead.{GroupRead}
-use Rattle.job_bytes.specs.declared.set_bytes.GroupRead.TheVariants.{Curves, Owed, Empty, Unknown}
-use Rattle.job.specs.declared.Refusal.{Refusal}
-use Rattle.job.specs.Refusal.{Outcome, done, refused, number, figure, ◌>>=◌, ◌>>◌, demand}
+use Rattle.std.specs.Prelude.{Ok, Err}
+use Rattle.job_bytes.specs.declared.set_bytes.GroupFault.{GroupFault}
+use Rattle.job_bytes.specs.declared.set_bytes.GroupFault.TheVariants.{Owed, Empty, Unknown}
+use Rattle.job.specs.Refusal.{Outcome, done, refused, ◌>>=◌, ◌>>◌, demand}
 use Rattle.job.specs.Handed.{between}
 use Rattle.job_bytes.specs.SetBytes.{Got, got, byte_at, read_groups}
 use Rattle.job_bytes.specs.JobBytes.{at_end}
 use Rattle.job_bytes.proofs.Turns.{byte_here, byte_owed}
 use Rattle.job_bytes.proofs.GroupByte.{Answers, answer_owed, answer_empty, answer_unknown, answer_curves}
-use Rattle.plan_bytes.specs.declared.SetRead.{SetRead}
-use Rattle.plan_bytes.specs.declared.StepRead.{StepRead}
-use Rattle.plan_bytes.specs.declared.EndRead.{EndRead}
 use Rattle.plan_bytes.specs.PlanBytes.{Placed, read_set, read_step, read_end}
-use Rattle.plan_bytes.specs.ContractWords.{set_outcome, step_outcome, end_outcome}
+use Rattle.plan_bytes.specs.ContractWords.{step_outcome}
 
 -- ---- one group: j is the next, the groups before it gave the set s
 module _ (curves map s k j : ℕ) (bs : List ℕ) (few : curves ≤ 64) (below : j < 8) where
   abbrev groups_at : ℕ → ℕ → ℕ → Outcome (Got ℕ)
   groups_at j s k = read_groups 11 11 11 curves (8 - j) j map s k (drop k bs)
 
-  pub group_read : (x : ℕ) → k ≤ length bs → Answers bs k (bit j map) j curves (Curves x)
+  pub group_read : (x : ℕ) → k ≤ length bs → Answers bs k (bit j map) j curves (Ok x)
       → (k + bit j map ≤ length bs) × (groups_at j s k ≡ groups_at (j + 1) (s ∪ x) (k + bit j map))
   group_read x l f =
       let r = answer_curves 11 11 11 curves map s 0 k j bs below few x l f in
       (r.0, rw (zero-add k, zero-add (k + bit j map)) at r.1)
 
   -- a group byte that is owed, or zero, or names a curve that the job lacks
-  pub group_faulty : (r : GroupRead) → ((x : ℕ) → r ≡ Curves x → ⊥) → Answers bs k (bit j map) j curves r → groups_at j s k ≡ refused 11 k
-  group_faulty (Curves x) n f = absurd (n x refl)
-  group_faulty Owed n f = rw (zero-add k) at (answer_owed 11 11 11 curves map s 0 k j bs below few f)
-  group_faulty Empty n f = rw (zero-add k) at (answer_empty 11 11 11 curves map s 0 k j bs below few f)
-  group_faulty Unknown n f = rw (zero-add k) at (answer_unknown 11 11 11 curves map s 0 k j bs below few f)
+  pub group_faulty : (f : GroupFault) → Answers bs k (bit j map) j curves (Err f) → groups_at j s k ≡ refused 11 k
+  group_faulty Owed f = rw (zero-add k) at (answer_owed 11 11 11 curves map s 0 k j bs below few f)
+  group_faulty Empty f = rw (zero-add k) at (answer_empty 11 11 11 curves map s 0 k j bs below few f)
+  group_faulty Unknown f = rw (zero-add k) at (answer_unknown 11 11 11 curves map s 0 k j bs below few f)
 
 -- ---- a byte of the whole plan
 module _ (k : ℕ) (bs : List ℕ) where
@@ -76,16 +72,6 @@ module _ (k : ℕ) (bs : List ℕ) where
 -- the reader of a set, case by case
 pub ruleset set_cases = (set_absent, set_cut, set_empty, set_groups)
 
--- ---- what the answer of the reader of a set says
-module _ (bs : List ℕ) (r : SetRead) (o : Outcome (Got ℕ)) (e : set_outcome bs r ≡ o) where
-  pub set_answered : (s next : ℕ) → r ≡ SetRead.Set s next → o ≡ done (got s next (drop next bs))
-  unfolding set_outcome
-  set_answered s next p = sym e ∙ rw p refl
-
-  pub set_refused : (i : ℕ) → r ≡ SetRead.Fault i → o ≡ refused 11 i
-  unfolding set_outcome
-  set_refused i p = sym e ∙ rw p refl
-
 -- ---- a step, whose first byte stands at position k
 module _ (curves tests k : ℕ) (bs : List ℕ) where
   abbrev here : Outcome (Got Placed)
@@ -105,14 +91,14 @@ module _ (curves tests k : ℕ) (bs : List ℕ) where
     step_high l h = rw (byte_read k bs there, le-leb 4 (get_or bs k 0) l, lt-leb (get_or bs k 0) 7 h) refl
 
     module _ (low : 4 ≤ get_or bs k 0) (high : get_or bs k 0 ≤ 7) where
-      pub drops_faulty : (i : ℕ) → read_set curves tests (get_or bs k 0 % 2) (k + 1) (drop (k + 1) bs) ≡ refused 11 i → here ≡ refused 11 i
+      pub drops_faulty : (n i : ℕ) → read_set curves tests (get_or bs k 0 % 2) (k + 1) (drop (k + 1) bs) ≡ refused n i → here ≡ refused n i
       unfolding read_step between ◌>>=◌ ◌>>◌ demand
-      drops_faulty i d = rw (byte_read k bs there, le-leb 4 (get_or bs k 0) low, le-leb (get_or bs k 0) 7 high, bit_zero (get_or bs k 0), d) refl
+      drops_faulty n i d = rw (byte_read k bs there, le-leb 4 (get_or bs k 0) low, le-leb (get_or bs k 0) 7 high, bit_zero (get_or bs k 0), d) refl
 
       module _ (ds n : ℕ) (d : read_set curves tests (get_or bs k 0 % 2) (k + 1) (drop (k + 1) bs) ≡ done (got ds n (drop n bs))) where
-        pub loads_faulty : (i : ℕ) → read_set curves tests (bit 1 (get_or bs k 0)) n (drop n bs) ≡ refused 11 i → here ≡ refused 11 i
+        pub loads_faulty : (r i : ℕ) → read_set curves tests (bit 1 (get_or bs k 0)) n (drop n bs) ≡ refused r i → here ≡ refused r i
         unfolding read_step between ◌>>=◌ ◌>>◌ demand
-        loads_faulty i l = rw (byte_read k bs there, le-leb 4 (get_or bs k 0) low, le-leb (get_or bs k 0) 7 high, bit_zero (get_or bs k 0), d, l) refl
+        loads_faulty r i l = rw (byte_read k bs there, le-leb 4 (get_or bs k 0) low, le-leb (get_or bs k 0) 7 high, bit_zero (get_or bs k 0), d, l) refl
 
         module _ (ls m : ℕ) (l : read_set curves tests (bit 1 (get_or bs k 0)) n (drop n bs) ≡ done (got ls m (drop m bs))) where
           pub test_cut : length bs ≤ m → here ≡ refused 11 m
@@ -134,7 +120,8 @@ module _ (curves tests k : ℕ) (bs : List ℕ) where
                 le-ltb (get_or bs m 0) tests t,
               ) refl
 
-          pub step_whole : m < length bs → get_or bs m 0 < tests → step_outcome bs k (StepRead.Step (get_or bs m 0) ds ls (m + 1)) ≡ here
+          pub step_whole : m < length bs → get_or bs m 0 < tests
+              → step_outcome bs k (Ok (record { test = get_or bs m 0; drops = ds; loads = ls; next = m + 1 })) ≡ here
           unfolding step_outcome read_step between ◌>>=◌ ◌>>◌ demand
           step_whole h t =
               rw (
@@ -169,9 +156,9 @@ module _ (curves tests k : ℕ) (bs : List ℕ) where
       unfolding read_end ◌>>◌ demand
       end_set = rw (add-one k, drop-cons bs k 0 there, eq-eqb (get_or bs k 0) 1 map) refl
 
-      pub end_faulty : (i : ℕ) → read_set curves tests 1 (k + 1) (drop (k + 1) bs) ≡ refused 11 i → behind ≡ refused 11 i
+      pub end_faulty : (n i : ℕ) → read_set curves tests 1 (k + 1) (drop (k + 1) bs) ≡ refused n i → behind ≡ refused n i
       unfolding ◌>>=◌
-      end_faulty i e = end_set ∙ rw e refl
+      end_faulty n i e = end_set ∙ rw e refl
 
       module _ (s n : ℕ) (e : read_set curves tests 1 (k + 1) (drop (k + 1) bs) ≡ done (got s n (drop n bs))) where
         pub end_surplus : n < length bs → behind ≡ refused 11 n
@@ -181,13 +168,3 @@ module _ (curves tests k : ℕ) (bs : List ℕ) where
         pub end_whole : length bs ≤ n → behind ≡ done s
         unfolding ◌>>=◌ ◌>>◌ at_end
         end_whole h = end_set ∙ rw (e, drop_of_length-le bs h) refl
-
--- ---- what the answer of its reader says
-module _ (r : EndRead) (o : Outcome ℕ) (e : end_outcome r ≡ o) where
-  pub end_answered : (s : ℕ) → r ≡ EndRead.End s → o ≡ done s
-  unfolding end_outcome
-  end_answered s p = sym e ∙ rw p refl
-
-  pub end_refused : (x : Refusal) → r ≡ EndRead.Refused x → o ≡ refused (number x) (figure x)
-  unfolding end_outcome
-  end_refused x p = sym e ∙ rw p refl

@@ -6,8 +6,10 @@ use Prim.Native.Nat.{ℕ, suc, ◌+◌, ◌-◌, ◌≤◌, ◌<◌}
 use native.Mathlib.Omega.{arith}
 use lib.ListN.{length, get_or, drop, set, length-set, length-map, length-append}
 use lib.Seq.{drop-cons, set_at}
-use Rattle.job.specs.Refusal.{Outcome, done, refused, ◌>>=◌, mapped, leaves, overwritten}
-use Rattle.job_bytes.specs.SetBytes.{got}
+use Rattle.std.specs.Prelude.{Ok, Err}
+use Rattle.job.specs.declared.Refusal.{Refusal}
+use Rattle.job.specs.Refusal.{Outcome, done, refused, number, figure, ◌>>=◌, mapped, leaves, overwritten}
+use Rattle.job_bytes.specs.SetBytes.{Got, got}
 use Rattle.job.specs.Handed.{counts_known}
 use Rattle.job.proofs.Laws.{refused≢done, done_same, mapped_done, bind_done, done_both}
 use Rattle.job.proofs.Examination.{refused_both}
@@ -30,19 +32,21 @@ module _ (curves tests : ℕ) (bs : List ℕ) where
 
   module _ (k i : ℕ) (acc : List Placed) (b : Behind curves tests k i bs acc) where
     -- one step more
-    module _ (h : k < tests) (r : StepRead) (e : step_outcome bs i r ≡ read_step curves tests i (drop i bs)) where
-      turn : read_steps curves tests tests [] 0 bs
-          ≡ ◌>>=◌ (step_outcome bs i r) (λ s. read_steps curves tests (tests - (k + 1)) (acc ++ (s.value ∷ [])) s.next s.rest)
+    module _ (h : k < tests) where
+      turn : (o : Outcome (Got Placed)) → o ≡ read_step curves tests i (drop i bs)
+          → read_steps curves tests tests [] 0 bs ≡ ◌>>=◌ o (λ s. read_steps curves tests (tests - (k + 1)) (acc ++ (s.value ∷ [])) s.next s.rest)
       unfolding read_steps
-      turn = let n : tests - k ≡ suc (tests - (k + 1)) = omega arith in b.goes ∙ rw (n, e) refl
+      turn o e = let n : tests - k ≡ suc (tests - (k + 1)) = omega arith in b.goes ∙ rw (n, e) refl
 
-      pub step_more : (t d l next : ℕ) → r ≡ StepRead.Step t d l next → Behind curves tests (k + 1) next bs (acc ++ (placed i t d l next ∷ []))
+      pub step_more : (s : StepRead) → step_outcome bs i (Ok s) ≡ read_step curves tests i (drop i bs)
+          → Behind curves tests (k + 1) s.next bs (acc ++ (placed i s.test s.drops s.loads s.next ∷ []))
       unfolding step_outcome ◌>>=◌
-      step_more t d l next p = record { count = simp length-append (omega (arith, b.count)); goes = turn ∙ rw p refl }
+      step_more s e = record { count = simp length-append (omega (arith, b.count)); goes = turn _ e }
 
-      pub step_faulty : (f : ℕ) → r ≡ StepRead.Fault f → read_plan_bytes curves tests bs ≡ refused 11 f
+      pub step_faulty : (x : Refusal) → step_outcome bs i (Err x) ≡ read_step curves tests i (drop i bs)
+          → read_plan_bytes curves tests bs ≡ refused (number x) (figure x)
       unfolding step_outcome read_plan_bytes ◌>>=◌
-      step_faulty f p = rw (turn, p) refl
+      step_faulty x e = rw (turn _ e) refl
 
     -- behind the last step
     module _ (h : tests ≤ k) where
@@ -134,5 +138,5 @@ all_read curves tests bs k i acc b h e = go (read_end curves tests i (drop i bs)
         absurd (refused≢done (sym (end_refused curves tests bs k i acc b h n f r) ∙ (mapped_done (λ _. tt) (read_plan_bytes curves tests bs) tt e).1))
 
 -- a plan that reads has no fault
-pub no_fault : {A : Type 0} (o : Outcome A) (f : ℕ) → mapped (λ _. tt) o ≡ done (tt {0}) → o ≡ refused 11 f → ⊥
-no_fault o f e r = refused≢done (sym r ∙ (mapped_done (λ _. tt) o tt e).1)
+pub no_fault : {A : Type 0} (o : Outcome A) (n f : ℕ) → mapped (λ _. tt) o ≡ done (tt {0}) → o ≡ refused n f → ⊥
+no_fault o n f e r = refused≢done (sym r ∙ (mapped_done (λ _. tt) o tt e).1)

@@ -3,169 +3,143 @@
 ghost use Rattle.std.specs.Prelude.{◌≡◌, [], ◌∷◌, ◌++◌, ℕ, ◌+◌, ◌-◌, ◌*◌, ◌≤◌, ◌<◌, length, get_or, drop};
 ghost use Rattle.std.proofs.lemmas.List.Edits.{sets};
 ghost use Rattle.job_bytes.specs.SetBytes.{stands, read_groups};
-ghost use Rattle.job.specs.Refusal.{done, mapped, count_outcome, fitting, leaves};
+ghost use Rattle.job.specs.Refusal.{done, mapped, outcome, fitting, leaves};
 ghost use Rattle.job.specs.Words.{job_of};
-ghost use Rattle.planning.specs.Plan.{plan_of, set_lists, plan_outcome, steps};
+ghost use Rattle.planning.specs.Plan.{plan_of, set_lists, steps};
 ghost use Rattle.plan_bytes.specs.PlanBytes.{set_field, step_bytes, steps_bytes, end_bytes, plan_bytes, write_plan_answer, write_plan_buffer};
 ghost use Rattle.plan_bytes.specs.PlanBytes.{tests_of, plan_in, read_set, read_step, read_end, read_plan_bytes, plan_steps};
 ghost use Rattle.plan_bytes.specs.PlanBytes.{read_plan_answer, read_plan_order, read_plan_lists, fetched, or_empty, step_part, step_at};
-ghost use Rattle.plan_bytes.specs.ContractWords.{set_outcome, step_outcome, end_outcome, write_steps_answer, write_steps_buffer};
+ghost use Rattle.plan_bytes.specs.ContractWords.{set_outcome, step_outcome, write_steps_answer, write_steps_buffer};
 
-use job::{Counted, Examined, Refusal, Rig, examine_counts, examine_order_alone};
-use job_bytes::set_bytes::{GroupRead, put_front, put_set_at, read_due};
-use planning::{PlanCounted, check_plan, examine_sets};
+use job::{Refusal, Rig, examine_counts, examine_order_alone};
+use job_bytes::set_bytes::{put_front, put_set_at, read_due};
+use planning::{CountEnd, check_plan, examine_sets};
 
-// What stands where a set is due.
+// A set that was read, and the position behind it.
 #[derive(Clone, Copy)]
-enum SetRead {
-    // the set, and the position behind it
-    Set(u64, usize),
-    // the position of the first malformed byte, or the end of the bytes
-    Fault(usize),
+struct SetRead {
+    set: u64,
+    next: usize,
 }
 
-// What stands where a step is due.
+// A step that was read, and the position behind it.
 #[derive(Clone, Copy)]
-enum StepRead {
-    // the test, the drops, the loads, and the position behind the step
-    Step(u16, u64, u64, usize),
-    // the position of the first malformed byte, or the end of the bytes
-    Fault(usize),
-}
-
-// What stands behind the last test.
-#[derive(Clone, Copy)]
-enum EndRead {
-    // the end set, 0 for none
-    End(u64),
-    Refused(Refusal),
+struct StepRead {
+    test: u16,
+    drops: u64,
+    loads: u64,
+    next: usize,
 }
 
 // The groups of a set, behind its group map.
-fn read_groups(plan: &[u8], start: usize, groups: u8, curves: usize) -> SetRead
+fn read_groups(plan: &[u8], start: usize, groups: u8, curves: usize) -> Result<SetRead, Refusal>
     requires { (curves ≤ 64) × (start ≤ length plan.now) }
     ensures { set_outcome plan.now result ≡ read_groups 11 11 11 curves 8 0 groups 0 start (drop start plan.now) }
 {
     let mut next = start;
     let mut set: u64 = 0;
-    let mut j: usize = 0;
-    while j < 8 {
+    for j in 0..8 {
         match read_due(plan, next, groups, j, curves) {
-            GroupRead::Curves(group) => {
+            Ok(group) => {
                 set = set | group;
                 next += ((groups >> j) % 2) as usize;
             }
-            _ => {
-                return SetRead::Fault(next);
+            Err(_) => {
+                return Err(Refusal::BadPlanBytes(next));
             }
         }
-        j += 1;
     }
-    SetRead::Set(set, next)
+    Ok(SetRead { set, next })
 }
 
 // A set, if its bit stands: "A set is written as a group map and group bytes, neither zero."
 #[tactic(auto, using(crate::proofs::Reading::set_cases), unfolding(crate::specs::ContractWords::set_outcome))]
-fn read_set(plan: &[u8], at: usize, stands: u8, curves: usize) -> SetRead
+fn read_set(plan: &[u8], at: usize, stands: u8, curves: usize) -> Result<SetRead, Refusal>
     requires { curves ≤ 64 }
     ensures { (tests : ℕ) → set_outcome plan.now result ≡ read_set curves tests stands at (drop at plan.now) }
 {
     if stands == 0 {
-        return SetRead::Set(0, at);
+        return Ok(SetRead { set: 0, next: at });
     }
     if plan.len() <= at {
-        return SetRead::Fault(at);
+        return Err(Refusal::BadPlanBytes(at));
     }
     if plan[at] == 0 {
-        return SetRead::Fault(at);
+        return Err(Refusal::BadPlanBytes(at));
     }
     read_groups(plan, at + 1, plan[at], curves)
 }
 
 // One step: a map, then the drops, the loads and the test. "Bit 2 always stands." "A test or curve that the job lacks is malformed".
-fn read_step(plan: &[u8], at: usize, curves: usize, tests: usize) -> StepRead
+fn read_step(plan: &[u8], at: usize, curves: usize, tests: usize) -> Result<StepRead, Refusal>
     requires { curves ≤ 64 }
     ensures { step_outcome plan.now at result ≡ read_step curves tests at (drop at plan.now) }
 {
     if plan.len() <= at {
-        return StepRead::Fault(at);
+        return Err(Refusal::BadPlanBytes(at));
     }
     let fields = plan[at];
     if fields < 4 {
-        return StepRead::Fault(at);
+        return Err(Refusal::BadPlanBytes(at));
     }
     if 7 < fields {
-        return StepRead::Fault(at);
+        return Err(Refusal::BadPlanBytes(at));
     }
-    match read_set(plan, at + 1, fields % 2, curves) {
-        SetRead::Fault(i) => StepRead::Fault(i),
-        SetRead::Set(drops, next) => match read_set(plan, next, (fields >> 1) % 2, curves) {
-            SetRead::Fault(i) => StepRead::Fault(i),
-            SetRead::Set(loads, last) => {
-                if plan.len() <= last {
-                    return StepRead::Fault(last);
-                }
-                let test = plan[last];
-                if tests <= test as usize {
-                    return StepRead::Fault(last);
-                }
-                StepRead::Step(test as u16, drops, loads, last + 1)
-            }
-        },
+    let drops = read_set(plan, at + 1, fields % 2, curves)?;
+    let loads = read_set(plan, drops.next, (fields >> 1) % 2, curves)?;
+    let last = loads.next;
+    if plan.len() <= last {
+        return Err(Refusal::BadPlanBytes(last));
     }
+    let test = plan[last];
+    if tests <= test as usize {
+        return Err(Refusal::BadPlanBytes(last));
+    }
+    Ok(StepRead {
+        test: test as u16,
+        drops: drops.set,
+        loads: loads.set,
+        next: last + 1,
+    })
 }
 
-// 02, wish 1: behind the last test the end step, or nothing: "bits 1 and 2 clear, bit 0 set". Nothing stands behind it.
-fn read_end(plan: &[u8], at: usize, curves: usize) -> EndRead
+// 02, wish 1: behind the last test the end step, or nothing: "bits 1 and 2 clear, bit 0 set". Nothing stands behind it. The end set, 0 for none.
+fn read_end(plan: &[u8], at: usize, curves: usize) -> Result<u64, Refusal>
     requires { curves ≤ 64 }
-    ensures { (tests : ℕ) → end_outcome result ≡ read_end curves tests at (drop at plan.now) }
+    ensures { (tests : ℕ) → outcome result ≡ read_end curves tests at (drop at plan.now) }
 {
     if plan.len() <= at {
-        return EndRead::End(0);
+        return Ok(0);
     }
     if plan[at] != 1 {
-        return EndRead::Refused(Refusal::BadPlanBytes(at));
+        return Err(Refusal::BadPlanBytes(at));
     }
-    match read_set(plan, at + 1, 1, curves) {
-        SetRead::Fault(i) => EndRead::Refused(Refusal::BadPlanBytes(i)),
-        SetRead::Set(end, next) => {
-            if next < plan.len() {
-                return EndRead::Refused(Refusal::BadPlanBytes(next));
-            }
-            EndRead::End(end)
-        }
+    let end = read_set(plan, at + 1, 1, curves)?;
+    if end.next < plan.len() {
+        return Err(Refusal::BadPlanBytes(end.next));
     }
+    Ok(end.set)
 }
 
 // 11: the steps, "as many steps as tests", and what stands behind them.
-fn examine_steps(curves: usize, tests: usize, plan: &[u8]) -> EndRead
+fn examine_steps(curves: usize, tests: usize, plan: &[u8]) -> Result<u64, Refusal>
     requires { curves ≤ 64 }
-    ensures { end_outcome result ≡ mapped (λ c. c.end) (read_plan_bytes curves tests plan.now) }
+    ensures { outcome result ≡ mapped (λ c. c.end) (read_plan_bytes curves tests plan.now) }
 {
     let mut at: usize = 0;
-    let mut passed: usize = 0;
-    while passed < tests {
-        match read_step(plan, at, curves, tests) {
-            StepRead::Fault(i) => {
-                return EndRead::Refused(Refusal::BadPlanBytes(i));
-            }
-            StepRead::Step(_, _, _, next) => {
-                at = next;
-            }
-        }
-        passed += 1;
+    for _ in 0..tests {
+        let step = read_step(plan, at, curves, tests)?;
+        at = step.next;
     }
     read_end(plan, at, curves)
 }
 
 // 10 and 11: whether the bytes are a plan of so many curves and tests, and its end set.
-fn examine_plan(curves: usize, tests: usize, plan: &[u8]) -> EndRead
-    ensures { end_outcome result ≡ mapped (λ c. c.end) (plan_steps curves tests plan.now) }
+fn examine_plan(curves: usize, tests: usize, plan: &[u8]) -> Result<u64, Refusal>
+    ensures { outcome result ≡ mapped (λ c. c.end) (plan_steps curves tests plan.now) }
 {
-    match examine_counts(curves, tests) {
-        Examined::Refused(r) => EndRead::Refused(r),
-        Examined::Passed => examine_steps(curves, tests, plan),
-    }
+    examine_counts(curves, tests)?;
+    examine_steps(curves, tests, plan)
 }
 
 // Writes the steps of a plan that reads, which was seen before: an entry of each list for each step. "Nothing lent changes under a refusal".
@@ -184,21 +158,13 @@ fn fill_lists(
     ensures loads { loads.new ≡ leaves (mapped (λ c. (plan_in c).loads) (read_plan_bytes curves tests plan.now)) loads.old }
 {
     let mut at: usize = 0;
-    let mut k: usize = 0;
-    while k < tests {
-        match read_step(plan, at, curves, tests) {
-            // never met: the plan reads
-            StepRead::Fault(_) => {
-                return;
-            }
-            StepRead::Step(test, dropped, loaded, next) => {
-                order[k] = test;
-                drops[k] = dropped;
-                loads[k] = loaded;
-                at = next;
-            }
-        }
-        k += 1;
+    for k in 0..tests {
+        // never an error: the plan reads
+        let step = read_step(plan, at, curves, tests).unwrap();
+        order[k] = step.test;
+        drops[k] = step.drops;
+        loads[k] = step.loads;
+        at = step.next;
     }
 }
 
@@ -210,27 +176,23 @@ pub fn read_plan(
     order: &mut [u16],
     drops: &mut [u64],
     loads: &mut [u64],
-) -> PlanCounted
-    ensures answer { plan_outcome result ≡ read_plan_answer curves tests plan.now order.old (set_lists drops.old loads.old) }
+) -> Result<CountEnd, Refusal>
+    ensures answer { outcome result ≡ read_plan_answer curves tests plan.now order.old (set_lists drops.old loads.old) }
     ensures order { order.new ≡ read_plan_order curves tests plan.now order.old (set_lists drops.old loads.old) }
     ensures lists { set_lists drops.new loads.new ≡ read_plan_lists curves tests plan.now order.old (set_lists drops.old loads.old) }
 {
-    match examine_plan(curves, tests, plan) {
-        EndRead::Refused(r) => PlanCounted::Refused(r),
-        EndRead::End(end) => {
-            if order.len() < tests {
-                return PlanCounted::Refused(Refusal::BufferTooSmall(tests));
-            }
-            if drops.len() < tests {
-                return PlanCounted::Refused(Refusal::BufferTooSmall(tests));
-            }
-            if loads.len() < tests {
-                return PlanCounted::Refused(Refusal::BufferTooSmall(tests));
-            }
-            fill_lists(curves, tests, plan, order, drops, loads);
-            PlanCounted::Count(tests, end)
-        }
+    let end = examine_plan(curves, tests, plan)?;
+    if order.len() < tests {
+        return Err(Refusal::BufferTooSmall(tests));
     }
+    if drops.len() < tests {
+        return Err(Refusal::BufferTooSmall(tests));
+    }
+    if loads.len() < tests {
+        return Err(Refusal::BufferTooSmall(tests));
+    }
+    fill_lists(curves, tests, plan, order, drops, loads);
+    Ok(CountEnd { count: tests, end })
 }
 
 // A part of the plan bytes: where it begins, and how many bytes it has.
@@ -251,31 +213,29 @@ fn find_step(curves: usize, tests: usize, plan: &[u8], position: usize) -> StepP
     let mut start = size;
     let mut count: usize = 0;
     let mut at: usize = 0;
-    let mut i: usize = 0;
-    while i < tests {
+    for i in 0..tests {
         match read_step(plan, at, curves, tests) {
-            StepRead::Fault(_) => {
+            Err(_) => {
                 return StepPart {
                     start: size,
                     count: 0,
                 };
             }
-            StepRead::Step(_, _, _, next) => {
+            Ok(step) => {
                 if i == position {
                     start = at;
-                    count = next - at;
+                    count = step.next - at;
                 }
-                at = next;
+                at = step.next;
             }
         }
-        i += 1;
     }
     match read_end(plan, at, curves) {
-        EndRead::Refused(_) => StepPart {
+        Err(_) => StepPart {
             start: size,
             count: 0,
         },
-        EndRead::End(end) => {
+        Ok(end) => {
             if position == tests {
                 if end != 0 {
                     return StepPart {
@@ -296,11 +256,11 @@ pub fn step_part(curves: usize, tests: usize, plan: &[u8], position: usize) -> S
     ensures inside { result.start + result.count ≤ length plan.now }
 {
     match examine_counts(curves, tests) {
-        Examined::Refused(_) => StepPart {
+        Err(_) => StepPart {
             start: plan.len(),
             count: 0,
         },
-        Examined::Passed => find_step(curves, tests, plan, position),
+        Ok(()) => find_step(curves, tests, plan, position),
     }
 }
 
@@ -365,10 +325,8 @@ fn put_steps(order: &[u16], drops: &[u64], loads: &[u64], out: &mut [u8]) -> usi
     ensures bytes { out.new ≡ sets out.old 0 (steps_bytes (steps order.now drops.now loads.now)) }
 {
     let mut to: usize = 0;
-    let mut i: usize = 0;
-    while i < order.len() {
+    for i in 0..order.len() {
         to = put_step(order[i], drops[i], loads[i], to, out);
-        i += 1;
     }
     to
 }
@@ -403,21 +361,27 @@ fn put_plan(order: &[u16], drops: &[u64], loads: &[u64], end: u64, out: &mut [u8
 const MOST_BYTES: usize = 20 * job::MOST_TESTS + 10 + 1;
 
 // Writes the bytes of the steps and the end step to `out`, if they fit, and answers their count.
-fn write_fitting(order: &[u16], drops: &[u64], loads: &[u64], end: u64, out: &mut [u8]) -> Counted
+fn write_fitting(
+    order: &[u16],
+    drops: &[u64],
+    loads: &[u64],
+    end: u64,
+    out: &mut [u8],
+) -> Result<usize, Refusal>
     requires tests { (i : ℕ) → i < length order.now → get_or order.now i 0 < 256 }
     requires sets { (length drops.now ≡ length order.now) × (length loads.now ≡ length order.now) }
     requires few { length order.now ≤ 256 }
-    ensures answer { count_outcome result ≡ mapped length (fitting (plan_bytes order.now (plan_of drops.now loads.now end)) (length out.old)) }
+    ensures answer { outcome result ≡ mapped length (fitting (plan_bytes order.now (plan_of drops.now loads.now end)) (length out.old)) }
     ensures bytes { out.new ≡ leaves (fitting (plan_bytes order.now (plan_of drops.now loads.now end)) (length out.old)) out.old }
 {
     // "Nothing lent changes under a refusal": the bytes go to a buffer of our own, and are copied once their number is known to fit
     let mut bytes = [0u8; MOST_BYTES];
     let need = put_plan(order, drops, loads, end, &mut bytes);
     if out.len() < need {
-        return Counted::Refused(Refusal::BufferTooSmall(need));
+        return Err(Refusal::BufferTooSmall(need));
     }
     put_front(&bytes[..need], out);
-    Counted::Count(need)
+    Ok(need)
 }
 
 // Writes a plan that passes the check from what is held as plan bytes, and answers their count: "writing a plan 8, 12, 9", after 10, 13 and 14.
@@ -430,26 +394,26 @@ pub fn write_plan(
     loads: &[u64],
     end: u64,
     out: &mut [u8],
-) -> Counted
-    ensures answer { count_outcome result ≡ write_plan_answer (job_of rig wants.now) held order.now (plan_of drops.now loads.now end) out.old }
+) -> Result<usize, Refusal>
+    ensures answer { outcome result ≡ write_plan_answer (job_of rig wants.now) held order.now (plan_of drops.now loads.now end) out.old }
     ensures bytes { out.new ≡ write_plan_buffer (job_of rig wants.now) held order.now (plan_of drops.now loads.now end) out.old }
 {
-    if let Counted::Refused(r) = check_plan(rig, wants, held, order, drops, loads, end) {
-        return Counted::Refused(r);
-    }
+    check_plan(rig, wants, held, order, drops, loads, end)?;
     write_fitting(order, drops, loads, end, out)
 }
 
 // Writes the steps of lists that were made here and an end set, without the check, and answers the count of their bytes: 10, 8, 12 and 9 of the lists alone.
-pub fn write_steps(order: &[u16], drops: &[u64], loads: &[u64], end: u64, out: &mut [u8]) -> Counted
-    ensures answer { count_outcome result ≡ write_steps_answer order.now (plan_of drops.now loads.now end) out.old }
+pub fn write_steps(
+    order: &[u16],
+    drops: &[u64],
+    loads: &[u64],
+    end: u64,
+    out: &mut [u8],
+) -> Result<usize, Refusal>
+    ensures answer { outcome result ≡ write_steps_answer order.now (plan_of drops.now loads.now end) out.old }
     ensures bytes { out.new ≡ write_steps_buffer order.now (plan_of drops.now loads.now end) out.old }
 {
-    if let Examined::Refused(r) = examine_order_alone(order) {
-        return Counted::Refused(r);
-    }
-    if let Examined::Refused(r) = examine_sets(order.len(), drops.len(), loads.len()) {
-        return Counted::Refused(r);
-    }
+    examine_order_alone(order)?;
+    examine_sets(order.len(), drops.len(), loads.len())?;
     write_fitting(order, drops, loads, end, out)
 }

@@ -1,6 +1,14 @@
+use mathlib.Core.Path.{◌≡◌, refl}
 use mathlib.Core.List.{[]}
 use native.Mathlib.Omega.{arith}
+use lib.ListN.{drop}
+use Rattle.std.specs.Prelude.{Result, Ok, Err, IsOk}
+use Rattle.job.specs.declared.Refusal.{Refusal}
+use Rattle.plan_bytes.specs.declared.StepRead.{StepRead}
+use Rattle.plan_bytes.specs.PlanBytes.{read_step}
+use Rattle.plan_bytes.specs.ContractWords.{step_outcome}
 use Rattle.plan_bytes.proofs.Steps.{begin, step_more, step_faulty, fill_none, fill_more, fill_all, all_read, no_fault}
+use Rattle.plan_bytes.proofs.fill_lists.Goals.{After-read_step}
 use Rattle.plan_bytes.proofs.fill_lists.Goals as goal
 
 pub loop-k-init : goal.loop-k-init
@@ -15,24 +23,30 @@ loop-k-init c =
       },
     )
 
-pub returns-in-Fault : goal.returns-in-Fault
-returns-in-Fault c =
-    let l = c.loop-k in
-    let a = c.args in
-    absurd (no_fault _ _ c.requires.reads (step_faulty a.curves a.tests a.plan.now l.k l.at l.invariant.0 l.invariant.1.behind
-    c.loop-k-test.true _ c.read_step.ensures _ c.in-Fault.is))
+-- the step at hand reads, since the plan does
+reads : (c : After-read_step) → IsOk c.read_step.result
+reads c = go c.read_step.result c.read_step.ensures
+  where
+    go : (r : Result StepRead Refusal) → let a = c.args in
+        step_outcome a.plan.now c.loop-k.at r ≡ read_step a.curves a.tests c.loop-k.at (drop c.loop-k.at a.plan.now) → IsOk r
+    go (Ok s) e = refl
+    go (Err x) e =
+        let l = c.loop-k in
+        let a = c.args in
+        absurd (no_fault _ _ _ c.requires.reads (step_faulty a.curves a.tests a.plan.now l.k l.at l.invariant.0 l.invariant.1.behind c.loop-k-test.true x e))
+
+pub unwrap-step-requires : goal.unwrap-step-requires
+unwrap-step-requires c = reads (goal.at.unwrap-step-requires c).After-read_step
 
 pub loop-k-preserved : goal.loop-k-preserved
 loop-k-preserved c =
     let l = c.loop-k in
     let a = c.args in
-    let p = c.requires.counts in
-    let h = c.loop-k-test.true in
-    let i = l.invariant.1 in (
+    let i = l.invariant.1 in
+    let e = rw c.unwrap-step.ensures at c.read_step.ensures in (
       _,
       record {
-        behind = step_more a.curves a.tests a.plan.now l.k l.at l.invariant.0 i.behind h _ c.read_step.ensures _
-            _ _ _ c.in-Step.is;
+        behind = step_more a.curves a.tests a.plan.now l.k l.at l.invariant.0 i.behind c.loop-k-test.true _ e;
         tests = fill_more _ a.order.now l.invariant.0 l.order l.k _ i.behind.count (omega arith) i.tests;
         drops = fill_more _ a.drops.now l.invariant.0 l.drops l.k _ i.behind.count (omega arith) i.drops;
         loads = fill_more _ a.loads.now l.invariant.0 l.loads l.k _ i.behind.count (omega arith) i.loads;
@@ -44,7 +58,7 @@ returns c =
     let l = c.loop-k in
     let a = c.args in
     let i = l.invariant.1 in
-    let e = all_read a.curves a.tests a.plan.now l.k l.at l.invariant.0 i.behind c.loop-k-test.false c.requires.reads in
+    let e = all_read a.curves a.tests a.plan.now l.k l.at l.invariant.0 i.behind (omega arith) c.requires.reads in
     record {
       tests = fill_all _ a.order.now _ _ _ e.1 i.tests;
       drops = fill_all _ a.drops.now _ _ _ e.1 i.drops;

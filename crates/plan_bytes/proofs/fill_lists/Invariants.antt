@@ -1,6 +1,5 @@
 -- `plan_bytes::fill_lists` meets its contract. The invariant: k steps have been read, each list has an entry for each of them, and the next step stands
 -- at `at`.
-use Prim.Native.Nat.{◌-◌}
 use mathlib.Core.List.{List}
 use Rattle.plan_bytes.specs.PlanBytes.{Placed}
 use Rattle.plan_bytes.proofs.Steps.{Behind, Filled}
@@ -15,6 +14,3 @@ invariant-loop-k l =
       drops : Filled (λ s. s.step.drops) acc l.initial.drops l.drops;
       loads : Filled (λ s. s.step.loads) acc l.initial.loads l.loads;
     }
-
-abbrev pub decreases-loop-k : goal.decreases-loop-k
-decreases-loop-k l = l.tests - l.k

@@ -30,7 +30,6 @@ loop-i-preserved c =
     let x = a.loads.now in
     let o = a.order.now in
     record {
-      turns = omega arith;
       room = omega (arith, e, l.invariant.room, step_le (get_or o i 0) (get_or d i 0) (get_or x i 0));
       long = ap length w ∙ simp length-sets l.invariant.long;
       ends = omega (arith, e, l.invariant.ends, steps_length o d x i h (omega arith) (omega arith));
@@ -43,5 +42,5 @@ pub returns : goal.returns
 returns c =
     let l = c.loop-i in
     let a = c.args in
-    let none = steps_none a.order.now a.drops.now a.loads.now l.i c.loop-i-test.false in
+    let none = steps_none a.order.now a.drops.now a.loads.now l.i (omega arith) in
     record { count = omega (arith, ap length none, l.invariant.ends); bytes = sym (l.invariant.goes ∙ ap (lib.Seq.sets l.out l.to) none) }

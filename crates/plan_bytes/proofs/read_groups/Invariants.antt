@@ -7,9 +7,6 @@ use Rattle.plan_bytes.proofs.read_groups.Given as goal
 
 abbrev pub invariant-loop-j : goal.invariant-loop-j
 invariant-loop-j l =
-    (l.j ≤ 8) × (l.next ≤ length l.plan)
+    (l.next ≤ length l.plan)
     × (read_groups 11 11 11 l.curves 8 0 l.groups 0 l.start (lib.ListN.drop l.start l.plan)
     ≡ read_groups 11 11 11 l.curves (8 - l.j) l.j l.groups l.set l.next (lib.ListN.drop l.next l.plan))
-
-abbrev pub decreases-loop-j : goal.decreases-loop-j
-decreases-loop-j l = 8 - l.j

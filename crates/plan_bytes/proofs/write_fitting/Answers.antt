@@ -5,7 +5,7 @@ use Prim.Native.Nat.{ℕ, ◌+◌, ◌≤◌}
 use native.Mathlib.Omega.{arith}
 use lib.ListN.{length, take}
 use lib.Seq.{length-take-le}
-use Rattle.job.specs.Refusal.{overwritten, count_outcome}
+use Rattle.job.specs.Refusal.{overwritten, outcome}
 use Rattle.job.proofs.Laws.{fitting_short, fitting_whole, made_refused, made_done}
 use Rattle.job_bytes.proofs.Encoding.{own_bytes, own_fits, put, put_front}
 use Rattle.planning.specs.Plan.{plan_of}
@@ -28,7 +28,7 @@ own c =
     (own_fits (bytes c) _ _ n z e.bytes (omega arith), own_bytes (bytes c) _ _ n z e.bytes (omega arith))
 
 pub returns-then-out-need : goal.returns-then-out-need
-unfolding count_outcome
+unfolding outcome
 returns-then-out-need c =
     rw c.put_plan-need.ensures.count
     (let both = made_refused _ _ _ _
@@ -45,7 +45,7 @@ pub slice_bounds-put_front-end : goal.slice_bounds-put_front-end
 slice_bounds-put_front-end c = sym (length-take-le _ _ (own (goal.at.slice_bounds-put_front-end c).After-put_plan-need).0)
 
 pub returns : goal.returns
-unfolding count_outcome overwritten
+unfolding outcome overwritten
 returns c =
     let old = c.args.out.now in
     let e = c.put_plan-need.ensures.count in
