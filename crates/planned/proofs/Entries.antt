@@ -4,9 +4,10 @@ use mathlib.Core.List.{List}
 use Prim.Native.Nat.{ℕ, ◌≤◌}
 use native.Mathlib.Omega.{arith}
 use lib.ListN.{length, take, length-map}
+use Rattle.std.specs.Prelude.{Result, Ok, Err}
 use Rattle.job.specs.declared.Head.{Head}
 use Rattle.job.specs.declared.Refusal.{Refusal}
-use Rattle.job.specs.Refusal.{Outcome, done, refused, number, figure, ◌>>=◌, ◌>>◌, mapped, leaves}
+use Rattle.job.specs.Refusal.{Outcome, done, refused, number, figure, ◌>>=◌, ◌>>◌, mapped, leaves, outcome}
 use Rattle.job.specs.Words.{capacity}
 use Rattle.job.proofs.Laws.{done_same, bind_done, mapped_done, mapped_refused, leaves_done, done_room}
 use Rattle.job_bytes.specs.JobBytes.{Request, job_in, read_bytes}
@@ -18,9 +19,9 @@ use Rattle.lists.proofs.Overwritten.{front}
 use Rattle.planning.specs.Plan.{handed, first}
 use Rattle.planning.specs.Planning.{planning}
 use Rattle.planning.proofs.Demand3.{plan_length}
-use Rattle.planned.specs.declared.JobPlanned.{JobPlanned}
+use Rattle.planned.specs.declared.JobPlan.{JobPlan}
 use Rattle.planned.specs.Planned.{Planned, order_request, plan_in_order, order_and_plan, plan_job}
-use Rattle.planned.specs.ContractWords.{Told, told, planned_outcome}
+use Rattle.planned.specs.ContractWords.{told}
 use Rattle.planned.specs.ContractWords.{Lists, leaves_lists, shortest, plan_job_answer, kept_unless, plan_job_lists}
 use Rattle.planned.proofs.Stages.{order_long}
 
@@ -94,13 +95,13 @@ module _ (bs : List ℕ) (all : Bytes bs) where
       subst (λ (p : Planned). First p (leaves_lists bs old)) (done_same c.2) (first_of old a.0 b.0 c.0 a.1 b.1 c.1)
 
   -- of what `plan_job` answered
-  module _ (old : Lists) (x : JobPlanned) (answer : planned_outcome x ≡ plan_job_answer bs old) (long : 256 ≤ shortest old) where
-    whole : planned_outcome x ≡ mapped told (plan_job bs)
+  module _ (old : Lists) (x : Result JobPlan Refusal) (answer : outcome x ≡ plan_job_answer bs old) (long : 256 ≤ shortest old) where
+    whole : outcome x ≡ mapped told (plan_job bs)
     unfolding plan_job_answer ◌>>◌
     whole = answer ∙ rw (done_room (shortest old) 256 long) refl
 
-    pub refused_job : (r : Refusal) → x ≡ JobPlanned.Refused r → plan_job bs ≡ refused (number r) (figure r)
-    unfolding planned_outcome
+    pub refused_job : (r : Refusal) → x ≡ Err r → plan_job bs ≡ refused (number r) (figure r)
+    unfolding outcome
     refused_job r e = mapped_refused told (plan_job bs) _ _ (sym whole ∙ rw e refl)
 
     given : (p : Planned) (h : Head) (m end : ℕ) (new : Lists) → plan_job bs ≡ done p → p.request.head ≡ h → curve_count p.plan.loads ≡ m
@@ -122,10 +123,10 @@ module _ (bs : List ℕ) (all : Bytes bs) where
           loads_long = ap length f.loads ∙ f.loads_long;
         })
 
-    pub planned_job : (h : Head) (m end : ℕ) (new : Lists) → x ≡ JobPlanned.Planned h m end → new ≡ plan_job_lists bs old → Given bs h m end new
-    unfolding plan_job_lists kept_unless planned_outcome
+    pub planned_job : (h : Head) (m end : ℕ) (new : Lists) → x ≡ Ok (record { head = h; loads = m; end = end }) → new ≡ plan_job_lists bs old → Given bs h m end new
+    unfolding plan_job_lists kept_unless outcome
     planned_job h m end new e l =
         let d = mapped_done told (plan_job bs) (record { head = h; loads = m; end = end }) (sym whole ∙ rw e refl) in
         let k : new ≡ leaves_lists bs old = l ∙ rw (done_room (shortest old) 256 long) refl in
-        given d.0 h m end new d.1 (ap (λ (t : Told). t.head) d.2) (ap (λ (t : Told). t.loads) d.2) (ap (λ (t : Told). t.end) d.2)
+        given d.0 h m end new d.1 (ap (λ (t : JobPlan). t.head) d.2) (ap (λ (t : JobPlan). t.loads) d.2) (ap (λ (t : JobPlan). t.end) d.2)
         (rw k (entries_first old d.0 d.1))

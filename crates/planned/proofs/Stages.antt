@@ -7,7 +7,6 @@ use lib.Pow.{pow_pos}
 use lib.ListN.{length, take}
 use borrow.Author.Tests.{lt-leb}
 use Rattle.job.specs.declared.Head.{Head}
-use Rattle.job.specs.declared.Refusal.{Refusal}
 use Rattle.job.specs.Refusal.{Outcome, done, refused, ◌>>=◌, ◌>>◌, mapped, demand, room, leaves}
 use Rattle.job.specs.Words.{Job, capacity}
 use Rattle.job.specs.Handed.{job_known_by}
@@ -21,15 +20,13 @@ use Rattle.ordering.specs.Ordering.{ordering, order_answer, order_list}
 use Rattle.ordering.proofs.Complete.{order_complete}
 use Rattle.ordering.proofs.Ordered.{order_entries}
 use Rattle.drive.specs.declared.Sets.{Sets}
-use Rattle.planning.specs.declared.PlanCounted.{PlanCounted}
 use Rattle.planning.specs.declared.CountEnd.{CountEnd}
-use Rattle.planning.specs.Plan.{handed, SetLists, entries, leaves_plan, plan_outcome}
+use Rattle.planning.specs.Plan.{handed, SetLists, entries, leaves_plan}
 use Rattle.planning.specs.Planning.{planning, plan_answer, plan_lists}
-use Rattle.planning.proofs.Planned.{plan_made, plan_not_made}
 use Rattle.planning.proofs.Sequence.{exact_known, planning_known_lem}
-use Rattle.planned.specs.declared.JobPlanned.{JobPlanned}
+use Rattle.planned.specs.declared.JobPlan.{JobPlan}
 use Rattle.planned.specs.Planned.{Planned, order_request, plan_in_order, order_and_plan, plan_job}
-use Rattle.planned.specs.ContractWords.{counted, Told, told, planned_outcome}
+use Rattle.planned.specs.ContractWords.{counted, told}
 use Rattle.planned.specs.ContractWords.{Lists, lists_of, leaves_lists, shortest, plan_job_answer, kept_unless, plan_job_lists}
 
 -- lists that are long enough make no difference
@@ -157,33 +154,32 @@ module _ (bs : List ℕ) (old : Lists) (wants : List ℕ) (w : wants ≡ leaves 
   read_lists q order sets e o p = rw (w, o, p, was_read bs q e, e) refl
 
 -- ---- the answer, of the load count and the end set that were answered
-module _ (bs : List ℕ) (q : Request) (e : read_bytes bs ≡ done q) (x : PlanCounted) (c : plan_outcome x ≡ mapped counted (order_and_plan q)) where
+module _ (bs : List ℕ) (q : Request) (e : read_bytes bs ≡ done q) where
   -- what is planned is what was asked
   asked : (o : Outcome (List Sets)) (order : List ℕ) (p : Planned)
       → ◌>>=◌ o (λ sets. done (record { request = q; order = order; plan = handed 0 sets })) ≡ done p → p.request ≡ q
   unfolding ◌>>=◌
-  asked (done sets) order p e = sym (ap (λ (p : Planned). p.request) (done_same e))
-  asked (refused k i) order p e = absurd (refused≢done e)
+  asked (done sets) os p e = sym (ap (λ (p : Planned). p.request) (done_same e))
+  asked (refused k i) os p e = absurd (refused≢done e)
 
   same_request : (o : Outcome (List ℕ)) (p : Planned) → ◌>>=◌ o (plan_in_order q) ≡ done p → p.request ≡ q
   unfolding ◌>>=◌ plan_in_order
   same_request (done order) p e = asked (planning (job_in q) 0 order q.head.tests) order p e
   same_request (refused k i) p e = absurd (refused≢done e)
 
-  pub tells_refusal : (r : Refusal) → x ≡ PlanCounted.Refused r → planned_outcome (JobPlanned.Refused r) ≡ mapped told (plan_job bs)
-  unfolding planned_outcome
-  tells_refusal r f =
-      refused_mapped told (plan_job bs) _ _ (was_read bs q e ∙ mapped_refused counted (order_and_plan q) _ _ (plan_not_made x _ c r f))
+  pub tells_refusal : (k i : ℕ) → mapped counted (order_and_plan q) ≡ refused k i → mapped told (plan_job bs) ≡ refused k i
+  tells_refusal k i r = sym (refused_mapped told (plan_job bs) k i (was_read bs q e ∙ mapped_refused counted (order_and_plan q) k i r))
 
-  pub tells_count : (n end : ℕ) → x ≡ PlanCounted.Count n end → planned_outcome (JobPlanned.Planned q.head n end) ≡ mapped told (plan_job bs)
-  unfolding planned_outcome order_and_plan
-  tells_count n end f =
-      let m = mapped_done counted (order_and_plan q) (record { count = n; end = end }) (plan_made x _ c n end f) in
+  pub tells_count : (a : CountEnd) → mapped counted (order_and_plan q) ≡ done a
+      → done (record { head = q.head; loads = a.count; end = a.end }) ≡ mapped told (plan_job bs)
+  unfolding order_and_plan
+  tells_count a c =
+      let m = mapped_done counted (order_and_plan q) a c in
       let s = same_request (order_request q) m.0 m.1 in
       same (ap (λ (q : Request). q.head) (sym s)) (sym m.2) ∙ done_mapped told (plan_job bs) m.0 (was_read bs q e ∙ m.1)
     where
       same : {h g : Head} {a b : CountEnd} → h ≡ g → a ≡ b
-          → ◌≡◌ {A = Outcome Told} (done (record { head = h; loads = a.count; end = a.end })) (done (record { head = g; loads = b.count; end = b.end }))
+          → ◌≡◌ {A = Outcome JobPlan} (done (record { head = h; loads = a.count; end = a.end })) (done (record { head = g; loads = b.count; end = b.end }))
       same p q i = done (record { head = p i; loads = (q i).count; end = (q i).end })
 
 -- ---- lists of at least 256 entries, and shorter ones
@@ -192,7 +188,7 @@ module _ (bs : List ℕ) (old : Lists) where
   unfolding plan_job_answer plan_job_lists kept_unless room demand ◌>>◌
   too_short h = (rw (lt-leb 256 (shortest old) h) refl, rw (lt-leb 256 (shortest old) h) refl)
 
-  pub long_enough : 256 ≤ shortest old → (answer : Outcome Told) (new : Lists) → answer ≡ mapped told (plan_job bs) → new ≡ leaves_lists bs old
+  pub long_enough : 256 ≤ shortest old → (answer : Outcome JobPlan) (new : Lists) → answer ≡ mapped told (plan_job bs) → new ≡ leaves_lists bs old
       → (answer ≡ plan_job_answer bs old) × (new ≡ plan_job_lists bs old)
   unfolding plan_job_answer plan_job_lists kept_unless ◌>>◌
   long_enough h answer new a l = (rw (done_room (shortest old) 256 h) a, rw (done_room (shortest old) 256 h) l)

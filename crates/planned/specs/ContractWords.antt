@@ -1,33 +1,21 @@
 -- What the stages answer together, and what the lists hold afterwards that are lent to them: each stage fills its own, and nothing changes where it is not
 -- reached. Words that only contracts of functions cite which a caller of the library does not see.
 use Rattle.std.specs.Prelude.{List, ℕ, min, length}
-use Rattle.job.specs.declared.Head.{Head}
-use Rattle.job.specs.Refusal.{Outcome, done, refused, number, figure, ◌>>=◌, ◌>>◌, mapped, room, leaves}
+use Rattle.job.specs.Refusal.{Outcome, done, refused, ◌>>=◌, ◌>>◌, mapped, room, leaves}
 use Rattle.job_bytes.specs.JobBytes.{read_bytes}
 use Rattle.drive.specs.Steps.{curve_count}
 use Rattle.planning.specs.declared.CountEnd.{CountEnd}
 use Rattle.planning.specs.Plan.{SetLists, entries, leaves_plan}
-use Rattle.planned.specs.declared.JobPlanned.{JobPlanned}
+use Rattle.planned.specs.declared.JobPlan.{JobPlan}
 use Rattle.planned.specs.Planned.{Planned, order_request, plan_job}
 
 -- the load count and the end set of a plan
 abbrev pub counted : Planned → CountEnd
 counted p = record { count = curve_count p.plan.loads; end = p.plan.end }
 
--- the head that was read, the load count and the end set
-pub record Told : Type 0 where
-  pub head : Head
-  pub loads : ℕ
-  pub end : ℕ
-
 -- what the function answers of a planned job
-abbrev pub told : Planned → Told
+abbrev pub told : Planned → JobPlan
 told p = record { head = p.request.head; loads = curve_count p.plan.loads; end = p.plan.end }
-
--- the answer of the function as an outcome
-unfoldable pub planned_outcome : JobPlanned → Outcome Told
-planned_outcome (JobPlanned.Planned h n end) = done (record { head = h; loads = n; end = end })
-planned_outcome (JobPlanned.Refused r) = refused (number r) (figure r)
 
 -- what the stages leave in a list of wants, an order and the drops and loads of a plan
 pub record Lists : Type 0 where
@@ -50,7 +38,7 @@ abbrev pub shortest : Lists → ℕ
 shortest l = min (min (length l.wants) (length l.order)) (entries l.sets)
 
 -- the answer of the call: 9 where a list has no room for 256 tests, then what reading, ordering and planning come to
-unfoldable pub plan_job_answer : List ℕ → Lists → Outcome Told
+unfoldable pub plan_job_answer : List ℕ → Lists → Outcome JobPlan
 plan_job_answer bs old = do
   room (shortest old) 256
   mapped told (plan_job bs)

@@ -1,12 +1,13 @@
 -- `planned::plan_job` meets its contract.
 use native.Mathlib.Omega.{arith}
+use Rattle.job.specs.Refusal.{outcome}
 use Rattle.planning.specs.Plan.{set_lists}
-use Rattle.planned.specs.ContractWords.{planned_outcome, lists_of}
+use Rattle.planned.specs.ContractWords.{lists_of}
 use Rattle.planned.proofs.Stages.{too_short, long_enough}
 use Rattle.planned.proofs.plan_job.Goals as goal
 
 pub returns-then-wants-lt-MOST_TESTS : goal.returns-then-wants-lt-MOST_TESTS
-unfolding planned_outcome
+unfolding outcome
 returns-then-wants-lt-MOST_TESTS c = let a =
     c.args in
     let both =
@@ -15,7 +16,7 @@ returns-then-wants-lt-MOST_TESTS c = let a =
     record { answer = both.0; lists = both.1 }
 
 pub returns-then-order-lt-MOST_TESTS : goal.returns-then-order-lt-MOST_TESTS
-unfolding planned_outcome
+unfolding outcome
 returns-then-order-lt-MOST_TESTS c = let a =
     c.args in
     let both =
@@ -24,7 +25,7 @@ returns-then-order-lt-MOST_TESTS c = let a =
     record { answer = both.0; lists = both.1 }
 
 pub returns-then-drops-lt-MOST_TESTS : goal.returns-then-drops-lt-MOST_TESTS
-unfolding planned_outcome
+unfolding outcome
 returns-then-drops-lt-MOST_TESTS c = let a =
     c.args in
     let both =
@@ -33,7 +34,7 @@ returns-then-drops-lt-MOST_TESTS c = let a =
     record { answer = both.0; lists = both.1 }
 
 pub returns-then-loads-lt-MOST_TESTS : goal.returns-then-loads-lt-MOST_TESTS
-unfolding planned_outcome
+unfolding outcome
 returns-then-loads-lt-MOST_TESTS c = let a =
     c.args in
     let both =
