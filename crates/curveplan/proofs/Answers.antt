@@ -7,14 +7,14 @@ use native.Mathlib.Omega.{arith}
 use native.Mathlib.Nat.{zero-add}
 use lib.Dec.{leb}
 use lib.ListN.{length, drop_of_length-le}
+use Rattle.std.specs.Prelude.{Result, Ok, Err}
 use Rattle.bitset.specs.Set.{size}
 use Rattle.job.specs.declared.Refusal.{Refusal}
-use Rattle.job.specs.declared.Counted.{Counted}
-use Rattle.job.specs.Refusal.{Outcome, done, refused, number, figure, count_outcome, ◌>>=◌, ◌>>◌, mapped, room}
+use Rattle.job.specs.Refusal.{Outcome, done, refused, number, figure, outcome, ◌>>=◌, ◌>>◌, mapped, room}
 use Rattle.job.specs.Handed.{each, wants_fit}
 use Rattle.job.specs.Words.{capacity}
 use Rattle.job_bytes.specs.JobBytes.{Request, job_in, read_bytes}
-use Rattle.job.proofs.Laws.{refused≢done, done_same, both_done, done_both, done_room, mapped_done, mapped_refused, count_done, count_refused}
+use Rattle.job.proofs.Laws.{refused≢done, done_same, both_done, done_both, done_room, mapped_done, mapped_refused, outcome_done, outcome_refused}
 use Rattle.job.proofs.Refuses.{Refuses, refuses, refuses_demand, refuses_both}
 use Rattle.job.proofs.Faults.{Examines, faultless, faulty, Fails, each_examines, none_too_large}
 use Rattle.job_bytes.proofs.SetRoundTrip.{Bytes}
@@ -153,20 +153,20 @@ call_none bs all lent = (
 
 -- ---- the answer as one number, of what was counted
 
-module _ (bs old : List ℕ) (x : Counted) (given : count_outcome x ≡ mapped length (job_to_plan bs (length old))) where
-  pub answers_count : (n : ℕ) → x ≡ Counted.Count n → n ≡ call_answer bs old
+module _ (bs old : List ℕ) (x : Result ℕ Refusal) (given : outcome x ≡ mapped length (job_to_plan bs (length old))) where
+  pub answers_count : (n : ℕ) → x ≡ Ok n → n ≡ call_answer bs old
   unfolding call_answer number_of
-  answers_count n e = let m = mapped_done length (job_to_plan bs (length old)) n (count_done x _ n given e) in rw m.1 (sym m.2)
+  answers_count n e = let m = mapped_done length (job_to_plan bs (length old)) n (outcome_done x _ n e given) in rw m.1 (sym m.2)
 
-  refusal : (r : Refusal) → x ≡ Counted.Refused r → job_to_plan bs (length old) ≡ refused (number r) (figure r)
-  refusal r e = mapped_refused length (job_to_plan bs (length old)) (number r) (figure r) (count_refused x _ r given e)
+  refusal : (r : Refusal) → x ≡ Err r → job_to_plan bs (length old) ≡ refused (number r) (figure r)
+  refusal r e = mapped_refused length (job_to_plan bs (length old)) (number r) (figure r) (outcome_refused x _ r e given)
 
-  pub answers_refusal : (r : Refusal) → x ≡ Counted.Refused r → number r * 65536 + figure r ≡ call_answer bs old
+  pub answers_refusal : (r : Refusal) → x ≡ Err r → number r * 65536 + figure r ≡ call_answer bs old
   unfolding call_answer number_of
   answers_refusal r e = rw (refusal r e) refl
 
   -- it fits in 64 bits
-  pub refusal_bounds : Bytes bs → (r : Refusal) → x ≡ Counted.Refused r → (number r ≤ 13) × (figure r ≤ 5121)
+  pub refusal_bounds : Bytes bs → (r : Refusal) → x ≡ Err r → (number r ≤ 13) × (figure r ≤ 5121)
   refusal_bounds all r e = let b =
       refuses CallRefusal (job_to_plan bs (length old)) (number r) (figure r) (call_refuses bs all (length old)) (refusal r e) in (below b.0, b.1)
     where

@@ -5,7 +5,7 @@ use Rattle.job.specs.Refusal.{number, figure}
 use Rattle.job_bytes.proofs.SetRoundTrip.{Bytes}
 use Rattle.planned.proofs.Reading.{bytes_of}
 use Rattle.curveplan.proofs.Answers.{answers_count, answers_refusal, refusal_bounds}
-use Rattle.curveplan.proofs.curveplan_plan.Goals.{After-shared_slice_known-1, In-Refused}
+use Rattle.curveplan.proofs.curveplan_plan.Goals.{After-shared_slice_known-1, In-Err}
 use Rattle.curveplan.proofs.curveplan_plan.Goals as goal
 
 -- the job's entries are bytes
@@ -13,15 +13,15 @@ bytes : (c : After-shared_slice_known-1) → Bytes c.args.job.now
 bytes c = bytes_of c.args.job.now (λ k l. omega (arith, c.shared_slice_known-1.given k))
 
 -- the refusal's number and figure are small
-small : (c : In-Refused) → (number c.in-Refused.r ≤ 13) × (figure c.in-Refused.r ≤ 5121)
+small : (c : In-Err) → (number c.in-Err.r ≤ 13) × (figure c.in-Err.r ≤ 5121)
 small c =
     refusal_bounds c.args.job.now
     c.args.plan.now _
-    c.job_to_plan.ensures.count (bytes (goal.at.In-Refused c).After-shared_slice_known-1) _
-    c.in-Refused.is
+    c.job_to_plan.ensures.count (bytes (goal.at.In-Err c).After-shared_slice_known-1) _
+    c.in-Err.is
 
 pub overflow_mul-result : goal.overflow_mul-result
-overflow_mul-result c = omega (arith, c.number_of.ensures, (small (goal.at.overflow_mul-result c).In-Refused).0)
+overflow_mul-result c = omega (arith, c.number_of.ensures, (small (goal.at.overflow_mul-result c).In-Err).0)
 
 pub overflow_add-result : goal.overflow_add-result
 overflow_add-result c =
@@ -29,19 +29,19 @@ overflow_add-result c =
       arith,
       c.number_of.ensures,
       c.figure_of.ensures,
-      (small (goal.at.overflow_add-result c).In-Refused).0,
-      (small (goal.at.overflow_add-result c).In-Refused).1,
+      (small (goal.at.overflow_add-result c).In-Err).0,
+      (small (goal.at.overflow_add-result c).In-Err).1,
     )
 
-pub returns-in-Refused : goal.returns-in-Refused
-returns-in-Refused c = let a = c.args in
+pub returns-in-Err : goal.returns-in-Err
+returns-in-Err c = let a = c.args in
     let g = c.job_to_plan.ensures in record {
       answer = rw (c.number_of.ensures, c.figure_of.ensures)
-          (answers_refusal a.job.now a.plan.now _ g.count _ c.in-Refused.is);
+          (answers_refusal a.job.now a.plan.now _ g.count _ c.in-Err.is);
       bytes = g.bytes;
     }
 
-pub returns-in-Count : goal.returns-in-Count
-returns-in-Count c = let a = c.args in
+pub returns-in-Ok : goal.returns-in-Ok
+returns-in-Ok c = let a = c.args in
     let g = c.job_to_plan.ensures in
-    record { answer = answers_count a.job.now a.plan.now _ g.count _ c.in-Count.is; bytes = g.bytes }
+    record { answer = answers_count a.job.now a.plan.now _ g.count _ c.in-Ok.is; bytes = g.bytes }
