@@ -12,19 +12,19 @@ use Rattle.job.proofs.Laws.{fitting_short, fitting_whole, done_same, refused≢d
 use Rattle.report.specs.ContractWords.{Wrote, Filled}
 
 module _ (text old : List ℕ) where
-  module _ {dummy measured : List ℕ} {n : ℕ} (first : Wrote dummy 0 text measured n) where
+  module _ {dummy measured : List ℕ} {n : ℕ} (first : Wrote dummy text measured n) where
     pub fill_short : length old < n → Filled text old (count_outcome (Counted.Refused (Refusal.BufferTooSmall n))) old
     unfolding count_outcome mapped leaves
     fill_short h =
-        let e : n ≡ length text = omega (arith, first.behind) in
+        let e : n ≡ length text = omega (arith, first.counted) in
         let f = fitting_short text (length old) (omega arith) in
         record { answers = rw (f, e) refl; holds = rw f refl }
 
-    pub fill_whole : {new : List ℕ} {m : ℕ} → n ≤ length old → Wrote old 0 text new m → Filled text old (count_outcome (Counted.Count m)) new
+    pub fill_whole : {new : List ℕ} {m : ℕ} → n ≤ length old → Wrote old text new m → Filled text old (count_outcome (Counted.Count m)) new
     unfolding count_outcome mapped leaves overwritten
     fill_whole {new} {m} h second =
-        let l : length text ≤ length old = omega (arith, first.behind) in
-        let e : m ≡ length text = omega (arith, second.behind) in
+        let l : length text ≤ length old = omega (arith, first.counted) in
+        let e : m ≡ length text = omega (arith, second.counted) in
         let z : 0 + length text ≡ length text = omega arith in
         let f = fitting_whole text (length old) l in
         record { answers = rw (f, e) refl; holds = second.written ∙ rw f (rw z at (sets-eq text old 0 (omega arith))) }

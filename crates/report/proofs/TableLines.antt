@@ -102,15 +102,6 @@ size_length p e h = rw (size_line p e h) (length-append (decimal p ++ text " pla
 pub mark_length : (p e : ℕ) → e ≡ mark → length (size_text p e) ≡ length (decimal p ++ text " places: ") + length (text "too few\n")
 mark_length p e h = rw (mark_line p e h) (length-append (decimal p ++ text " places: ") (text "too few\n"))
 
-pub size_start : (p e : ℕ) → length (decimal p ++ text " places: ") ≤ length (size_text p e)
-unfolding size_text
-size_start p e =
-    omega (
-      arith,
-      length-append (decimal p ++ text " places: " ++ entry_text (eqb e mark) e) (text "\n"),
-      length-append (decimal p ++ text " places: ") (entry_text (eqb e mark) e),
-    )
-
 pub fewest_length : (l p : ℕ) (counts : List ℕ) → fewest_places l counts ≡ found p
     → length (wanted_text (found l) counts) ≡ length (text "at most ") + length (decimal l ++ text " loads: ") + length (decimal p ++ text " places\n")
 fewest_length l p counts e = rw (fewest_line l p counts e) (lengths₃ (text "at most ") (decimal l ++ text " loads: ") (decimal p ++ text " places\n"))
@@ -118,13 +109,6 @@ fewest_length l p counts e = rw (fewest_line l p counts e) (lengths₃ (text "at
 pub none_length : (l : ℕ) (counts : List ℕ) → fewest_places l counts ≡ nobody
     → length (wanted_text (found l) counts) ≡ length (text "at most ") + length (decimal l ++ text " loads: ") + length (text "none\n")
 none_length l counts e = rw (none_line l counts e) (lengths₃ (text "at most ") (decimal l ++ text " loads: ") (text "none\n"))
-
-pub fewest_start : (l : ℕ) (counts : List ℕ) → length (text "at most ") + length (decimal l ++ text " loads: ") ≤ length (wanted_text (found l) counts)
-fewest_start l counts = go (fewest_places l counts) refl
-  where
-    go : (f : Found ℕ) → fewest_places l counts ≡ f → length (text "at most ") + length (decimal l ++ text " loads: ") ≤ length (wanted_text (found l) counts)
-    go nobody e = omega (arith, none_length l counts e)
-    go (found p) e = omega (arith, fewest_length l p counts e)
 
 pub table_length : (w : Found ℕ) (h : Head) (counts : List ℕ) →
     length (table_text w (record { head = h; counts = counts }))
