@@ -11,8 +11,9 @@ use Rattle.report.specs.ContractWords.{Appended}
 pub appended_nil : (to : Text) → Appended to [] to
 appended_nil to = record { same_reference = refl; counted = λ l. omega arith; written = λ l. refl }
 
-pub appended_append : {start mid end : Text} {a b : List ℕ} → Appended start a mid → Appended mid b end → Appended start (a ++ b) end
-appended_append {start} {mid} {end} {a} {b} x y =
+infixl 20 ◌then◌
+pub ◌then◌ : {start mid end : Text} {a b : List ℕ} → Appended start a mid → Appended mid b end → Appended start (a ++ b) end
+◌then◌ {start} {mid} {end} {a} {b} x y =
     record {
       same_reference = y.same_reference ∙ x.same_reference;
       counted = λ l. omega (arith, length-append a b, x.counted (first l), y.counted (second l));
@@ -30,7 +31,7 @@ abbrev pub Rest : Text → List ℕ → Text → List ℕ → Type 0
 Rest start text to left = (end : Text) → Appended to left end → Appended start text end
 
 pub rest_put : {start mid to : Text} {text a b : List ℕ} → Rest start text mid (a ++ b) → Appended mid a to → Rest start text to b
-rest_put r x end y = r end (appended_append x y)
+rest_put r x end y = r end (x then y)
 
 pub rest_none : {start to : Text} {text : List ℕ} → Rest start text to [] → Appended start text to
 rest_none {start} {to} r = r to (appended_nil to)

@@ -2,7 +2,7 @@ use mathlib.Core.Path.{◌≡◌}
 use native.Mathlib.Omega.{arith}
 use Rattle.report.specs.Report.{text}
 use Rattle.report.proofs.Curves.{curves_lowest, curves_none, fewer, set_none, set_some}
-use Rattle.report.proofs.Writing.{rest_put, rest_none, appended_append}
+use Rattle.report.proofs.Writing.{rest_put, rest_none, ◌then◌}
 use Rattle.report.proofs.Text.set.Goals as goal
 
 pub returns-then-s-eq0 : goal.returns-then-s-eq0
@@ -26,7 +26,7 @@ loop-left-preserved c =
       rest =
           rw c.without_lowest-left.ensures
           (rest_put (rw (curves_lowest 64 l.left (omega (arith, c.loop-left-test.true)) l.invariant.range) at l.invariant.rest)
-          (appended_append c.byte.ensures (rw c.lowest.ensures at c.decimal.ensures)));
+          (c.byte.ensures then rw c.lowest.ensures at c.decimal.ensures));
     }
 
 pub returns : goal.returns

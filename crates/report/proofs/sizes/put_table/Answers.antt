@@ -2,7 +2,7 @@
 use Rattle.report.specs.Report.{text}
 use Rattle.report.specs.SizeTable.{wanted_found}
 use Rattle.report.proofs.TableLines.{table_lines}
-use Rattle.report.proofs.Writing.{appended_append}
+use Rattle.report.proofs.Writing.{◌then◌}
 use Rattle.report.proofs.sizes.put_table.Goals as goal
 
 pub returns : goal.returns
@@ -10,5 +10,4 @@ unfolding text
 returns c =
     let a = c.args in
     rw (table_lines (wanted_found a.wanted) a.head a.counts.now)
-    (appended_append (appended_append (appended_append (appended_append c.number.ensures c.number-2.ensures) c.put_sizes.ensures) c.text.ensures)
-    c.put_wanted.ensures)
+    (c.number.ensures then c.number-2.ensures then c.put_sizes.ensures then c.text.ensures then c.put_wanted.ensures)
