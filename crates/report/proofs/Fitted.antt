@@ -31,7 +31,8 @@ module _ (text old : List ℕ) where
 
 -- a text for which there is always room: its length is answered, and the buffer begins with it
 module _ {text : List ℕ} {o : Outcome (List ℕ)} (fits : o ≡ done text) where
-  pub whole_text : (old : List ℕ) {new : List ℕ} {n : ℕ} → done n ≡ mapped length o → new ≡ leaves o old → record { count : n ≡ length text; bytes : new ≡ overwritten text old }
+  pub whole_text : (old : List ℕ) {new : List ℕ} {n : ℕ} → done n ≡ mapped length o → new ≡ leaves o old
+      → record { count : n ≡ length text; bytes : new ≡ overwritten text old }
   unfolding leaves
   whole_text old e f = record { count = done_same (e ∙ sym (done_mapped length o text fits)); bytes = f ∙ rw fits refl }
 

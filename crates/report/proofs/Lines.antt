@@ -68,7 +68,7 @@ steps_end i drops loads = refl
 
 -- ---- their lengths
 
-lengths₃ : (a b c : List ℕ) → length (a ++ b ++ c) ≡ length a + length b + length c
+pub lengths₃ : (a b c : List ℕ) → length (a ++ b ++ c) ≡ length a + length b + length c
 lengths₃ a b c = simp length-append
 
 lengths₄ : (a b c d : List ℕ) → length (a ++ b ++ c ++ d) ≡ length a + length b + length c + length d

@@ -18,6 +18,7 @@ use Rattle.every_size.specs.Sizes.{mark, serves, fewest_from, fewest_places, siz
 use Rattle.report.specs.Report.{text, decimal}
 use Rattle.report.specs.SizeTable.{entry_text, size_text, unless_last, sizes_text, places_text, wanted_text, table_text}
 use Rattle.report.proofs.Digits.{decimal_length, decimal_word}
+use Rattle.report.proofs.Lines.{lengths₃}
 
 -- ---- the line of a size
 
@@ -89,9 +90,6 @@ unfolding table_text
 table_lines w h counts = simp append_assoc
 
 -- ---- their lengths
-
-lengths₃ : (a b c : List ℕ) → length (a ++ b ++ c) ≡ length a + length b + length c
-lengths₃ a b c = simp length-append
 
 lengths₅ : (a b c d e : List ℕ) → length (a ++ b ++ c ++ d ++ e) ≡ length a + length b + length c + length d + length e
 lengths₅ a b c d e = simp length-append

@@ -18,8 +18,8 @@ pub mod sizes; // sizes.rt: the loads of every drive size
 // A buffer that takes every sheet.
 pub const SHEET_BYTES: usize = 105_000;
 
-// A text that is put into a lent buffer: `len` counts all its bytes, and the buffer takes those that it has room for. So a first pass over a buffer of one
-// byte tells how long a text is, and a second one writes it.
+// A text that is put into a lent buffer: `len` counts all its bytes, and the buffer takes those that it has room for. So a first pass over an empty
+// buffer tells how long a text is, and a second one writes it.
 #[derive(Drop)]
 struct Text<'a> {
     out: &'a mut [u8],
@@ -46,6 +46,7 @@ impl Text<'_> {
     }
 
     // A number in decimal digits.
+    // Kept: what may not change (`write_report` ensures the bytes): by its contract `write!` may answer an error, and `InlineText` a text that is cut.
     fn decimal(&mut self, n: usize)
         ensures { Appended self.old (decimal n) self.new }
     {
@@ -94,8 +95,7 @@ fn write_text<F: Fn(&mut Text)>(put: F, out: &mut [u8]) -> Counted
     requires { F.IsAlwaysCallable put }
     ensures { (bytes : List ℕ) → Puts (F.post put) bytes → length bytes < 2 ^ 64 → Filled bytes out.old (count_outcome result) out.new }
 {
-    let mut none = [0u8; 1];
-    let needed = put_text(&put, &mut none);
+    let needed = put_text(&put, &mut []);
     if out.len() < needed {
         return Counted::Refused(Refusal::BufferTooSmall(needed));
     }

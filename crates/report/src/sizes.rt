@@ -86,9 +86,10 @@ fn put_size(to: &mut Text, places: usize, entry: u16)
 {
     to.number(places, b" places: ");
     if entry == MARK {
-        return to.text(b"too few\n");
+        to.text(b"too few\n");
+    } else {
+        to.number(entry as usize, b" loads\n");
     }
-    to.number(entry as usize, b" loads\n");
 }
 
 // A line for each size, up to the first with the least loads.

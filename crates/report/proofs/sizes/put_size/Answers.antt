@@ -10,8 +10,8 @@ returns-then-entry-eq-MARK c =
     let a = c.args in
     rw (mark_line a.places a.entry c.if-entry-eq-MARK.true) (c.number.ensures then c.text.ensures)
 
-pub returns : goal.returns
+pub returns-else-entry-eq-MARK : goal.returns-else-entry-eq-MARK
 unfolding text
-returns c =
+returns-else-entry-eq-MARK c =
     let a = c.args in
-    rw (size_line a.places a.entry c.if-entry-eq-MARK.false) (c.number.ensures then c.number-2.ensures)
+    rw (size_line a.places a.entry c.if-entry-eq-MARK.false) (c.number.ensures then c.number-else-entry-eq-MARK.ensures)
