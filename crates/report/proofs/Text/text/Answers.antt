@@ -5,9 +5,6 @@ use lib.Seq.{drop-cons}
 use Rattle.report.proofs.Writing.{rest_put, rest_none}
 use Rattle.report.proofs.Text.text.Goals as goal
 
-pub loop-b-init : goal.loop-b-init
-loop-b-init c = λ end w. w
-
 pub loop-b-preserved : goal.loop-b-preserved
 loop-b-preserved c =
     let l = c.loop-b in

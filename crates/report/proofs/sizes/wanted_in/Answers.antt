@@ -1,10 +1,9 @@
-use mathlib.Core.Path.{refl, sym, ◌∙◌}
-use Prim.Native.Nat.{◌-◌, ◌<◌}
+use mathlib.Core.Path.{sym, ◌∙◌}
+use Prim.Native.Nat.{◌-◌}
 use native.Mathlib.Omega.{arith}
 use lib.ListN.{get_or}
 use Rattle.report.specs.SizeTable.{wanted_found}
-use Rattle.report.proofs.SizeTable.{count_none, count_long, count_number, number_more, number_low, number_high, number_end, digits_few, digit_more}
-use Rattle.report.proofs.sizes.wanted_in.Goals.{Else-b-gt57}
+use Rattle.report.proofs.SizeTable.{count_none, count_long, count_number, number_more, number_low, number_high, number_end, digit_more}
 use Rattle.report.proofs.sizes.wanted_in.Goals as goal
 
 pub returns-then-word-lt1 : goal.returns-then-word-lt1
@@ -14,9 +13,6 @@ returns-then-word-lt1 c = sym (count_none c.args.word.now (omega arith))
 pub returns-then-word-gt-MOST_DIGITS : goal.returns-then-word-gt-MOST_DIGITS
 unfolding wanted_found
 returns-then-word-gt-MOST_DIGITS c = sym (count_long c.args.word.now (omega arith))
-
-pub loop-b-init : goal.loop-b-init
-loop-b-init c = record { digits = omega arith; goes = refl }
 
 pub returns-then-b-lt48 : goal.returns-then-b-lt48
 unfolding wanted_found
@@ -31,16 +27,6 @@ returns-then-b-gt57 c =
     let l = c.loop-b in
     let word = c.args.word.now in
     sym (count_number word (omega arith) (omega arith) ∙ l.invariant.goes ∙ number_high l.n word l.b-index (omega arith) c.if-b-gt57.true)
-
--- at most four digits were read before
-few : (c : Else-b-gt57) → c.loop-b.n < 10000
-few c = digits_few c.loop-b.b-index c.loop-b.n (omega arith) c.loop-b.invariant.digits
-
-pub overflow_mul-n : goal.overflow_mul-n
-overflow_mul-n c = omega (arith, few (goal.at.overflow_mul-n c).Else-b-gt57)
-
-pub overflow_add-n : goal.overflow_add-n
-overflow_add-n c = omega (arith, few (goal.at.overflow_add-n c).Else-b-gt57)
 
 pub loop-b-preserved : goal.loop-b-preserved
 loop-b-preserved c =
