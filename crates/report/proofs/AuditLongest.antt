@@ -2,7 +2,7 @@
 use mathlib.Core.Path.{◌≡◌, refl, ap, subst}
 use mathlib.Core.Logic.{◌⊎◌, inl, inr}
 use mathlib.Core.List.{List, [], ◌∷◌, ◌++◌}
-use Prim.Native.Nat.{ℕ, ◌+◌, ◌-◌, ◌≤◌, ◌<◌, min}
+use Prim.Native.Nat.{ℕ, suc, ◌+◌, ◌-◌, ◌*◌, ◌^◌, ◌≤◌, ◌<◌, min}
 use native.Mathlib.Omega.{arith}
 use lib.Pow.{pow_pos}
 use lib.ListN.{length, length-append, length-map}
@@ -154,9 +154,10 @@ plan_short k i r = omega (arith, length-append (text "plan ") (printed (refused 
     go (inr (inl (e, l))) = refusal_short k i (omega arith) (omega arith)
     go (inr (inr (e, l))) = refusal_short k i (omega arith) (omega arith)
 
-counts_short : (l f : ℕ) → l < 100000 → f ≤ l → length (audit_text (done (done (record { loads = l; fewest = f })))) ≤ 128
+-- of counts with at most k + 1 digits
+pub counts_short : (k l f : ℕ) → l < 10 ^ suc k → f ≤ l → length (audit_text (done (done (record { loads = l; fewest = f })))) ≤ 3 * k + 30
 unfolding text
-counts_short l f m n =
+counts_short k l f m n =
     omega (
       arith,
       ap length (counts_lines l f),
@@ -166,9 +167,9 @@ counts_short l f m n =
       length-append (decimal l) (text "\nfewest "),
       length-append (decimal f) (text "\nshorter by "),
       length-append (decimal (l - f)) (text "\n"),
-      decimal_length 4 l (omega arith),
-      decimal_length 4 f (omega arith),
-      decimal_length 4 (l - f) (omega arith),
+      decimal_length k l m,
+      decimal_length k f (omega arith),
+      decimal_length k (l - f) (omega arith),
     )
 
 -- NO AUDIT has a longer text than 128 bytes
@@ -180,13 +181,16 @@ audit_longest job plan all = go (audit job plan) refl
     go (done (refused k i)) e = plan_short k i (audit_plan_refuses job plan (refused k i) all e)
     go (done (done a)) e =
         let s = audit_says job plan a all e in
-        counts_short a.loads a.fewest
-        (omega (
+        omega (
           arith,
-          check_few (job_in s.request) 0 (tests_of s.contents) (plan_in s.contents) a.loads s.passes,
-          (read_exact job s.request all s.job_read).is_job.tests_bound,
-        ))
-        (audit_fewer job plan a all e)
+          counts_short 4 a.loads a.fewest
+              (omega (
+                arith,
+                check_few (job_in s.request) 0 (tests_of s.contents) (plan_in s.contents) a.loads s.passes,
+                (read_exact job s.request all s.job_read).is_job.tests_bound,
+              ))
+              (audit_fewer job plan a all e),
+        )
 
 -- so a buffer of as many bytes takes every one
 pub audit_fits : (job plan : List ℕ) (lent : ℕ) → Bytes job → 128 ≤ lent → write_audit job plan lent ≡ done (audit_text (audit job plan))

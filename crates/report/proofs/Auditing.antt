@@ -153,6 +153,6 @@ audited y p q = sym q ∙ ap audited_outcome p
 
 pub audit_written : (job plan old : List ℕ) {answer : Outcome ℕ} {new : List ℕ} {o : Outcome (Outcome Audit)} → audit job plan ≡ o
     → Filled (audit_text o) old answer new
-    → (answer ≡ audit_answer job plan old) × (new ≡ audit_buffer job plan old)
+    → record { answer : answer ≡ audit_answer job plan old; bytes : new ≡ audit_buffer job plan old }
 unfolding audit_answer audit_buffer write_audit
-audit_written job plan old e f = rw e (f.answers, f.holds)
+audit_written job plan old e f = rw e (record { answer = f.answers; bytes = f.holds })

@@ -7,37 +7,37 @@ use lib.ListN.{length, take, drop, length-append}
 use lib.Seq.{sets-eq, length-take-le}
 use Rattle.job.specs.declared.Counted.{Counted}
 use Rattle.job.specs.declared.Refusal.{Refusal}
-use Rattle.job.specs.Refusal.{Outcome, done, count_outcome, mapped, overwritten, leaves}
-use Rattle.job.proofs.Laws.{fitting_short, fitting_whole, done_same, refused≢done, done_mapped, count_done, count_refused}
+use Rattle.job.specs.Refusal.{Outcome, done, refused, count_outcome, mapped, overwritten, leaves}
+use Rattle.job.proofs.Laws.{fitting_short, fitting_whole, done_same, refused≢done, done_mapped}
 use Rattle.report.specs.ContractWords.{Wrote, Filled}
 
 module _ (text old : List ℕ) where
-  module _ {dummy measured : List ℕ} {n : ℕ} (first : Wrote dummy 0 text measured n) where
+  module _ {dummy measured : List ℕ} {n : ℕ} (first : Wrote dummy text measured n) where
     pub fill_short : length old < n → Filled text old (count_outcome (Counted.Refused (Refusal.BufferTooSmall n))) old
     unfolding count_outcome mapped leaves
     fill_short h =
-        let e : n ≡ length text = omega (arith, first.behind) in
+        let e : n ≡ length text = omega (arith, first.counted) in
         let f = fitting_short text (length old) (omega arith) in
         record { answers = rw (f, e) refl; holds = rw f refl }
 
-    pub fill_whole : {new : List ℕ} {m : ℕ} → n ≤ length old → Wrote old 0 text new m → Filled text old (count_outcome (Counted.Count m)) new
+    pub fill_whole : {new : List ℕ} {m : ℕ} → n ≤ length old → Wrote old text new m → Filled text old (count_outcome (Counted.Count m)) new
     unfolding count_outcome mapped leaves overwritten
     fill_whole {new} {m} h second =
-        let l : length text ≤ length old = omega (arith, first.behind) in
-        let e : m ≡ length text = omega (arith, second.behind) in
+        let l : length text ≤ length old = omega (arith, first.counted) in
+        let e : m ≡ length text = omega (arith, second.counted) in
         let z : 0 + length text ≡ length text = omega arith in
         let f = fitting_whole text (length old) l in
         record { answers = rw (f, e) refl; holds = second.written ∙ rw f (rw z at (sets-eq text old 0 (omega arith))) }
 
 -- a text for which there is always room: its length is answered, and the buffer begins with it
-module _ (old : List ℕ) {text new : List ℕ} {x : Counted} {o : Outcome (List ℕ)} (fits : o ≡ done text) (answer : count_outcome x ≡ mapped length o)
-    (bytes : new ≡ leaves o old) where
-  pub whole_text : (n : ℕ) → x ≡ Counted.Count n → (n ≡ length text) × (new ≡ overwritten text old)
+module _ {text : List ℕ} {o : Outcome (List ℕ)} (fits : o ≡ done text) where
+  pub whole_text : (old : List ℕ) {new : List ℕ} {n : ℕ} → done n ≡ mapped length o → new ≡ leaves o old
+      → record { count : n ≡ length text; bytes : new ≡ overwritten text old }
   unfolding leaves
-  whole_text n e = (done_same (sym (count_done x (mapped length o) n answer e) ∙ sym (done_mapped length o text fits)), bytes ∙ rw fits refl)
+  whole_text old e f = record { count = done_same (e ∙ sym (done_mapped length o text fits)); bytes = f ∙ rw fits refl }
 
-  pub never_refused : (r : Refusal) → x ≡ Counted.Refused r → ⊥
-  never_refused r e = refused≢done (sym (count_refused x (mapped length o) r answer e) ∙ sym (done_mapped length o text fits))
+  pub never_refused : {k i : ℕ} → refused k i ≡ mapped length o → ⊥
+  never_refused e = refused≢done (e ∙ sym (done_mapped length o text fits))
 
 -- .. so as many bytes of the buffer can be lent
 pub whole_lent : (text old new : List ℕ) (n : ℕ) → n ≡ length text → new ≡ overwritten text old → (n ≤ length new) × (n ≡ length (take n new))

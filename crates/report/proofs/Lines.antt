@@ -68,7 +68,7 @@ steps_end i drops loads = refl
 
 -- ---- their lengths
 
-lengths₃ : (a b c : List ℕ) → length (a ++ b ++ c) ≡ length a + length b + length c
+pub lengths₃ : (a b c : List ℕ) → length (a ++ b ++ c) ≡ length a + length b + length c
 lengths₃ a b c = simp length-append
 
 lengths₄ : (a b c d : List ℕ) → length (a ++ b ++ c ++ d) ≡ length a + length b + length c + length d
@@ -162,18 +162,21 @@ end_short k n (suc s) h =
       set_length (suc s),
     )
 
--- the line of a refusal
-pub refusal_short : (k i : ℕ) → k < 100 → i < 10000 → length (printed (refused k i)) ≤ 20
+-- the line of a refusal, of a number and a figure with at most m + 1 and n + 1 digits
+pub refusal_digits : (m n k i : ℕ) → k < 10 ^ suc m → i < 10 ^ suc n → length (printed (refused k i)) ≤ m + n + 15
 unfolding text
-refusal_short k i p q =
+refusal_digits m n k i p q =
     omega (
       arith,
       refusal_length k i,
       length-append (decimal k) (text " at "),
       length-append (decimal i) (text "\n"),
-      decimal_length 1 k (omega arith),
-      decimal_length 3 i (omega arith),
+      decimal_length m k p,
+      decimal_length n i q,
     )
+
+pub refusal_short : (k i : ℕ) → k < 100 → i < 10000 → length (printed (refused k i)) ≤ 20
+refusal_short k i p q = omega (arith, refusal_digits 1 3 k i (omega arith) (omega arith))
 
 -- the whole: of at most 256 steps, all of whose numbers a word holds
 pub plan_word : (h : Head) (order drops loads : List ℕ) (end : ℕ) → h.tests < 2 ^ 64 → capacity h.rig < 2 ^ 64 → h.method < 2 ^ 64 → length order ≤ 256

@@ -11,13 +11,14 @@ use Rattle.report.specs.ContractWords.{shown, Filled}
 
 module _ (job old : List ℕ) {answer : Outcome ℕ} {new : List ℕ} where
   pub sheet_refused : (k i : ℕ) → plan_job job ≡ refused k i → Filled (printed (refused k i)) old answer new
-      → (answer ≡ sheet_answer job old) × (new ≡ sheet_buffer job old)
+      → record { answer : answer ≡ sheet_answer job old; bytes : new ≡ sheet_buffer job old }
   unfolding sheet_answer sheet_buffer write_sheet sheet
-  sheet_refused k i e f = rw e (f.answers, f.holds)
+  sheet_refused k i e f = rw e (record { answer = f.answers; bytes = f.holds })
 
   -- the text shows the head, the order and the plan
   pub sheet_planned : (p : Planned) (h : Head) (order drops loads : List ℕ) (end : ℕ) → plan_job job ≡ done p → p.request.head ≡ h → order ≡ p.order
       → plan_of drops loads end ≡ p.plan
-      → Filled (plan_text (shown h order drops loads end)) old answer new → (answer ≡ sheet_answer job old) × (new ≡ sheet_buffer job old)
+      → Filled (plan_text (shown h order drops loads end)) old answer new
+      → record { answer : answer ≡ sheet_answer job old; bytes : new ≡ sheet_buffer job old }
   unfolding sheet_answer sheet_buffer write_sheet sheet printed plan_text head_text
-  sheet_planned p h order drops loads end e f g k l = rw (e, f, ← g, ← k) (l.answers, l.holds)
+  sheet_planned p h order drops loads end e f g k l = rw (e, f, ← g, ← k) (record { answer = l.answers; bytes = l.holds })

@@ -3,7 +3,6 @@ use mathlib.Core.Path.{◌≡◌, refl, sym, ap, ◌∙◌}
 use mathlib.Core.Bool.{Bool, true, false, not, ◌&&◌}
 use mathlib.Core.List.{List, [], ◌∷◌, ◌++◌}
 use Prim.Native.Nat.{ℕ, zero, suc, ◌+◌, ◌-◌, ◌*◌, ◌/◌, ◌%◌, ◌^◌, ◌≤◌, ◌<◌}
-use native.Mathlib.Nat.{pow-le-pow_right}
 use native.Mathlib.Numerals.{add-one}
 use native.Mathlib.Decide.{ℕ_discrete}
 use native.Mathlib.Omega.{arith}
@@ -95,10 +94,7 @@ module _ (n : ℕ) (word : List ℕ) (i : ℕ) where
   unfolding number_in
   number_end h = rw (drop_of_length-le word h) refl
 
--- numbers of at most four digits, and one digit more
-pub digits_few : (i n : ℕ) → i < 5 → n < 10 ^ i → n < 10000
-digits_few i n h l = let p : 10 ^ i ≤ 10 ^ 4 = pow-le-pow_right (omega arith) {i = i} {j = 4} (omega arith) in omega arith
-
+-- numbers of so many digits, and one digit more
 pub digit_more : (n d i : ℕ) → n < 10 ^ i → d ≤ 9 → 10 * n + d < 10 ^ (i + 1)
 digit_more n d i l m = rw (add-one i) (omega arith)
 

@@ -119,23 +119,23 @@ asked_word Wanted.NotAsked vs g = tt
 
 module _ (job old : List ℕ) (wanted : Found ℕ) {answer : Outcome ℕ} {new : List ℕ} where
   refused_table : (k i : ℕ) → size_job job ≡ refused k i → Filled (printed (refused k i)) old answer new
-      → (answer ≡ table_answer job wanted old) × (new ≡ table_buffer job wanted old)
+      → record { answer : answer ≡ table_answer job wanted old; bytes : new ≡ table_buffer job wanted old }
   unfolding table_answer table_buffer write_table size_table sized_text
-  refused_table k i e f = rw e (f.answers, f.holds)
+  refused_table k i e f = rw e (record { answer = f.answers; bytes = f.holds })
 
   sized_table : (s : Sized) → size_job job ≡ done s → Filled (table_text wanted s) old answer new
-      → (answer ≡ table_answer job wanted old) × (new ≡ table_buffer job wanted old)
+      → record { answer : answer ≡ table_answer job wanted old; bytes : new ≡ table_buffer job wanted old }
   unfolding table_answer table_buffer write_table size_table sized_text
-  sized_table s e f = rw e (f.answers, f.holds)
+  sized_table s e f = rw e (record { answer = f.answers; bytes = f.holds })
 
   -- of what was answered by value
   module _ (x : JobRead) (counts : List ℕ) (sized : SizedAs (size_job job) (read_outcome x) counts) where
     pub table_refused : (r : Refusal) → x ≡ JobRead.Refused r → Filled (printed (refused (number r) (figure r))) old answer new
-        → (answer ≡ table_answer job wanted old) × (new ≡ table_buffer job wanted old)
+        → record { answer : answer ≡ table_answer job wanted old; bytes : new ≡ table_buffer job wanted old }
     table_refused r e f = refused_table _ _ (mapped_refused (λ s. s.head) (size_job job) _ _ (read_refused x _ r sized.answers e)) f
 
     pub table_made : (h : Head) → x ≡ JobRead.Read h → Filled (table_text wanted (record { head = h; counts = counts })) old answer new
-        → (answer ≡ table_answer job wanted old) × (new ≡ table_buffer job wanted old)
+        → record { answer : answer ≡ table_answer job wanted old; bytes : new ≡ table_buffer job wanted old }
     table_made h e f =
         let m = mapped_done (λ s. s.head) (size_job job) h (read_done x _ h sized.answers e) in
         sized_table m.0 m.1 (rw (← m.2, sized.gives m.0 m.1) at f)

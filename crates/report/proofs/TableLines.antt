@@ -18,6 +18,7 @@ use Rattle.every_size.specs.Sizes.{mark, serves, fewest_from, fewest_places, siz
 use Rattle.report.specs.Report.{text, decimal}
 use Rattle.report.specs.SizeTable.{entry_text, size_text, unless_last, sizes_text, places_text, wanted_text, table_text}
 use Rattle.report.proofs.Digits.{decimal_length, decimal_word}
+use Rattle.report.proofs.Lines.{lengths₃}
 
 -- ---- the line of a size
 
@@ -90,9 +91,6 @@ table_lines w h counts = simp append_assoc
 
 -- ---- their lengths
 
-lengths₃ : (a b c : List ℕ) → length (a ++ b ++ c) ≡ length a + length b + length c
-lengths₃ a b c = simp length-append
-
 lengths₅ : (a b c d e : List ℕ) → length (a ++ b ++ c ++ d ++ e) ≡ length a + length b + length c + length d + length e
 lengths₅ a b c d e = simp length-append
 
@@ -102,15 +100,6 @@ size_length p e h = rw (size_line p e h) (length-append (decimal p ++ text " pla
 pub mark_length : (p e : ℕ) → e ≡ mark → length (size_text p e) ≡ length (decimal p ++ text " places: ") + length (text "too few\n")
 mark_length p e h = rw (mark_line p e h) (length-append (decimal p ++ text " places: ") (text "too few\n"))
 
-pub size_start : (p e : ℕ) → length (decimal p ++ text " places: ") ≤ length (size_text p e)
-unfolding size_text
-size_start p e =
-    omega (
-      arith,
-      length-append (decimal p ++ text " places: " ++ entry_text (eqb e mark) e) (text "\n"),
-      length-append (decimal p ++ text " places: ") (entry_text (eqb e mark) e),
-    )
-
 pub fewest_length : (l p : ℕ) (counts : List ℕ) → fewest_places l counts ≡ found p
     → length (wanted_text (found l) counts) ≡ length (text "at most ") + length (decimal l ++ text " loads: ") + length (decimal p ++ text " places\n")
 fewest_length l p counts e = rw (fewest_line l p counts e) (lengths₃ (text "at most ") (decimal l ++ text " loads: ") (decimal p ++ text " places\n"))
@@ -118,13 +107,6 @@ fewest_length l p counts e = rw (fewest_line l p counts e) (lengths₃ (text "at
 pub none_length : (l : ℕ) (counts : List ℕ) → fewest_places l counts ≡ nobody
     → length (wanted_text (found l) counts) ≡ length (text "at most ") + length (decimal l ++ text " loads: ") + length (text "none\n")
 none_length l counts e = rw (none_line l counts e) (lengths₃ (text "at most ") (decimal l ++ text " loads: ") (text "none\n"))
-
-pub fewest_start : (l : ℕ) (counts : List ℕ) → length (text "at most ") + length (decimal l ++ text " loads: ") ≤ length (wanted_text (found l) counts)
-fewest_start l counts = go (fewest_places l counts) refl
-  where
-    go : (f : Found ℕ) → fewest_places l counts ≡ f → length (text "at most ") + length (decimal l ++ text " loads: ") ≤ length (wanted_text (found l) counts)
-    go nobody e = omega (arith, none_length l counts e)
-    go (found p) e = omega (arith, fewest_length l p counts e)
 
 pub table_length : (w : Found ℕ) (h : Head) (counts : List ℕ) →
     length (table_text w (record { head = h; counts = counts }))

@@ -1,44 +1,37 @@
 -- Texts that are put one behind the other.
-use mathlib.Core.Path.{◌≡◌, refl, sym, ap, ◌∙◌}
+use mathlib.Core.Path.{refl, sym, ◌∙◌}
 use mathlib.Core.List.{List, [], ◌++◌}
-use Prim.Native.Nat.{ℕ, ◌+◌, ◌<◌}
+use Prim.Native.Nat.{ℕ, ◌+◌, ◌<◌, ◌^◌}
 use native.Mathlib.Omega.{arith}
 use lib.ListN.{length, length-append}
-use lib.Seq.{sets, length-sets}
 use Rattle.job_bytes.proofs.Encoding.{sets_append}
-use Rattle.report.specs.ContractWords.{Wrote}
+use Rattle.report.specs.declared.Text.{Text}
+use Rattle.report.specs.ContractWords.{Appended}
 
-pub wrote_nil : (old : List ℕ) (at : ℕ) → Wrote old at [] old at
-wrote_nil old at = record { behind = omega arith; written = refl }
+pub appended_nil : (to : Text) → Appended to [] to
+appended_nil to = record { same_reference = refl; counted = λ l. omega arith; written = λ l. refl }
 
-pub wrote_append : {old mid new a b : List ℕ} {at m n : ℕ} → Wrote old at a mid m → Wrote mid m b new n → Wrote old at (a ++ b) new n
-wrote_append {old} {mid} {new} {a} {b} {at} w v =
+infixl 20 ◌then◌
+pub ◌then◌ : {start mid end : Text} {a b : List ℕ} → Appended start a mid → Appended mid b end → Appended start (a ++ b) end
+◌then◌ {start} {mid} {end} {a} {b} x y =
     record {
-      behind = omega (arith, length-append a b, w.behind, v.behind);
-      written = v.written ∙ rw (w.behind, w.written) (sym (sets_append a old b at));
+      same_reference = y.same_reference ∙ x.same_reference;
+      counted = λ l. omega (arith, length-append a b, x.counted (first l), y.counted (second l));
+      written = λ l. y.written (second l) ∙ rw (x.counted (first l), x.written (first l)) (sym (sets_append a start.out.now b start.len));
     }
+  where
+    first : start.len + length (a ++ b) < 2 ^ 64 → start.len + length a < 2 ^ 64
+    first l = omega (arith, length-append a b)
 
--- what a loop leaves: the texts behind it were put, and `left` is still to come
-pub record Rest (old : List ℕ) (at : ℕ) (text new : List ℕ) (next : ℕ) (left : List ℕ) : Type 0 where
-  pub ahead : next + length left ≡ at + length text
-  pub goes : sets old at text ≡ sets new next left
+    second : start.len + length (a ++ b) < 2 ^ 64 → mid.len + length b < 2 ^ 64
+    second l = omega (arith, length-append a b, x.counted (first l))
 
-pub rest_all : (old : List ℕ) (at : ℕ) (text : List ℕ) → Rest old at text old at text
-rest_all old at text = record { ahead = refl; goes = refl }
+-- what a loop leaves: once the texts that are left stand behind it, the whole text was put
+abbrev pub Rest : Text → List ℕ → Text → List ℕ → Type 0
+Rest start text to left = (end : Text) → Appended to left end → Appended start text end
 
-pub rest_put : {old text mid a b new : List ℕ} {at m n : ℕ} → Rest old at text mid m (a ++ b) → Wrote mid m a new n → Rest old at text new n b
-rest_put {old} {text} {mid} {a} {b} {new} {at} {m} {n} r w =
-    record {
-      ahead = omega (arith, length-append a b, r.ahead, w.behind);
-      goes = r.goes ∙ sets_append a mid b m ∙ rw (w.behind, w.written) refl;
-    }
+pub rest_put : {start mid to : Text} {text a b : List ℕ} → Rest start text mid (a ++ b) → Appended mid a to → Rest start text to b
+rest_put r x end y = r end (x then y)
 
-pub rest_none : {old text new : List ℕ} {at n : ℕ} → Rest old at text new n [] → Wrote old at text new n
-rest_none r = record { behind = omega (arith, r.ahead); written = sym r.goes }
-
--- there is room for the next text
-pub rest_room : {old text mid : List ℕ} {at m : ℕ} (a b : List ℕ) (top : ℕ) → Rest old at text mid m (a ++ b) → at + length text < top → m + length a < top
-rest_room a b top r h = omega (arith, length-append a b, r.ahead)
-
-pub wrote_length : {old new text : List ℕ} {at n : ℕ} → Wrote old at text new n → length new ≡ length old
-wrote_length {old} {new} {text} {at} w = ap length w.written ∙ length-sets old at text
+pub rest_none : {start to : Text} {text : List ℕ} → Rest start text to [] → Appended start text to
+rest_none {start} {to} r = r to (appended_nil to)

@@ -5,10 +5,10 @@ ghost use Rattle.job.specs.Words.{job_of};
 ghost use Rattle.drive.specs.Steps.{load_count};
 ghost use Rattle.planning.specs.Plan.{plan_of};
 ghost use Rattle.planning.specs.Planning.{planning};
-ghost use Rattle.report.specs.ContractWords.{Wrote, Filled};
+ghost use Rattle.report.specs.ContractWords.{Appended, Filled};
 ghost use Rattle.report.specs.Audit.{audited_outcome, audit_steps, audit_plan, audit, audit_text, audit_answer, audit_buffer};
 
-use crate::{put_number, put_text, write_refusal};
+use crate::{Text, write_refusal, write_text};
 use job::{Counted, Head, JobRead, MOST_TESTS, Refusal};
 use planning::PlanCounted;
 
@@ -86,14 +86,14 @@ fn audit(job: &[u8], plan: &[u8]) -> Audited
     }
 }
 
-fn put_counts(out: &mut [u8], loads: usize, fewest: usize) -> usize
+fn put_counts(to: &mut Text, loads: usize, fewest: usize)
     requires { fewest ≤ loads }
-    ensures { Wrote out.old 0 (audit_text (done (done (record { loads = loads; fewest = fewest })))) out.new result }
+    ensures { Appended to.old (audit_text (done (done (record { loads = loads; fewest = fewest })))) to.new }
 {
-    let mut to = put_text(out, 0, b"loads ");
-    to = put_number(out, to, loads, b"\nfewest ");
-    to = put_number(out, to, fewest, b"\nshorter by ");
-    put_number(out, to, loads - fewest, b"\n")
+    to.text(b"loads ");
+    to.number(loads, b"\nfewest ");
+    to.number(fewest, b"\nshorter by ");
+    to.number(loads - fewest, b"\n");
 }
 
 // The counts as text, where the buffer has room for it.
@@ -101,12 +101,7 @@ fn write_counts(loads: usize, fewest: usize, out: &mut [u8]) -> Counted
     requires { fewest ≤ loads }
     ensures { Filled (audit_text (done (done (record { loads = loads; fewest = fewest })))) out.old (count_outcome result) out.new }
 {
-    let mut none = [0u8; 1];
-    let needed = put_counts(&mut none, loads, fewest);
-    if out.len() < needed {
-        return Counted::Refused(Refusal::BufferTooSmall(needed));
-    }
-    Counted::Count(put_counts(out, loads, fewest))
+    write_text(|to| put_counts(to, loads, fewest), out)
 }
 
 // The audit of a plan's bytes for a job's bytes, as text in a lent buffer.

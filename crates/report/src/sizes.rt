@@ -1,13 +1,13 @@
 // The table of drive sizes: 02, wish 9, "Purchasing compares drives." It shows the loads that a drive of each size needs for a job's list, in the order of its
 // method, and for a wanted count the fewest places.
-ghost use Rattle.std.specs.Prelude.{◌≡◌, ◌+◌, ◌^◌, ◌≤◌, ◌<◌, length, get_or};
+ghost use Rattle.std.specs.Prelude.{◌≡◌, ◌≤◌, length, get_or};
 ghost use Rattle.lists.specs.Choice.{found};
 ghost use Rattle.job.specs.Refusal.{read_outcome, count_outcome, overwritten};
-ghost use Rattle.report.specs.ContractWords.{Wrote, Filled, SizedAs};
+ghost use Rattle.report.specs.ContractWords.{Appended, Filled, SizedAs};
 ghost use Rattle.report.specs.SizeTable.{size_request, size_job, size_text, sizes_text, wanted_text, table_text, size_table, table_answer, table_buffer};
 ghost use Rattle.report.specs.SizeTable.{wanted_found, count_in};
 
-use crate::{put_number, put_text, write_refusal};
+use crate::{Text, write_refusal, write_text};
 use every_size::{MARK, Size};
 use job::{Counted, Examined, Head, JobRead, MOST_TESTS, Refusal};
 
@@ -81,71 +81,62 @@ fn size_job(job: &[u8]) -> JobSized
 // ---- the text
 
 // The line of a size: its places, and its loads, or that it is too small for some test.
-fn put_size(out: &mut [u8], at: usize, places: usize, entry: u16) -> usize
-    requires { at + length (size_text places entry) < 2 ^ 64 }
-    ensures { Wrote out.old at (size_text places entry) out.new result }
+fn put_size(to: &mut Text, places: usize, entry: u16)
+    ensures { Appended to.old (size_text places entry) to.new }
 {
-    let to = put_number(out, at, places, b" places: ");
+    to.number(places, b" places: ");
     if entry == MARK {
-        return put_text(out, to, b"too few\n");
+        to.text(b"too few\n");
+    } else {
+        to.number(entry as usize, b" loads\n");
     }
-    put_number(out, to, entry as usize, b" loads\n")
 }
 
 // A line for each size, up to the first with the least loads.
-fn put_sizes(out: &mut [u8], at: usize, counts: &[u16]) -> usize
+fn put_sizes(to: &mut Text, counts: &[u16])
     requires counts_len { length counts.now ≡ 64 }
-    requires counts_bound { at + length (sizes_text (get_or counts.now 63 0) 1 counts.now) < 2 ^ 64 }
-    ensures { Wrote out.old at (sizes_text (get_or counts.now 63 0) 1 counts.now) out.new result }
+    ensures { Appended to.old (sizes_text (get_or counts.now 63 0) 1 counts.now) to.new }
 {
     let least = counts[63];
-    let mut to = at;
-    let mut i: usize = 0;
-    while i < counts.len() {
-        let entry = counts[i];
-        to = put_size(out, to, i + 1, entry);
-        if entry == least {
-            return to;
+    for (i, entry) in counts.iter().enumerate() {
+        put_size(to, i + 1, *entry);
+        if *entry == least {
+            return;
         }
-        i += 1;
     }
-    to
 }
 
 // The line of a wanted count, and the fewest places for it.
-fn put_fewest(out: &mut [u8], at: usize, loads: usize, counts: &[u16]) -> usize
-    requires { at + length (wanted_text (found loads) counts.now) < 2 ^ 64 }
-    ensures { Wrote out.old at (wanted_text (found loads) counts.now) out.new result }
+fn put_fewest(to: &mut Text, loads: usize, counts: &[u16])
+    ensures { Appended to.old (wanted_text (found loads) counts.now) to.new }
 {
-    let mut to = put_text(out, at, b"at most ");
-    to = put_number(out, to, loads, b" loads: ");
+    to.text(b"at most ");
+    to.number(loads, b" loads: ");
     match every_size::fewest_places(counts, loads) {
-        Size::Places(p) => put_number(out, to, p, b" places\n"),
-        Size::NoSize => put_text(out, to, b"none\n"),
+        Size::Places(p) => to.number(p, b" places\n"),
+        Size::NoSize => to.text(b"none\n"),
     }
 }
 
 // The same, where a count is asked for.
-fn put_wanted(out: &mut [u8], at: usize, wanted: Wanted, counts: &[u16]) -> usize
-    requires { at + length (wanted_text (wanted_found wanted) counts.now) < 2 ^ 64 }
-    ensures { Wrote out.old at (wanted_text (wanted_found wanted) counts.now) out.new result }
+fn put_wanted(to: &mut Text, wanted: Wanted, counts: &[u16])
+    ensures { Appended to.old (wanted_text (wanted_found wanted) counts.now) to.new }
 {
     match wanted {
-        Wanted::Loads(loads) => put_fewest(out, at, loads, counts),
-        Wanted::NotAsked => at,
+        Wanted::Loads(loads) => put_fewest(to, loads, counts),
+        Wanted::NotAsked => (),
     }
 }
 
-fn put_table(out: &mut [u8], head: Head, counts: &[u16], wanted: Wanted) -> usize
+fn put_table(to: &mut Text, head: Head, counts: &[u16], wanted: Wanted)
     requires counts_len { length counts.now ≡ 64 }
-    requires counts_len_bound { length (table_text (wanted_found wanted) (record { head = head; counts = counts.now })) < 2 ^ 64 }
-    ensures { Wrote out.old 0 (table_text (wanted_found wanted) (record { head = head; counts = counts.now })) out.new result }
+    ensures { Appended to.old (table_text (wanted_found wanted) (record { head = head; counts = counts.now })) to.new }
 {
-    let mut to = put_number(out, 0, head.tests, b" tests, method ");
-    to = put_number(out, to, head.method, b"\n");
-    to = put_sizes(out, to, counts);
-    to = put_text(out, to, b"more places: no fewer loads\n");
-    put_wanted(out, to, wanted, counts)
+    to.number(head.tests, b" tests, method ");
+    to.number(head.method, b"\n");
+    put_sizes(to, counts);
+    to.text(b"more places: no fewer loads\n");
+    put_wanted(to, wanted, counts);
 }
 
 // The table, where the buffer has room for it.
@@ -153,12 +144,7 @@ fn write_table(head: Head, counts: &[u16], wanted: Wanted, out: &mut [u8]) -> Co
     requires { length counts.now ≡ 64 }
     ensures { Filled (table_text (wanted_found wanted) (record { head = head; counts = counts.now })) out.old (count_outcome result) out.new }
 {
-    let mut none = [0u8; 1];
-    let needed = put_table(&mut none, head, counts, wanted);
-    if out.len() < needed {
-        return Counted::Refused(Refusal::BufferTooSmall(needed));
-    }
-    Counted::Count(put_table(out, head, counts, wanted))
+    write_text(|to| put_table(to, head, counts, wanted), out)
 }
 
 // The table of a job's bytes, in a lent buffer.
@@ -201,9 +187,7 @@ pub fn wanted_in(word: &[u8]) -> Wanted
         return Wanted::NotAsked;
     }
     let mut n: usize = 0;
-    let mut i: usize = 0;
-    while i < word.len() {
-        let b = word[i];
+    for &b in word {
         if b < b'0' {
             return Wanted::NotAsked;
         }
@@ -211,7 +195,6 @@ pub fn wanted_in(word: &[u8]) -> Wanted
             return Wanted::NotAsked;
         }
         n = 10 * n + (b - b'0') as usize;
-        i += 1;
     }
     Wanted::Loads(n)
 }

@@ -62,16 +62,12 @@ pub returns-in-Refused : goal.returns-in-Refused
 returns-in-Refused c =
     let a = c.args in
     let r = c.plan_job in
-    let both =
     sheet_refused a.job.now a.out.now _ _
     (refused_job a.job.now (bytes (goal.at.returns-in-Refused c).After-shared_slice_known-1) _ _
-    r.ensures.answer (omega arith) _ c.in-Refused.is) c.write_refusal.ensures in
-    record { answer = both.0; bytes = both.1 }
+    r.ensures.answer (omega arith) _ c.in-Refused.is) c.write_refusal.ensures
 
 pub returns-in-Planned : goal.returns-in-Planned
 returns-in-Planned c =
     let a = c.args in
     let g = given (goal.at.returns-in-Planned c).In-Planned in
-    let both =
-    sheet_planned a.job.now a.out.now g.planned _ _ _ _ _ g.is g.head g.order g.plan c.write_plan.ensures in
-    record { answer = both.0; bytes = both.1 }
+    sheet_planned a.job.now a.out.now g.planned _ _ _ _ _ g.is g.head g.order g.plan c.write_plan.ensures

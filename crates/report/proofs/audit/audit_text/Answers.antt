@@ -2,33 +2,25 @@
 use mathlib.Core.Path.{◌≡◌}
 use native.Mathlib.Omega.{arith}
 use lib.ListN.{length}
-use Rattle.job.specs.Refusal.{done}
+use Rattle.job.specs.Refusal.{done, count_outcome}
 use Rattle.planned.proofs.Reading.{bytes_of}
 use Rattle.report.specs.Audit.{audit, audit_text, write_audit, audit_answer, audit_buffer}
 use Rattle.report.proofs.Fitted.{whole_text, never_refused}
 use Rattle.report.proofs.AuditLongest.{audit_fits}
-use Rattle.report.proofs.audit.audit_text.Goals.{After-write_audit-arg-1}
+use Rattle.report.proofs.audit.audit_text.Goals.{After-write_audit}
 use Rattle.report.proofs.audit.audit_text.Goals as goal
 
--- the buffer has as many bytes as its type says, and that is enough
-fits : (c : After-write_audit-arg-1) →
+fits : (c : After-write_audit) →
     let a = c.args in
     write_audit a.job.now a.plan.now (length a.text.now) ≡ done (audit_text (audit a.job.now a.plan.now))
-fits c =
-    let a = c.args in
-    let bytes = bytes_of a.job.now (λ k l. omega (arith, c.shared_slice_known-1.given k)) in
-    audit_fits a.job.now a.plan.now (length a.text.now) bytes (omega (arith, c.write_audit-arg-1.given))
+fits c = audit_fits c.args.job.now c.args.plan.now _ (bytes_of _ (λ k l. omega (arith, c.type_inv.job k))) (omega (arith, c.told-text))
 
 pub returns-in-Count : goal.returns-in-Count
-unfolding audit_answer audit_buffer
+unfolding count_outcome audit_answer audit_buffer
 returns-in-Count c =
-    let r = c.write_audit in
-    let both =
-    whole_text _ (fits (goal.at.returns-in-Count c).After-write_audit-arg-1) r.ensures.answer r.ensures.bytes _ c.in-Count.is in
-    record { count = both.0; bytes = both.1 }
+    let r = c.in-Count.ensures in
+    whole_text (fits (goal.at.returns-in-Count c).After-write_audit) _ r.answer r.bytes
 
 pub returns-in-Refused : goal.returns-in-Refused
-unfolding audit_answer audit_buffer
-returns-in-Refused c =
-    let r = c.write_audit in
-    absurd (never_refused _ (fits (goal.at.returns-in-Refused c).After-write_audit-arg-1) r.ensures.answer r.ensures.bytes _ c.in-Refused.is)
+unfolding count_outcome audit_answer
+returns-in-Refused c = absurd (never_refused (fits (goal.at.returns-in-Refused c).After-write_audit) c.in-Refused.ensures.answer)

@@ -20,28 +20,17 @@ pub returns-in-JobRefused : goal.returns-in-JobRefused
 unfolding audited_outcome audit_text
 returns-in-JobRefused c =
     let a = c.args in
-    let e = audited (Audited.JobRefused _) c.in-JobRefused.is
-    c.audit.ensures in
-    let both =
-    audit_written a.job.now a.plan.now a.out.now e c.write_refusal.ensures in
-    record { answer = both.0; bytes = both.1 }
+    audit_written a.job.now a.plan.now a.out.now (audited (Audited.JobRefused _) c.in-JobRefused.is c.audit.ensures) c.write_refusal.ensures
 
 pub returns-in-PlanRefused : goal.returns-in-PlanRefused
 unfolding audited_outcome audit_text text
 returns-in-PlanRefused c =
     let a = c.args in
-    let e = audited (Audited.PlanRefused _) c.in-PlanRefused.is
-    c.audit.ensures in
-    let both =
-    audit_written a.job.now a.plan.now a.out.now e c.write_refusal-in-PlanRefused.ensures in
-    record { answer = both.0; bytes = both.1 }
+    audit_written a.job.now a.plan.now a.out.now (audited (Audited.PlanRefused _) c.in-PlanRefused.is c.audit.ensures)
+    c.write_refusal-in-PlanRefused.ensures
 
 pub returns-in-Counts : goal.returns-in-Counts
 unfolding audited_outcome
 returns-in-Counts c =
     let a = c.args in
-    let e = audited (Audited.Counts _ _) c.in-Counts.is
-    c.audit.ensures in
-    let both =
-    audit_written a.job.now a.plan.now a.out.now e c.write_counts.ensures in
-    record { answer = both.0; bytes = both.1 }
+    audit_written a.job.now a.plan.now a.out.now (audited (Audited.Counts _ _) c.in-Counts.is c.audit.ensures) c.write_counts.ensures

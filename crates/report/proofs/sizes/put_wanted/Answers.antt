@@ -1,12 +1,8 @@
 -- `report::sizes::put_wanted` meets its contract: no line where no count is asked for.
 use Rattle.report.specs.SizeTable.{wanted_found}
 use Rattle.report.proofs.TableLines.{no_line}
-use Rattle.report.proofs.Writing.{wrote_nil}
+use Rattle.report.proofs.Writing.{appended_nil}
 use Rattle.report.proofs.sizes.put_wanted.Goals as goal
-
-pub put_fewest-requires : goal.put_fewest-requires
-unfolding wanted_found
-put_fewest-requires c = rw c.in-Loads.is at c.requires
 
 pub returns-in-Loads : goal.returns-in-Loads
 unfolding wanted_found
@@ -14,6 +10,4 @@ returns-in-Loads c = rw c.in-Loads.is c.put_fewest.ensures
 
 pub returns-in-NotAsked : goal.returns-in-NotAsked
 unfolding wanted_found
-returns-in-NotAsked c =
-    let a = c.args in
-    rw (c.in-NotAsked.is, no_line a.counts.now) (wrote_nil a.out.now a.at)
+returns-in-NotAsked c = rw (c.in-NotAsked.is, no_line c.args.counts.now) (appended_nil c.args.to.now)

@@ -1,10 +1,9 @@
-use mathlib.Core.Path.{refl, sym, ◌∙◌}
-use Prim.Native.Nat.{◌-◌, ◌<◌}
+use mathlib.Core.Path.{sym, ◌∙◌}
+use Prim.Native.Nat.{◌-◌}
 use native.Mathlib.Omega.{arith}
 use lib.ListN.{get_or}
 use Rattle.report.specs.SizeTable.{wanted_found}
-use Rattle.report.proofs.SizeTable.{count_none, count_long, count_number, number_more, number_low, number_high, number_end, digits_few, digit_more}
-use Rattle.report.proofs.sizes.wanted_in.Goals.{Else-b-gt57}
+use Rattle.report.proofs.SizeTable.{count_none, count_long, count_number, number_more, number_low, number_high, number_end, digit_more}
 use Rattle.report.proofs.sizes.wanted_in.Goals as goal
 
 pub returns-then-word-lt1 : goal.returns-then-word-lt1
@@ -15,46 +14,32 @@ pub returns-then-word-gt-MOST_DIGITS : goal.returns-then-word-gt-MOST_DIGITS
 unfolding wanted_found
 returns-then-word-gt-MOST_DIGITS c = sym (count_long c.args.word.now (omega arith))
 
-pub loop-i-init : goal.loop-i-init
-loop-i-init c = record { turns = omega arith; digits = omega arith; goes = refl }
-
 pub returns-then-b-lt48 : goal.returns-then-b-lt48
 unfolding wanted_found
 returns-then-b-lt48 c =
-    let l = c.loop-i in
+    let l = c.loop-b in
     let word = c.args.word.now in
-    sym (count_number word (omega arith) (omega arith) ∙ l.invariant.goes ∙ number_low l.n word l.i (omega arith) c.if-b-lt48.true)
+    sym (count_number word (omega arith) (omega arith) ∙ l.invariant.goes ∙ number_low l.n word l.b-index (omega arith) c.if-b-lt48.true)
 
 pub returns-then-b-gt57 : goal.returns-then-b-gt57
 unfolding wanted_found
 returns-then-b-gt57 c =
-    let l = c.loop-i in
+    let l = c.loop-b in
     let word = c.args.word.now in
-    sym (count_number word (omega arith) (omega arith) ∙ l.invariant.goes ∙ number_high l.n word l.i (omega arith) c.if-b-gt57.true)
+    sym (count_number word (omega arith) (omega arith) ∙ l.invariant.goes ∙ number_high l.n word l.b-index (omega arith) c.if-b-gt57.true)
 
--- at most four digits were read before
-few : (c : Else-b-gt57) → c.loop-i.n < 10000
-few c = digits_few c.loop-i.i c.loop-i.n (omega arith) c.loop-i.invariant.digits
-
-pub overflow_mul-n : goal.overflow_mul-n
-overflow_mul-n c = omega (arith, few (goal.at.overflow_mul-n c).Else-b-gt57)
-
-pub overflow_add-n : goal.overflow_add-n
-overflow_add-n c = omega (arith, few (goal.at.overflow_add-n c).Else-b-gt57)
-
-pub loop-i-preserved : goal.loop-i-preserved
-loop-i-preserved c =
-    let l = c.loop-i in
+pub loop-b-preserved : goal.loop-b-preserved
+loop-b-preserved c =
+    let l = c.loop-b in
     let word = c.args.word.now in
     record {
-      turns = omega arith;
-      digits = digit_more l.n (get_or word l.i 0 - 48) l.i l.invariant.digits (omega arith);
-      goes = l.invariant.goes ∙ number_more l.n word l.i (omega arith) (omega arith) (omega arith);
+      digits = digit_more l.n (get_or word l.b-index 0 - 48) l.b-index l.invariant.digits (omega arith);
+      goes = l.invariant.goes ∙ number_more l.n word l.b-index (omega arith) (omega arith) (omega arith);
     }
 
 pub returns : goal.returns
 unfolding wanted_found
 returns c =
-    let l = c.loop-i in
+    let l = c.loop-b in
     let word = c.args.word.now in
-    sym (count_number word (omega arith) (omega arith) ∙ l.invariant.goes ∙ number_end l.n word l.i (omega arith))
+    sym (count_number word (omega arith) (omega arith) ∙ l.invariant.goes ∙ number_end l.n word l.b-index (omega arith))

@@ -6,15 +6,9 @@ use Rattle.report.proofs.sizes.write_size_table.Goals as goal
 pub returns-in-Refused : goal.returns-in-Refused
 returns-in-Refused c =
     let a = c.args in
-    let both =
-    table_refused a.job.now a.out.now (wanted_found a.wanted) _ _ c.size_job-sized.ensures _ c.in-Refused.is
-    c.write_refusal.ensures in
-    record { answer = both.0; bytes = both.1 }
+    table_refused a.job.now a.out.now (wanted_found a.wanted) _ _ c.size_job-sized.ensures _ c.in-Refused.is c.write_refusal.ensures
 
 pub returns-in-Read : goal.returns-in-Read
 returns-in-Read c =
     let a = c.args in
-    let both =
-    table_made a.job.now a.out.now (wanted_found a.wanted) _ _ c.size_job-sized.ensures _ c.in-Read.is
-    c.write_table.ensures in
-    record { answer = both.0; bytes = both.1 }
+    table_made a.job.now a.out.now (wanted_found a.wanted) _ _ c.size_job-sized.ensures _ c.in-Read.is c.write_table.ensures
