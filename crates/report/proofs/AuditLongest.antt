@@ -6,6 +6,7 @@ use Prim.Native.Nat.{ℕ, suc, ◌+◌, ◌-◌, ◌*◌, ◌^◌, ◌≤◌, �
 use native.Mathlib.Omega.{arith}
 use lib.Pow.{pow_pos}
 use lib.ListN.{length, length-append, length-map}
+use Rattle.std.specs.Prelude.{Result, Ok, Err}
 use Rattle.job.specs.Refusal.{Outcome, done, refused, ◌>>=◌, ◌>>◌}
 use Rattle.job.specs.Handed.{job_known, held_known, counts_known, all_curves}
 use Rattle.job.proofs.Laws.{done_both, done_room, both_done, mapped_done}
@@ -19,8 +20,6 @@ use Rattle.job_bytes.specs.JobBytes.{Request, job_in, read_bytes}
 use Rattle.job_bytes.proofs.JobBounds.{figure_short}
 use Rattle.job_bytes.proofs.ReadExact.{ReadJob, read_exact}
 use Rattle.job_bytes.proofs.SetRoundTrip.{Bytes}
-use Rattle.drive.specs.declared.Checked.{Checked}
-use Rattle.drive.specs.declared.Checked.TheVariants.{Ends, Breaks}
 use Rattle.drive.specs.Steps.{Move}
 use Rattle.drive.specs.Check.{check_from}
 use Rattle.drive.proofs.CheckExact.{fault_within}
@@ -34,7 +33,8 @@ use Rattle.plan_bytes.proofs.ReadPlan.{plan_count}
 use Rattle.plan_bytes.proofs.PlanBounds.{plan_figure, plan_eleven}
 use Rattle.job_bytes.proofs.ReadRefuses.{ByReading, number_between, read_refuses}
 use Rattle.report.specs.Report.{text, decimal, printed}
-use Rattle.report.specs.Audit.{Audit, audit_steps, audit_plan, audit, audit_text, write_audit}
+use Rattle.report.specs.declared.audit.LoadCounts.{LoadCounts}
+use Rattle.report.specs.Audit.{audit_steps, audit_plan, audit, audit_text, write_audit}
 use Rattle.report.proofs.Digits.{decimal_length}
 use Rattle.report.proofs.Lines.{refusal_short}
 use Rattle.report.proofs.Auditing.{counts_lines}
@@ -70,9 +70,9 @@ steps_small : (places all : ℕ) (ms : List Move) → length ms ≤ 256 → Refu
 unfolding checked_outcome
 steps_small places all ms l = go (check_from places all 0 0 ms) refl
   where
-    go : (c : Checked) → check_from places all 0 0 ms ≡ c → Refuses OfPlan (checked_outcome c)
-    go (Ends h) e = tt
-    go (Breaks i) e = at_step i (omega (arith, fault_within places all 0 0 ms i e))
+    go : (c : Result ℕ ℕ) → check_from places all 0 0 ms ≡ c → Refuses OfPlan (checked_outcome c)
+    go (Ok h) e = tt
+    go (Err i) e = at_step i (omega (arith, fault_within places all 0 0 ms i e))
 
 steps_count : (curves tests : ℕ) (plan : List ℕ) (ss : Contents) → plan_steps curves tests plan ≡ done ss → length ss.steps ≡ tests
 unfolding plan_steps
@@ -133,7 +133,7 @@ audit_job_refuses job plan = refuses_mapped OfJob (λ j. audit_plan j plan) (rea
     go (refused k i) e = (refuses ByReading (read_bytes job) k i (read_refuses job) e, (figure_short job k i e).0)
 
 -- .. AND A REFUSED PLAN has 8, 11 or 12
-pub audit_plan_refuses : (job plan : List ℕ) (o : Outcome Audit) → Bytes job → audit job plan ≡ done o → Refuses OfPlan o
+pub audit_plan_refuses : (job plan : List ℕ) (o : Outcome LoadCounts) → Bytes job → audit job plan ≡ done o → Refuses OfPlan o
 unfolding audit
 audit_plan_refuses job plan o all e =
     let x = mapped_done (λ j. audit_plan j plan) (read_bytes job) o e in
@@ -176,7 +176,7 @@ counts_short k l f m n =
 pub audit_longest : (job plan : List ℕ) → Bytes job → length (audit_text (audit job plan)) ≤ 128
 audit_longest job plan all = go (audit job plan) refl
   where
-    go : (o : Outcome (Outcome Audit)) → audit job plan ≡ o → length (audit_text o) ≤ 128
+    go : (o : Outcome (Outcome LoadCounts)) → audit job plan ≡ o → length (audit_text o) ≤ 128
     go (refused k i) e = job_short k i (refuses OfJob (audit job plan) k i (audit_job_refuses job plan) e)
     go (done (refused k i)) e = plan_short k i (audit_plan_refuses job plan (refused k i) all e)
     go (done (done a)) e =

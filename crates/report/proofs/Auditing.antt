@@ -3,25 +3,23 @@ use mathlib.Core.Path.{◌≡◌, refl, sym, ap, ◌∙◌}
 use mathlib.Core.List.{List, ◌++◌, append_assoc}
 use Prim.Native.Nat.{ℕ, ◌-◌, ◌≤◌, min}
 use lib.ListN.{length, take, length-map}
-use Rattle.job.specs.declared.Counted.{Counted}
+use Rattle.std.specs.Prelude.{Result}
 use Rattle.job.specs.declared.Refusal.{Refusal}
-use Rattle.job.specs.Refusal.{Outcome, done, refused, number, figure, count_outcome, ◌>>=◌, ◌>>◌, mapped}
+use Rattle.job.specs.Refusal.{Outcome, done, refused, ◌>>=◌, ◌>>◌, mapped}
 use Rattle.job.specs.Words.{Job}
 use Rattle.job.specs.Handed.{counts_known}
-use Rattle.job_bytes.specs.JobBytes.{Request, job_in, read_bytes}
+use Rattle.job_bytes.specs.JobBytes.{Request, read_bytes}
 use Rattle.job.proofs.Laws.{both_done, done_room, mapped_done, mapped_refused, done_mapped, refused_mapped, leaves_done}
 use Rattle.lists.proofs.Overwritten.{front}
 use Rattle.drive.specs.Steps.{load_count}
-use Rattle.planning.specs.declared.PlanCounted.{PlanCounted}
 use Rattle.planning.specs.declared.CountEnd.{CountEnd}
-use Rattle.planning.specs.Plan.{Plan, SetLists, first, entries, count_end, plan_outcome}
-use Rattle.planning.specs.Planning.{planning, checking, plan_answer}
-use Rattle.planning.proofs.Planned.{plan_made, plan_not_made}
+use Rattle.planning.specs.Plan.{SetLists, first, entries, count_end}
+use Rattle.planning.specs.Planning.{planning, plan_answer}
 use Rattle.plan_bytes.specs.PlanBytes.{Contents, tests_of, plan_in, plan_steps, read_plan, plan_read, read_plan_bytes, read_plan_answer, read_plan_order, read_plan_lists}
 use Rattle.plan_bytes.proofs.ReadPlan.{plan_count}
 use Rattle.planned.proofs.Stages.{planning_room}
-use Rattle.report.specs.declared.audit.Audited.{Audited}
-use Rattle.report.specs.Audit.{Audit, audit_steps, audit_plan, audit, audited_outcome, audit_text, write_audit, audit_answer, audit_buffer}
+use Rattle.report.specs.declared.audit.LoadCounts.{LoadCounts}
+use Rattle.report.specs.Audit.{audit_steps, audit_plan, audit, audited_outcome, audit_text, write_audit, audit_answer, audit_buffer}
 use Rattle.report.specs.Report.{text, decimal}
 use Rattle.report.specs.ContractWords.{Filled}
 
@@ -32,46 +30,24 @@ unfolding mapped
 mapped_twice f g (done a) = refl
 mapped_twice f g (refused k i) = refl
 
-mapped_bind : {A B : Type 0} (f : A → B) (a : Outcome A) → mapped f a ≡ ◌>>=◌ a (λ x. done (f x))
+pub mapped_bind : {A B : Type 0} (f : A → B) (a : Outcome A) → mapped f a ≡ ◌>>=◌ a (λ x. done (f x))
 unfolding mapped ◌>>=◌
 mapped_bind f (done a) = refl
 mapped_bind f (refused k i) = refl
 
 -- ---- the fewest loads
 
-module _ (j : Job) (order : List ℕ) (lent : SetLists) (k n : ℕ) (fits : length j.wants ≤ n) (long : length j.wants ≤ entries lent)
-    (x : PlanCounted) (e : plan_outcome x ≡ plan_answer j 0 order lent) where
-  abbrev beside : Outcome Audit
-  beside = mapped (λ q. record { loads = k; fewest = load_count q }) (planning j 0 order n)
-
-  counts : mapped (λ m. record { loads = k; fewest = m.count }) (plan_outcome x) ≡ beside
+module _ (j : Job) (order : List ℕ) (lent : SetLists) (k n : ℕ) (fits : length j.wants ≤ n) (long : length j.wants ≤ entries lent) where
+  pub counts : (o : Outcome CountEnd) → o ≡ plan_answer j 0 order lent
+      → mapped (λ m. record { loads = k; fewest = m.count }) o
+      ≡ mapped {B = LoadCounts} (λ q. record { loads = k; fewest = load_count q }) (planning j 0 order n)
   unfolding plan_answer
-  counts =
+  counts o e =
       rw (
         e,
-        mapped_twice {C = Audit} (count_end 0) (λ m. record { loads = k; fewest = m.count }) (planning j 0 order (entries lent)),
+        mapped_twice {C = LoadCounts} (count_end 0) (λ m. record { loads = k; fewest = m.count }) (planning j 0 order (entries lent)),
         planning_room j 0 order (entries lent) n long fits,
       ) refl
-
-  pub fewest_refused : (r : Refusal) → x ≡ PlanCounted.Refused r → audited_outcome (Audited.PlanRefused r) ≡ done beside
-  unfolding audited_outcome plan_outcome mapped
-  fewest_refused r f = ap done (rw f at counts)
-
-  pub fewest_counted : (m end : ℕ) → x ≡ PlanCounted.Count m end → audited_outcome (Audited.Counts k m) ≡ done beside
-  unfolding audited_outcome plan_outcome mapped
-  fewest_counted m end f = ap done (rw f at counts)
-
--- ---- the plan check
-
-module _ (q : Request) (order : List ℕ) (p : Plan) (x : Counted) (e : count_outcome x ≡ checking (job_in q) 0 order p) where
-  pub steps_refused : (r : Refusal) → x ≡ Counted.Refused r → audited_outcome (Audited.PlanRefused r) ≡ done (audit_steps q order p)
-  unfolding audited_outcome audit_steps count_outcome ◌>>=◌
-  steps_refused r f = rw (← e, f) refl
-
-  pub steps_counted : (n : ℕ) → x ≡ Counted.Count n
-      → mapped (λ s. record { loads = n; fewest = load_count s }) (planning (job_in q) 0 order q.head.tests) ≡ audit_steps q order p
-  unfolding audit_steps count_outcome ◌>>=◌
-  steps_counted n f = rw (← e, f) (mapped_bind (λ s. record { loads = n; fewest = load_count s }) (planning (job_in q) 0 order q.head.tests))
 
 -- ---- the plan's bytes
 
@@ -107,32 +83,31 @@ module _ (q : Request) (plan O : List ℕ) (lent : SetLists) (long : q.head.test
       ∙ front (plan_in ss).loads lent.loads t (length-map ss.steps (λ s. s.step.loads) ∙ k) in
       rw (el, po, pd, pl, m) refl
 
-  module _ (x : PlanCounted) (e : plan_outcome x ≡ read_plan_answer c t plan O lent) where
-    -- the number of steps, and the end set
-    abbrev told : Contents → CountEnd
-    told ss = record { count = length ss.steps; end = ss.end }
+  -- the number of steps, and the end set
+  abbrev told : Contents → CountEnd
+  told ss = record { count = length ss.steps; end = ss.end }
 
-    answered : plan_outcome x ≡ mapped told (plan_steps c t plan)
-    unfolding read_plan_answer
-    answered = e ∙ ap (mapped told) whole
+  answered : (o : Outcome CountEnd) → o ≡ read_plan_answer c t plan O lent → mapped told (plan_steps c t plan) ≡ o
+  unfolding read_plan_answer
+  answered o e = sym (e ∙ ap (mapped told) whole)
 
-    pub plan_refused : (r : Refusal) → x ≡ PlanCounted.Refused r → audited_outcome (Audited.PlanRefused r) ≡ done (audit_plan q plan)
-    unfolding audited_outcome audit_plan ◌>>=◌
-    plan_refused r f = rw (mapped_refused told (plan_steps c t plan) (number r) (figure r) (plan_not_made x _ answered r f)) refl
+  pub plan_refused : (k i : ℕ) → refused k i ≡ read_plan_answer c t plan O lent → audit_plan q plan ≡ refused k i
+  unfolding audit_plan ◌>>=◌
+  plan_refused k i e = rw (mapped_refused told (plan_steps c t plan) k i (answered _ e)) refl
 
-    pub plan_counted : (n end : ℕ) → x ≡ PlanCounted.Count n end → (O' : List ℕ) (new : SetLists) → O' ≡ read_plan_order c t plan O lent
-        → new ≡ read_plan_lists c t plan O lent
-        → audit_steps q (take t O') (first t new end) ≡ audit_plan q plan
-    plan_counted n end f O' new eo el =
-        let m = mapped_done told (plan_steps c t plan) (record { count = n; end = end }) (plan_made x _ answered n end f) in
-        ap (λ (a : CountEnd). audit_steps q (take t O') (first t new a.end)) (sym m.2) ∙ given m.0 m.1 O' new eo el
+  pub plan_counted : (a : CountEnd) → done a ≡ read_plan_answer c t plan O lent → (O' : List ℕ) (new : SetLists) → O' ≡ read_plan_order c t plan O lent
+      → new ≡ read_plan_lists c t plan O lent
+      → audit_steps q (take t O') (first t new a.end) ≡ audit_plan q plan
+  plan_counted a e O' new eo el =
+      let m = mapped_done told (plan_steps c t plan) a (answered _ e) in
+      ap (λ (a : CountEnd). audit_steps q (take t O') (first t new a.end)) (sym m.2) ∙ given m.0 m.1 O' new eo el
 
 -- ---- the job's bytes
 
 module _ (job plan : List ℕ) where
-  pub job_refused : (r : Refusal) → read_bytes job ≡ refused (number r) (figure r) → audited_outcome (Audited.JobRefused r) ≡ audit job plan
-  unfolding audited_outcome audit
-  job_refused r e = refused_mapped (λ j. audit_plan j plan) (read_bytes job) (number r) (figure r) e
+  pub job_refused : (k i : ℕ) → read_bytes job ≡ refused k i → refused k i ≡ audit job plan
+  unfolding audit
+  job_refused k i e = refused_mapped (λ j. audit_plan j plan) (read_bytes job) k i e
 
   pub job_done : (j : Request) → read_bytes job ≡ done j → done (audit_plan j plan) ≡ audit job plan
   unfolding audit
@@ -148,10 +123,10 @@ unfolding audit_text
 counts_lines l f = simp append_assoc
 
 -- of what the audit answered
-pub audited : {x : Audited} {o : Outcome (Outcome Audit)} (y : Audited) → x ≡ y → audited_outcome x ≡ o → o ≡ audited_outcome y
+pub audited : {x : Result (Result LoadCounts Refusal) Refusal} {o : Outcome (Outcome LoadCounts)} (y : Result (Result LoadCounts Refusal) Refusal) → x ≡ y → audited_outcome x ≡ o → o ≡ audited_outcome y
 audited y p q = sym q ∙ ap audited_outcome p
 
-pub audit_written : (job plan old : List ℕ) {answer : Outcome ℕ} {new : List ℕ} {o : Outcome (Outcome Audit)} → audit job plan ≡ o
+pub audit_written : (job plan old : List ℕ) {answer : Outcome ℕ} {new : List ℕ} {o : Outcome (Outcome LoadCounts)} → audit job plan ≡ o
     → Filled (audit_text o) old answer new
     → record { answer : answer ≡ audit_answer job plan old; bytes : new ≡ audit_buffer job plan old }
 unfolding audit_answer audit_buffer write_audit

@@ -27,7 +27,8 @@ use Rattle.planning.proofs.CheckExact.{passed, check_count}
 use Rattle.planning.proofs.Sequence.{exact_known, planning_known_lem, plan_done}
 use Rattle.planning.proofs.Demand3.{our_check, our_least}
 use Rattle.plan_bytes.specs.PlanBytes.{Contents, tests_of, plan_in, plan_steps}
-use Rattle.report.specs.Audit.{Audit, audit_steps, audit_plan, audit}
+use Rattle.report.specs.declared.audit.LoadCounts.{LoadCounts}
+use Rattle.report.specs.Audit.{audit_steps, audit_plan, audit}
 
 abbrev Small : ℕ → List ℕ → Type 0
 Small p [] = Unit {0}
@@ -77,7 +78,7 @@ ours_least j held order p m e = omega (arith, our_least j held order p m e, chec
 
 -- ---- what an audit says that is done
 
-pub record Says (job plan : List ℕ) (a : Audit) : Type 0 where
+pub record Says (job plan : List ℕ) (a : LoadCounts) : Type 0 where
   pub request : Request
   pub contents : Contents
   pub job_read : read_bytes job ≡ done request
@@ -90,7 +91,7 @@ pub record Says (job plan : List ℕ) (a : Audit) : Type 0 where
   pub least : (other : Plan) (m : ℕ) → checking (job_in request) 0 (tests_of contents) other ≡ done m → a.fewest ≤ m
 
 -- a job that was read, and steps of which the check passes
-said : (q : Request) (order : List ℕ) (p : Plan) (a : Audit) → length q.wants ≤ q.head.tests → audit_steps q order p ≡ done a
+said : (q : Request) (order : List ℕ) (p : Plan) (a : LoadCounts) → length q.wants ≤ q.head.tests → audit_steps q order p ≡ done a
     → (checking (job_in q) 0 order p ≡ done a.loads) × (a.fewest ≡ load_count (our_plan (job_in q) 0 order))
 unfolding audit_steps ◌>>=◌
 said q order p a l e = go (checking (job_in q) 0 order p) refl e
@@ -102,11 +103,11 @@ said q order p a l e = go (checking (job_in q) 0 order p) refl e
         let g : done (record { loads = m; fewest = load_count (our_plan (job_in q) 0 order) }) ≡ done a =
         rw (passed_planned (job_in q) 0 order p m h q.head.tests l) at f in
         let same = done_same g in
-        (h ∙ ap (λ (x : Audit). done x.loads) same, sym (ap (λ (x : Audit). x.fewest) same))
+        (h ∙ ap (λ (x : LoadCounts). done x.loads) same, sym (ap (λ (x : LoadCounts). x.fewest) same))
     go (refused k i) h f = absurd (refused≢done f)
 
 -- AN AUDIT THAT IS DONE answers the plan's loads and the fewest
-pub audit_says : (job plan : List ℕ) (a : Audit) → Bytes job → audit job plan ≡ done (done a) → Says job plan a
+pub audit_says : (job plan : List ℕ) (a : LoadCounts) → Bytes job → audit job plan ≡ done (done a) → Says job plan a
 unfolding audit audit_plan
 audit_says job plan a all e =
     let r = mapped_done (λ q. audit_plan q plan) (read_bytes job) (done a) e in
@@ -126,5 +127,5 @@ audit_says job plan a all e =
       least = λ other m h. omega (arith, ours_least (job_in q) 0 (tests_of s.0) other m h, t.1);
     }
 
-pub audit_fewer : (job plan : List ℕ) (a : Audit) → Bytes job → audit job plan ≡ done (done a) → a.fewest ≤ a.loads
+pub audit_fewer : (job plan : List ℕ) (a : LoadCounts) → Bytes job → audit job plan ≡ done (done a) → a.fewest ≤ a.loads
 audit_fewer job plan a all e = let s = audit_says job plan a all e in s.least (plan_in s.contents) a.loads s.passes

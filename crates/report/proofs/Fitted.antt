@@ -5,23 +5,23 @@ use Prim.Native.Nat.{ℕ, ◌+◌, ◌≤◌, ◌<◌}
 use native.Mathlib.Omega.{arith}
 use lib.ListN.{length, take, drop, length-append}
 use lib.Seq.{sets-eq, length-take-le}
-use Rattle.job.specs.declared.Counted.{Counted}
+use Rattle.std.specs.Prelude.{Ok, Err}
 use Rattle.job.specs.declared.Refusal.{Refusal}
-use Rattle.job.specs.Refusal.{Outcome, done, refused, count_outcome, mapped, overwritten, leaves}
+use Rattle.job.specs.Refusal.{Outcome, done, refused, outcome, mapped, overwritten, leaves}
 use Rattle.job.proofs.Laws.{fitting_short, fitting_whole, done_same, refused≢done, done_mapped}
 use Rattle.report.specs.ContractWords.{Wrote, Filled}
 
 module _ (text old : List ℕ) where
   module _ {dummy measured : List ℕ} {n : ℕ} (first : Wrote dummy text measured n) where
-    pub fill_short : length old < n → Filled text old (count_outcome (Counted.Refused (Refusal.BufferTooSmall n))) old
-    unfolding count_outcome mapped leaves
+    pub fill_short : length old < n → Filled text old (outcome (Err (Refusal.BufferTooSmall n))) old
+    unfolding outcome mapped leaves
     fill_short h =
         let e : n ≡ length text = omega (arith, first.counted) in
         let f = fitting_short text (length old) (omega arith) in
         record { answers = rw (f, e) refl; holds = rw f refl }
 
-    pub fill_whole : {new : List ℕ} {m : ℕ} → n ≤ length old → Wrote old text new m → Filled text old (count_outcome (Counted.Count m)) new
-    unfolding count_outcome mapped leaves overwritten
+    pub fill_whole : {new : List ℕ} {m : ℕ} → n ≤ length old → Wrote old text new m → Filled text old (outcome (Ok m)) new
+    unfolding outcome mapped leaves overwritten
     fill_whole {new} {m} h second =
         let l : length text ≤ length old = omega (arith, first.counted) in
         let e : m ≡ length text = omega (arith, second.counted) in

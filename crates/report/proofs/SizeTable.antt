@@ -16,7 +16,8 @@ use Rattle.every_size.specs.Sizes.{mark, serves, fewest_from, fewest_places}
 use Rattle.sizing.specs.EverySize.{entry_for, EverySize}
 use Rattle.sizing.proofs.EverySize.{sizes_exact}
 use Rattle.report.specs.Report.{high_digits, decimal}
-use Rattle.report.specs.SizeTable.{Sized, size_job, size_text, unless_last, sizes_text, is_digit, digit_by, number_in, count_in}
+use Rattle.report.specs.declared.sizes.JobSizes.{JobSizes}
+use Rattle.report.specs.SizeTable.{size_job, size_text, unless_last, sizes_text, is_digit, digit_by, number_in, count_in}
 use Rattle.report.proofs.Decimal.{value_from, decimal_value}
 use Rattle.report.proofs.Digits.{decimal_length}
 use Rattle.report.proofs.Sizing.{sized_by}
@@ -208,7 +209,7 @@ module _ (curves : ℕ) (wants order counts : List ℕ) (every : EverySize curve
           )
 
 -- THE LINES OF A SIZED JOB go up to the fewest places for the least count, behind which more places save nothing
-pub table_rows : (bs : List ℕ) (s : Sized) → size_job bs ≡ done s → (p : ℕ) × Rows s.counts p
+pub table_rows : (bs : List ℕ) (s : JobSizes) → size_job bs ≡ done s → (p : ℕ) × Rows s.counts p
 table_rows bs s e =
     let b = sized_by bs s e in
     rows b.request.head.rig.curves b.request.wants b.order s.counts (sizes_exact _ _ _ s.counts b.made)

@@ -13,7 +13,7 @@ use lib.ListN.{length, get_or, drop, length-append, drop_of_length-le}
 use lib.Seq.{drop-cons}
 use Rattle.lists.specs.Choice.{Found, nobody, found, keep}
 use Rattle.job.specs.declared.Head.{Head}
-use Rattle.every_size.specs.declared.Size.{Size}
+use Rattle.std.specs.Prelude.{Option, Some, None}
 use Rattle.every_size.specs.Sizes.{mark, serves, fewest_from, fewest_places, size_found}
 use Rattle.report.specs.Report.{text, decimal}
 use Rattle.report.specs.SizeTable.{entry_text, size_text, unless_last, sizes_text, places_text, wanted_text, table_text}
@@ -72,11 +72,11 @@ unfolding wanted_text
 no_line counts = refl
 
 -- what the fewest places were answered to be
-pub places_found : (x : Size) (f : Found ℕ) (p : ℕ) → size_found x ≡ f → x ≡ Size.Places p → f ≡ found p
+pub places_found : (x : Option ℕ) (f : Found ℕ) (p : ℕ) → size_found x ≡ f → x ≡ Some p → f ≡ found p
 unfolding size_found
 places_found x f p e g = sym e ∙ rw g refl
 
-pub none_found : (x : Size) (f : Found ℕ) → size_found x ≡ f → x ≡ Size.NoSize → f ≡ nobody
+pub none_found : (x : Option ℕ) (f : Found ℕ) → size_found x ≡ f → x ≡ None → f ≡ nobody
 unfolding size_found
 none_found x f e g = sym e ∙ rw g refl
 

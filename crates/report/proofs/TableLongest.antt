@@ -24,7 +24,8 @@ use Rattle.planned.proofs.Stages.{order_known_lem, unread}
 use Rattle.planned.proofs.Stages as plans
 use Rattle.sizing.specs.Sizing.{sizing}
 use Rattle.sizing.proofs.EverySize.{few, own, short}
-use Rattle.report.specs.SizeTable.{Sized, size_job, sized_text, size_table, write_table}
+use Rattle.report.specs.declared.sizes.JobSizes.{JobSizes}
+use Rattle.report.specs.SizeTable.{size_job, sized_text, size_table, write_table}
 use Rattle.report.proofs.Lines.{refusal_short}
 use Rattle.report.proofs.Longest.{refused_few}
 use Rattle.report.proofs.Sizing.{not_ordered, sized, not_read, was_read, sized_by}
@@ -120,7 +121,7 @@ pub table_longest : (bs : List ℕ) (w : Found ℕ) → Bytes bs → Word w → 
 unfolding size_table sized_text
 table_longest bs w all v = go (size_job bs) refl
   where
-    go : (o : Outcome Sized) → size_job bs ≡ o → length (sized_text w o) ≤ 2048
+    go : (o : Outcome JobSizes) → size_job bs ≡ o → length (sized_text w o) ≤ 2048
     go (done s) e =
         let b = sized_by bs s e in
         let r = read_exact bs b.request all b.read in

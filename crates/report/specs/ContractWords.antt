@@ -3,11 +3,10 @@ use Rattle.std.specs.Borrow.{MutBor}
 use Rattle.std.specs.Prelude.{◌≡◌, List, [], ℕ, ◌+◌, ◌^◌, ◌<◌, length}
 use Rattle.std.proofs.lemmas.List.Edits.{sets}
 use Rattle.job.specs.declared.Head.{Head}
-use Rattle.job.specs.Refusal.{Outcome, done, mapped, fitting, leaves}
+use Rattle.job.specs.Refusal.{Outcome, mapped, fitting, leaves}
 use Rattle.planning.specs.Plan.{plan_of}
 use Rattle.planned.specs.Planned.{Planned}
 use Rattle.report.specs.declared.Text.{Text}
-use Rattle.report.specs.SizeTable.{Sized}
 
 -- what stands in a buffer once a text was put there: the count of its bytes is answered, and the buffer begins with as much of it as there is room for (`sets`
 -- stores nothing beyond a list)
@@ -33,8 +32,3 @@ shown head order drops loads end = record { request = record { head = head; want
 pub record Filled (text old : List ℕ) (answer : Outcome ℕ) (new : List ℕ) : Type 0 where
   pub answers : answer ≡ mapped length (fitting text (length old))
   pub holds : new ≡ leaves (fitting text (length old)) old
-
--- what comes of a list that is to be sized, by value: its head or the refusal is answered, and counts are given, which are its own where it is sized
-pub record SizedAs (sized : Outcome Sized) (answer : Outcome Head) (counts : List ℕ) : Type 0 where
-  pub answers : answer ≡ mapped (λ s. s.head) sized
-  pub gives : (s : Sized) → sized ≡ done s → counts ≡ s.counts

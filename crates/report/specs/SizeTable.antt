@@ -1,32 +1,28 @@
 -- The table of drive sizes: 02, wish 9, "Purchasing compares drives." For the list of a job, in the order of its method, it shows the loads that a drive of
 -- each size needs, and for a wanted count the fewest places.
-use Rattle.std.specs.Prelude.{Bool, true, false, ◌&&◌, List, [], ◌∷◌, ◌++◌, ℕ, suc, ◌+◌, ◌*◌, ◌-◌, eqb, leb, length, get_or}
+use Rattle.std.specs.Prelude.{Option, Some, None, Bool, true, false, ◌&&◌, List, [], ◌∷◌, ◌++◌, ℕ, suc, ◌+◌, ◌*◌, ◌-◌, eqb, leb, length, get_or}
 use Rattle.lists.specs.Choice.{Found, nobody, found}
-use Rattle.job.specs.declared.Head.{Head}
 use Rattle.job.specs.Refusal.{Outcome, done, refused, ◌>>=◌, mapped, fitting, leaves}
 use Rattle.job_bytes.specs.JobBytes.{Request, read_bytes}
 use Rattle.every_size.specs.Sizes.{mark, fewest_places}
 use Rattle.planned.specs.Planned.{order_request}
 use Rattle.sizing.specs.Sizing.{sizing}
-use Rattle.report.specs.declared.sizes.Wanted.{Wanted}
+use Rattle.report.specs.declared.sizes.JobSizes.{JobSizes}
 use Rattle.report.specs.Report.{text, decimal, printed}
 
 -- ---- what is shown
 
--- a job's head, and the load counts for 1 to 64 places
-pub record Sized : Type 0 where
-  pub head : Head
-  pub counts : List ℕ
+-- `JobSizes`, a job's head and the load counts for 1 to 64 places, is declared in the code.
 
 -- the counts of a list in the order of its job's method; that order is asked for as by the sheet, so 7 is of the job's own places less booked
-unfoldable pub size_request : Request → Outcome Sized
+unfoldable pub size_request : Request → Outcome JobSizes
 size_request q = do
   order ← order_request q
   counts ← sizing q.head.rig.curves q.wants order
   done (record { head = q.head; counts = counts })
 
 -- of a job's bytes
-unfoldable pub size_job : List ℕ → Outcome Sized
+unfoldable pub size_job : List ℕ → Outcome JobSizes
 size_job bs = do
   q ← read_bytes bs
   size_request q
@@ -63,13 +59,13 @@ wanted_text nobody counts = []
 wanted_text (found loads) counts = text "at most " ++ decimal loads ++ text " loads: " ++ places_text (fewest_places loads counts) ++ text "\n"
 
 -- the table: where more places stop paying, it ends
-unfoldable pub table_text : Found ℕ → Sized → List ℕ
+unfoldable pub table_text : Found ℕ → JobSizes → List ℕ
 table_text wanted s =
     decimal s.head.tests ++ text " tests, method " ++ decimal s.head.method ++ text "\n" ++ sizes_text (get_or s.counts 63 0) 1 s.counts
     ++ text "more places: no fewer loads\n" ++ wanted_text wanted s.counts
 
 -- a refusal prints as on the sheet
-unfoldable pub sized_text : Found ℕ → Outcome Sized → List ℕ
+unfoldable pub sized_text : Found ℕ → Outcome JobSizes → List ℕ
 sized_text wanted (done s) = table_text wanted s
 sized_text wanted (refused number figure) = printed (refused number figure)
 
@@ -92,9 +88,9 @@ table_buffer bs wanted old = leaves (write_table bs wanted (length old)) old
 -- ---- the wanted count
 
 -- the count that is asked for, or that none is: `Wanted`, declared in the code
-unfoldable pub wanted_found : Wanted → Found ℕ
-wanted_found (Wanted.Loads loads) = found loads
-wanted_found Wanted.NotAsked = nobody
+unfoldable pub wanted_found : Option ℕ → Found ℕ
+wanted_found (Some loads) = found loads
+wanted_found None = nobody
 
 -- whether a byte is a decimal digit
 unfoldable pub is_digit : ℕ → Bool

@@ -4,13 +4,12 @@ ghost use Rattle.std.specs.Prelude.{◌≡◌, List, [], ◌∷◌, ◌++◌, �
 ghost use Rattle.report.specs.Report.{text, decimal, set_text, step_text, steps_text, end_text, head_text, plan_text, printed};
 ghost use Rattle.report.specs.Report.{sheet, sheet_answer, sheet_buffer};
 ghost use Rattle.report.specs.ContractWords.{Appended, Puts, Wrote, shown, Filled};
-ghost use Rattle.job.specs.Refusal.{refused, number, figure, count_outcome, overwritten};
+ghost use Rattle.job.specs.Refusal.{refused, number, figure, outcome, overwritten};
 ghost use Rattle.job.specs.Words.{capacity};
 ghost use Rattle.drive.specs.Steps.{curve_count};
 ghost use Rattle.planning.specs.Plan.{steps};
 
-use job::{Counted, Head, MOST_TESTS, Refusal};
-use planned::JobPlanned;
+use job::{Head, MOST_TESTS, Refusal};
 
 pub mod audit; // audit.rt: a plan beside the fewest loads
 pub mod sizes; // sizes.rt: the loads of every drive size
@@ -91,15 +90,15 @@ fn put_text<F: Fn(&mut Text)>(put: &F, out: &mut [u8]) -> usize
 }
 
 // The same, where the buffer has room for it.
-fn write_text<F: Fn(&mut Text)>(put: F, out: &mut [u8]) -> Counted
+fn write_text<F: Fn(&mut Text)>(put: F, out: &mut [u8]) -> Result<usize, Refusal>
     requires { F.IsAlwaysCallable put }
-    ensures { (bytes : List ℕ) → Puts (F.post put) bytes → length bytes < 2 ^ 64 → Filled bytes out.old (count_outcome result) out.new }
+    ensures { (bytes : List ℕ) → Puts (F.post put) bytes → length bytes < 2 ^ 64 → Filled bytes out.old (outcome result) out.new }
 {
     let needed = put_text(&put, &mut []);
     if out.len() < needed {
-        return Counted::Refused(Refusal::BufferTooSmall(needed));
+        return Err(Refusal::BufferTooSmall(needed));
     }
-    Counted::Count(put_text(&put, out))
+    Ok(put_text(&put, out))
 }
 
 // The line of a step: its position, test, drops and loads.
@@ -191,11 +190,11 @@ fn write_plan(
     end: u64,
     count: usize,
     out: &mut [u8],
-) -> Counted
+) -> Result<usize, Refusal>
     requires drops_len { (length drops.now ≡ length order.now) × (length loads.now ≡ length order.now) }
     requires count_value { count ≡ curve_count loads.now }
     requires tests_bound { (head.tests ≤ 256) × (capacity head.rig ≤ 64) × (head.method ≤ 3) × (length order.now ≤ 256) }
-    ensures { Filled (plan_text (shown head order.now drops.now loads.now end)) out.old (count_outcome result) out.new }
+    ensures { Filled (plan_text (shown head order.now drops.now loads.now end)) out.old (outcome result) out.new }
 {
     write_text(
         |to| put_plan(to, head, order, drops, loads, end, count),
@@ -204,9 +203,9 @@ fn write_plan(
 }
 
 // The line of a refusal, where the buffer has room for it.
-fn write_refusal(of: &[u8], r: Refusal, out: &mut [u8]) -> Counted
+fn write_refusal(of: &[u8], r: Refusal, out: &mut [u8]) -> Result<usize, Refusal>
     requires { length of.now ≤ 256 }
-    ensures { Filled (of.now ++ printed (refused (number r) (figure r))) out.old (count_outcome result) out.new }
+    ensures { Filled (of.now ++ printed (refused (number r) (figure r))) out.old (outcome result) out.new }
 {
     let number = job::number_of(r) as usize;
     let figure = job::figure_of(r) as usize;
@@ -215,8 +214,8 @@ fn write_refusal(of: &[u8], r: Refusal, out: &mut [u8]) -> Counted
 
 // "prints test count, places and method; for each step its position, test, drops and loads in rising order; the load count": of a job's bytes, in a lent
 // buffer.
-pub fn write_report(job: &[u8], out: &mut [u8]) -> Counted
-    ensures answer { count_outcome result ≡ sheet_answer job.now out.old }
+pub fn write_report(job: &[u8], out: &mut [u8]) -> Result<usize, Refusal>
+    ensures answer { outcome result ≡ sheet_answer job.now out.old }
     ensures bytes { out.new ≡ sheet_buffer job.now out.old }
 {
     let mut wants = [0u64; MOST_TESTS];
@@ -224,10 +223,18 @@ pub fn write_report(job: &[u8], out: &mut [u8]) -> Counted
     let mut drops = [0u64; MOST_TESTS];
     let mut loads = [0u64; MOST_TESTS];
     match planned::plan_job(job, &mut wants, &mut order, &mut drops, &mut loads) {
-        JobPlanned::Refused(r) => write_refusal(b"", r, out),
-        JobPlanned::Planned(head, count, end) => {
-            let n = head.tests;
-            write_plan(head, &order[..n], &drops[..n], &loads[..n], end, count, out)
+        Err(r) => write_refusal(b"", r, out),
+        Ok(made) => {
+            let n = made.head.tests;
+            write_plan(
+                made.head,
+                &order[..n],
+                &drops[..n],
+                &loads[..n],
+                made.end,
+                made.loads,
+                out,
+            )
         }
     }
 }
@@ -238,7 +245,7 @@ pub fn sheet_text(job: &[u8], text: &mut [u8; SHEET_BYTES]) -> usize
     ensures bytes { text.new ≡ overwritten (sheet job.now) text.old }
 {
     match write_report(job, text) {
-        Counted::Count(n) => n,
-        Counted::Refused(_) => 0,
+        Ok(n) => n,
+        Err(_) => 0,
     }
 }

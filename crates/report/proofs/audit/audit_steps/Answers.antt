@@ -1,19 +1,14 @@
 -- `report::audit::audit_steps` meets its contract.
-use mathlib.Core.Path.{ap, ◌∙◌}
-use Rattle.job.specs.Refusal.{done}
-use Rattle.report.proofs.Auditing.{steps_refused, steps_counted}
-use Rattle.planning.specs.Plan.{plan_of}
+use mathlib.Core.Path.{◌∙◌}
+use Rattle.job.proofs.Laws.{refused_with, passed_with}
+use Rattle.report.specs.Audit.{audit_steps}
+use Rattle.report.proofs.Auditing.{mapped_bind}
 use Rattle.report.proofs.audit.audit_steps.Goals as goal
 
-pub returns-in-Refused : goal.returns-in-Refused
-returns-in-Refused c =
-    let a = c.args in
-    steps_refused (record { head = a.head; wants = a.wants.now }) a.order.now (plan_of a.drops.now a.loads.now a.end)
-    c.check_plan.result c.check_plan.ensures _ c.in-Refused.is
+pub returns-in_err-count : goal.returns-in_err-count
+unfolding audit_steps
+returns-in_err-count c = refused_with _ _ _ c.from_residual.ensures.1 c.in_err-count.ensures
 
-pub returns-in-Count : goal.returns-in-Count
-returns-in-Count c =
-    let a = c.args in
-    c.beside_fewest.ensures
-    ∙ ap done (steps_counted (record { head = a.head; wants = a.wants.now }) a.order.now (plan_of a.drops.now a.loads.now a.end)
-    c.check_plan.result c.check_plan.ensures _ c.in-Count.is)
+pub returns : goal.returns
+unfolding audit_steps
+returns c = passed_with _ _ c.in_ok-count.ensures (c.beside_fewest.ensures ∙ mapped_bind _ _)

@@ -1,20 +1,24 @@
 -- `report::audit::beside_fewest` meets its contract.
+use mathlib.Core.Path.{◌∙◌}
 use native.Mathlib.Omega.{arith}
-use Rattle.report.proofs.Auditing.{fewest_refused, fewest_counted}
+use Rattle.job.specs.Refusal.{outcome, mapped}
 use Rattle.job.specs.Words.{job_of}
+use Rattle.job.proofs.Laws.{handed_on}
 use Rattle.planning.specs.Plan.{set_lists}
+use Rattle.report.proofs.Auditing.{counts}
 use Rattle.report.proofs.audit.beside_fewest.Goals as goal
 
-pub returns-in-Refused : goal.returns-in-Refused
-returns-in-Refused c =
+pub returns-in_err-ours : goal.returns-in_err-ours
+unfolding outcome mapped
+returns-in_err-ours c =
     let a = c.args in
-    let r = c.plan in
-    fewest_refused (job_of a.head.rig a.wants.now) a.order.now (set_lists _ _) a.count a.head.tests (omega (arith, c.requires))
-    (omega (arith, c.requires)) r.result r.ensures.answer _ c.in-Refused.is
+    handed_on _ _ c.from_residual.ensures.1
+    ∙ counts (job_of a.head.rig a.wants.now) a.order.now (set_lists _ _) a.count a.head.tests (omega (arith, c.requires))
+    (omega (arith, c.requires)) _ c.in_err-ours.ensures.answer
 
-pub returns-in-Count : goal.returns-in-Count
-returns-in-Count c =
+pub returns : goal.returns
+unfolding outcome mapped
+returns c =
     let a = c.args in
-    let r = c.plan in
-    fewest_counted (job_of a.head.rig a.wants.now) a.order.now (set_lists _ _) a.count a.head.tests (omega (arith, c.requires))
-    (omega (arith, c.requires)) r.result r.ensures.answer _ _ c.in-Count.is
+    counts (job_of a.head.rig a.wants.now) a.order.now (set_lists _ _) a.count a.head.tests (omega (arith, c.requires))
+    (omega (arith, c.requires)) _ c.in_ok-ours.ensures.answer

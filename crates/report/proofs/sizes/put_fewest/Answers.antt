@@ -4,16 +4,16 @@ use Rattle.report.proofs.TableLines.{fewest_line, none_line, places_found, none_
 use Rattle.report.proofs.Writing.{◌then◌}
 use Rattle.report.proofs.sizes.put_fewest.Goals as goal
 
-pub returns-in-Places : goal.returns-in-Places
+pub returns-in-Some : goal.returns-in-Some
 unfolding text
-returns-in-Places c =
+returns-in-Some c =
     let a = c.args in
-    rw (fewest_line a.loads _ a.counts.now (places_found _ _ _ c.fewest_places.ensures c.in-Places.is))
-    (c.text.ensures then c.number.ensures then c.number-in-Places.ensures)
+    rw (fewest_line a.loads _ a.counts.now (places_found _ _ _ c.fewest_places.ensures c.in-Some.is))
+    (c.text.ensures then c.number.ensures then c.number-in-Some.ensures)
 
-pub returns-in-NoSize : goal.returns-in-NoSize
+pub returns-in-None : goal.returns-in-None
 unfolding text
-returns-in-NoSize c =
+returns-in-None c =
     let a = c.args in
-    rw (none_line a.loads a.counts.now (none_found _ _ c.fewest_places.ensures c.in-NoSize.is))
-    (c.text.ensures then c.number.ensures then c.text-in-NoSize.ensures)
+    rw (none_line a.loads a.counts.now (none_found _ _ c.fewest_places.ensures c.in-None.is))
+    (c.text.ensures then c.number.ensures then c.text-in-None.ensures)

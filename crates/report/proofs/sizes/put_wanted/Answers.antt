@@ -4,10 +4,10 @@ use Rattle.report.proofs.TableLines.{no_line}
 use Rattle.report.proofs.Writing.{appended_nil}
 use Rattle.report.proofs.sizes.put_wanted.Goals as goal
 
-pub returns-in-Loads : goal.returns-in-Loads
+pub returns-in-Some : goal.returns-in-Some
 unfolding wanted_found
-returns-in-Loads c = rw c.in-Loads.is c.put_fewest.ensures
+returns-in-Some c = rw c.in-Some.is c.put_fewest.ensures
 
-pub returns-in-NotAsked : goal.returns-in-NotAsked
+pub returns-in-None : goal.returns-in-None
 unfolding wanted_found
-returns-in-NotAsked c = rw (c.in-NotAsked.is, no_line c.args.counts.now) (appended_nil c.args.to.now)
+returns-in-None c = rw (c.in-None.is, no_line c.args.counts.now) (appended_nil c.args.to.now)

@@ -1,54 +1,46 @@
 -- `report::sizes::size_list` meets its contract: the order stands in the first entries of its list.
-use mathlib.Core.Path.{◌≡◌, sym}
+use mathlib.Core.Path.{◌≡◌, sym, refl}
 use native.Mathlib.Omega.{arith}
 use lib.ListN.{length, take}
-use Rattle.job.specs.Refusal.{done}
-use Rattle.job.proofs.Laws.{count_refused, count_done}
+use Rattle.job.specs.Refusal.{done, outcome}
+use Rattle.job.proofs.Laws.{refused_with, passed_with}
 use Rattle.job_bytes.specs.JobBytes.{Request}
 use Rattle.planned.specs.Planned.{order_request}
 use Rattle.planned.proofs.Stages.{order_refused, order_given}
 use Rattle.report.specs.SizeTable.{size_request}
-use Rattle.report.proofs.Sizing.{as_refused, not_ordered, list_refused, list_sized}
-use Rattle.report.proofs.sizes.size_list.Goals.{In_default}
+use Rattle.report.proofs.sizes.size_list.Goals.{In_ok-order_tests}
 use Rattle.report.proofs.sizes.size_list.Goals as goal
 
-pub returns-in-Refused : goal.returns-in-Refused
-returns-in-Refused c =
+pub returns-in_err-order_tests : goal.returns-in_err-order_tests
+unfolding outcome size_request
+returns-in_err-order_tests c =
     let a = c.args in
     let q : Request = record { head = a.head; wants = a.wants.now } in
-    let t = c.order_tests in
-    as_refused (size_request q) _ _ (not_ordered q _ _ (order_refused q c.requires.0 _ (omega (arith, c.requires.1)) _ _
-    (count_refused _ _ _ t.ensures.answer c.in-Refused.is)))
+    let e = order_refused q c.requires.0 _ (omega (arith, c.requires.1)) _ _ (sym c.in_err-order_tests.ensures.answer) in
+    refused_with _ _ _ c.from_residual.ensures.1 (sym e)
 
 -- the order that ordering gave
-given : (c : In_default)
+given : (c : In_ok-order_tests)
     → let a = c.args in
     let n = a.head.tests in
     let order = c.order_tests.new.order in
     (order_request (record { head = a.head; wants = a.wants.now }) ≡ done (take n order)) × (length (take n order) ≡ n)
+unfolding outcome
 given c =
     let a = c.args in
     let t = c.order_tests in
     order_given (record { head = a.head; wants = a.wants.now }) c.requires.0 _ (omega (arith, c.requires.1)) _ _
-    (count_done _ _ _ t.ensures.answer c.in_default.is) t.ensures.list
+    (sym c.in_ok-order_tests.ensures.answer) t.ensures.list
 
 pub slice_bounds-all_sizes-end : goal.slice_bounds-all_sizes-end
-slice_bounds-all_sizes-end c = sym (given (goal.at.slice_bounds-all_sizes-end c).In_default).1
+slice_bounds-all_sizes-end c = sym (given (goal.at.slice_bounds-all_sizes-end c).In_ok-order_tests).1
 
-pub returns-in-Refused-answer : goal.returns-in-Refused-answer
-returns-in-Refused-answer c =
-    let a = c.args in
-    let s = c.all_sizes-sizes in
-    list_refused (record {
-      head = a.head;
-      wants = a.wants.now;
-    }) _ (given (goal.at.returns-in-Refused-answer c).In_default).0 _ _ s.ensures.answer s.ensures.counts _ c.in-Refused-answer.is
+pub returns-in_err-counts : goal.returns-in_err-counts
+unfolding outcome size_request
+returns-in_err-counts c =
+    let o = (given (goal.at.returns-in_err-counts c).In_ok-order_tests).0 in
+    passed_with _ _ (sym o) (refused_with _ _ _ c.from_residual-in_err-counts.ensures.1 c.in_err-counts.ensures.answer)
 
-pub returns-in-Passed : goal.returns-in-Passed
-returns-in-Passed c =
-    let a = c.args in
-    let s = c.all_sizes-sizes in
-    list_sized (record {
-      head = a.head;
-      wants = a.wants.now;
-    }) _ (given (goal.at.returns-in-Passed c).In_default).0 _ _ s.ensures.answer s.ensures.counts c.in-Passed.is
+pub returns : goal.returns
+unfolding outcome size_request
+returns c = passed_with _ _ (sym (given (goal.at.returns c).In_ok-order_tests).0) (passed_with _ _ c.in_ok-counts.ensures.answer refl)
