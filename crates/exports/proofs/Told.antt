@@ -9,6 +9,7 @@ use native.Mathlib.Omega.{arith}
 use borrow.Author.Tests.{ltb-true}
 use lib.Dec.{ltb}
 use lib.ListN.{length, length-append}
+use Rattle.std.specs.Prelude.{Result, Ok, Err}
 use Rattle.lists.specs.Choice.{Found, nobody, found}
 use Rattle.job.specs.declared.Head.{Head}
 use Rattle.job.specs.Refusal.{Outcome, done, refused, ◌>>◌, mapped, demand, room}
@@ -28,8 +29,6 @@ use Rattle.job_bytes.proofs.SetRoundTrip.{Bytes}
 use Rattle.ordering.specs.Methods.{order_by}
 use Rattle.ordering.specs.Ordering.{ordering, order_answer}
 use Rattle.ordering.proofs.Ordered.{order_entries}
-use Rattle.drive.specs.declared.Checked.{Checked}
-use Rattle.drive.specs.declared.Checked.TheVariants.{Ends, Breaks}
 use Rattle.drive.specs.Steps.{Move}
 use Rattle.drive.specs.Check.{check_from}
 use Rattle.drive.proofs.CheckExact.{fault_within}
@@ -124,9 +123,9 @@ steps_told : (places all held : ℕ) (ms : List Move) → length ms ≤ 256 → 
 unfolding checked_outcome
 steps_told places all held ms l = go (check_from places all 0 held ms) refl
   where
-    go : (c : Checked) → check_from places all 0 held ms ≡ c → Refuses Figures (checked_outcome c)
-    go (Ends h) e = tt
-    go (Breaks i) e = (omega arith, omega (arith, fault_within places all 0 held ms i e))
+    go : (c : Result ℕ ℕ) → check_from places all 0 held ms ≡ c → Refuses Figures (checked_outcome c)
+    go (Ok h) e = tt
+    go (Err i) e = (omega arith, omega (arith, fault_within places all 0 held ms i e))
 
 -- ---- jobs and orders
 

@@ -4,7 +4,7 @@
 ghost use Rattle.std.specs.Prelude.{◌≡◌, reverse, ◌%◌, ◌^◌, min, length, eqb};
 ghost use Rattle.std.specs.Int.Count.{count_trailing_zeros};
 ghost use Rattle.bitset.specs.Set.{◌∩◌, ◌∪◌, ◌∖◌, size, bit, inside, below};
-ghost use Rattle.job.specs.Refusal.{done, refused, number, figure, read_outcome, count_outcome, examined_outcome, mapped, room, leaves};
+ghost use Rattle.job.specs.Refusal.{done, refused, number, figure, outcome, mapped, room, leaves};
 ghost use Rattle.job.specs.Handed.{job_known, job_known_by, counts_known, wants_fit};
 ghost use Rattle.job.specs.Words.{digit};
 ghost use Rattle.job_bytes.specs.SetBytes.{group_map, set_bytes};
@@ -12,9 +12,9 @@ ghost use Rattle.job_bytes.specs.JobBytes.{read_job_answer, read_job_wants, writ
 ghost use Rattle.packages.specs.Tests.{up_to, entered};
 ghost use Rattle.packages.specs.Packages.{packages};
 ghost use Rattle.ordering.specs.Ordering.{order_answer, order_list};
-ghost use Rattle.planning.specs.Plan.{plan_of, set_lists, plan_outcome};
+ghost use Rattle.planning.specs.Plan.{plan_of, set_lists};
 ghost use Rattle.planning.specs.Planning.{checking, plan_answer, plan_lists};
-ghost use Rattle.stepping.specs.Stepping.{step_wants, look, commit, after_commit, making, tests_made, commit_outcome};
+ghost use Rattle.stepping.specs.Stepping.{step_wants, look, commit, after_commit, making, tests_made};
 ghost use Rattle.plan_bytes.specs.PlanBytes.{write_plan_answer, write_plan_buffer, read_plan_answer, read_plan_order, read_plan_lists, step_part};
 ghost use Rattle.report.specs.Report.{sheet_answer, sheet_buffer};
 ghost use Rattle.sizing.specs.Sizing.{sizing, fewest};
@@ -23,13 +23,11 @@ ghost use Rattle.report.specs.SizeTable.{wanted_found, table_answer, table_buffe
 ghost use Rattle.exports.specs.Numbers.{rig_of, job, numbered, passing, count_of, end_of, head_of, group_at, leaves_one, leaves_counts, places_number, asks};
 ghost use Rattle.exports.specs.States.{step_of, state_of, numbers_of, leaves_state};
 
-use job::{Counted, Examined, JobRead, Refusal, Rig};
-use job_bytes::set_bytes::GroupRead;
+use job::{Head, Refusal, Rig};
+use job_bytes::set_bytes::GroupFault;
 use plan_bytes::StepPart;
-use planning::PlanCounted;
-use report::sizes::Wanted;
-use sizing::Places;
-use stepping::{CommitAnswer, NextStep, State};
+use planning::CountEnd;
+use stepping::{NextStep, State};
 
 // ---- outcomes as numbers
 
@@ -44,36 +42,36 @@ fn refusal(r: Refusal) -> u64
 }
 
 // A count is itself.
-fn counted(c: Counted) -> u64
-    ensures { result ≡ numbered (count_outcome c) }
+fn counted(c: Result<usize, Refusal>) -> u64
+    ensures { result ≡ numbered (outcome c) }
 {
     match c {
-        Counted::Count(n) => n as u64,
-        Counted::Refused(r) => refusal(r),
+        Ok(n) => n as u64,
+        Err(r) => refusal(r),
     }
 }
 
 // The count; the end set goes to `end`.
-fn with_end(c: PlanCounted, end: &mut u64) -> u64
-    ensures answer { result ≡ numbered (count_of (plan_outcome c)) }
-    ensures end { end.new ≡ leaves_one (end_of (plan_outcome c)) end.old }
+fn with_end(c: Result<CountEnd, Refusal>, end: &mut u64) -> u64
+    ensures answer { result ≡ numbered (count_of (outcome c)) }
+    ensures end { end.new ≡ leaves_one (end_of (outcome c)) end.old }
 {
     match c {
-        PlanCounted::Count(n, set) => {
-            *end = set;
-            n as u64
+        Ok(answer) => {
+            *end = answer.end;
+            answer.count as u64
         }
-        PlanCounted::Refused(r) => refusal(r),
+        Err(r) => refusal(r),
     }
 }
 
 // 0 where the examination is passed.
-fn examined(e: Examined) -> u64
-    ensures { result ≡ passing (examined_outcome e) }
+fn examined(e: Result<(), Refusal>) -> u64
+    ensures { result ≡ passing (outcome e) }
 {
     match e {
-        Examined::Passed => 0,
-        Examined::Refused(r) => refusal(r),
+        Ok(()) => 0,
+        Err(r) => refusal(r),
     }
 }
 
@@ -98,11 +96,11 @@ pub struct JobHead {
     pub method: usize,
 }
 
-fn head_of(r: JobRead) -> JobHead
-    ensures { result ≡ head_of (read_outcome r) }
+fn head_of(r: Result<Head, Refusal>) -> JobHead
+    ensures { result ≡ head_of (outcome r) }
 {
     match r {
-        JobRead::Read(h) => JobHead {
+        Ok(h) => JobHead {
             answer: h.tests as u64,
             places: h.rig.places,
             booked: h.rig.booked,
@@ -110,7 +108,7 @@ fn head_of(r: JobRead) -> JobHead
             tests: h.tests,
             method: h.method,
         },
-        JobRead::Refused(r) => JobHead {
+        Err(r) => JobHead {
             answer: refusal(r),
             places: 0,
             booked: 0,
@@ -320,15 +318,12 @@ pub extern "C" fn curveplan_all_sizes(
     ensures answer { result ≡ passing (sizing curves wants.now order.now) }
     ensures counts { counts.new ≡ leaves_counts (sizing curves wants.now order.now) counts.old }
 {
-    let sizes = sizing::all_sizes(curves, wants, order);
-    let answer = sizes.answer;
-    let made = sizes.counts;
-    match answer {
-        Examined::Passed => {
+    match sizing::all_sizes(curves, wants, order) {
+        Ok(made) => {
             *counts = made;
             0
         }
-        Examined::Refused(r) => refusal(r),
+        Err(r) => refusal(r),
     }
 }
 
@@ -343,21 +338,17 @@ pub extern "C" fn curveplan_fewest_places(
     ensures { result ≡ numbered (mapped places_number (fewest curves wants.now order.now loads)) }
 {
     match sizing::fewest_places(curves, wants, order, loads) {
-        Places::Fewest(p) => p as u64,
-        Places::NoSize => 0,
-        Places::Refused(r) => refusal(r),
+        Ok(Some(p)) => p as u64,
+        Ok(None) => 0,
+        Err(r) => refusal(r),
     }
 }
 
 // What is asked of a table: 0 for no wanted count.
-fn wanted(asked: usize, loads: usize) -> Wanted
+fn wanted(asked: usize, loads: usize) -> Option<usize>
     ensures { wanted_found result ≡ asks asked loads }
 {
-    if asked == 0 {
-        Wanted::NotAsked
-    } else {
-        Wanted::Loads(loads)
-    }
+    if asked == 0 { None } else { Some(loads) }
 }
 
 #[unsafe(no_mangle)]
@@ -406,12 +397,12 @@ fn shown(step: NextStep) -> StepShown
     }
 }
 
-fn answered(answer: CommitAnswer) -> StepShown
-    ensures { result ≡ step_of (commit_outcome answer) }
+fn answered(answer: Result<NextStep, Refusal>) -> StepShown
+    ensures { result ≡ step_of (outcome answer) }
 {
     match answer {
-        CommitAnswer::Carried(step) => shown(step),
-        CommitAnswer::Refused(r) => StepShown {
+        Ok(step) => shown(step),
+        Err(r) => StepShown {
             answer: refusal(r),
             drops: 0,
             loads: 0,
@@ -431,20 +422,14 @@ const TESTS: usize = 3;
 const WANTS: usize = 4;
 
 // Writes the numbers of a state.
-fn put_state(state: State, list: &mut [u64])
-    requires { length list.old ≡ 260 }
-    ensures { list.new ≡ numbers_of state }
+fn put_state(state: &State, list: &mut [u64; 260])
+    ensures { list.new ≡ numbers_of state.now }
 {
-    let wants = state.wants;
     list[CAPACITY] = state.capacity as u64;
     list[HELD] = state.held;
     list[COMMITTED] = state.committed as u64;
     list[TESTS] = state.tests as u64;
-    let mut i: usize = 0;
-    while i < job::MOST_TESTS {
-        list[WANTS + i] = wants[i];
-        i += 1;
-    }
+    list[WANTS..].copy_from_slice(&state.wants);
 }
 
 #[unsafe(no_mangle)]
@@ -460,29 +445,24 @@ pub extern "C" fn curveplan_make_state(
     ensures answer { result ≡ numbered (tests_made (making (job places booked curves wants.now) held order.now)) }
     ensures state { state.new ≡ leaves_state (making (job places booked curves wants.now) held order.now) state.old }
 {
-    let made = stepping::make_state(rig(places, booked, curves), wants, held, order);
-    let answer = made.answer;
-    match answer {
-        Counted::Count(tests) => {
-            let first = made.state;
-            put_state(first, state);
-            tests as u64
+    match stepping::make_state(rig(places, booked, curves), wants, held, order) {
+        Ok(made) => {
+            put_state(&made, state);
+            made.tests as u64
         }
-        Counted::Refused(r) => refusal(r),
+        Err(r) => refusal(r),
     }
 }
 
 // The wants of the steps, where the numbers of a state stand.
-fn step_wants(state: &[u64]) -> &[u64]
-    requires { length state.now ≡ 260 }
+fn step_wants(state: &[u64; 260]) -> &[u64]
     ensures { result.now ≡ step_wants (state_of state.now) }
 {
     let end = WANTS + stepping::steps_of(state[TESTS] as usize);
     &state[WANTS..end]
 }
 
-fn look_in(state: &[u64]) -> NextStep
-    requires { length state.now ≡ 260 }
+fn look_in(state: &[u64; 260]) -> NextStep
     ensures { result ≡ look (state_of state.now) }
 {
     stepping::look_at(
@@ -493,25 +473,22 @@ fn look_in(state: &[u64]) -> NextStep
     )
 }
 
-fn commit_in(state: &mut [u64], position: usize) -> CommitAnswer
-    requires { length state.old ≡ 260 }
-    ensures answer { commit_outcome result ≡ commit (state_of state.old) position }
+fn commit_in(state: &mut [u64; 260], position: usize) -> Result<NextStep, Refusal>
+    ensures answer { outcome result ≡ commit (state_of state.old) position }
     ensures state { state.new ≡ numbers_of (after_commit (state_of state.old) position) }
 {
     let held = state[HELD];
     let done = state[COMMITTED] as usize;
-    let answer = stepping::commit_at(
+    let step = stepping::commit_at(
         state[CAPACITY] as usize,
         held,
         done,
         step_wants(state),
         position,
-    );
-    if let CommitAnswer::Carried(step) = answer {
-        state[HELD] = stepping::held_behind(held, step);
-        state[COMMITTED] = done as u64 + 1;
-    }
-    answer
+    )?;
+    state[HELD] = stepping::held_behind(held, step);
+    state[COMMITTED] = done as u64 + 1;
+    Ok(step)
 }
 
 #[unsafe(no_mangle)]
@@ -585,10 +562,10 @@ pub extern "C" fn curveplan_read_group(
     ensures set { set.new ≡ leaves_one (group_at rest.now at group curves) set.old }
 {
     match job_bytes::set_bytes::read_group(rest, at, group, curves) {
-        GroupRead::Owed => SCALE,
-        GroupRead::Empty => 2 * SCALE,
-        GroupRead::Unknown => 3 * SCALE,
-        GroupRead::Curves(s) => {
+        Err(GroupFault::Owed) => SCALE,
+        Err(GroupFault::Empty) => 2 * SCALE,
+        Err(GroupFault::Unknown) => 3 * SCALE,
+        Ok(s) => {
             *set = s;
             0
         }

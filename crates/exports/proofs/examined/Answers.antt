@@ -1,13 +1,13 @@
 -- `exports::examined` meets its contract.
 use mathlib.Core.Path.{refl, ◌∙◌}
-use Rattle.job.specs.Refusal.{mapped, examined_outcome}
+use Rattle.job.specs.Refusal.{mapped, outcome}
 use Rattle.exports.specs.Numbers.{numbered}
 use Rattle.exports.proofs.examined.Goals as goal
 
-pub returns-in-Passed : goal.returns-in-Passed
-unfolding numbered mapped examined_outcome
-returns-in-Passed c = rw c.in-Passed.is
+pub returns-in-Ok : goal.returns-in-Ok
+unfolding numbered mapped outcome
+returns-in-Ok c = rw c.in-Ok.is
 
-pub returns-in-Refused : goal.returns-in-Refused
-unfolding mapped examined_outcome
-returns-in-Refused c = c.refusal.ensures ∙ rw c.in-Refused.is refl
+pub returns-in-Err : goal.returns-in-Err
+unfolding mapped outcome
+returns-in-Err c = c.refusal.ensures ∙ rw c.in-Err.is refl

@@ -1,13 +1,13 @@
 -- `exports::head_of` meets its contract.
 use mathlib.Core.Path.{refl}
-use Rattle.job.specs.Refusal.{read_outcome}
+use Rattle.job.specs.Refusal.{outcome}
 use Rattle.exports.specs.Numbers.{numbered, head_of}
 use Rattle.exports.proofs.head_of.Goals as goal
 
-pub returns-in-Read : goal.returns-in-Read
-unfolding numbered head_of read_outcome
-returns-in-Read c = rw c.in-Read.is
+pub returns-in-Ok : goal.returns-in-Ok
+unfolding numbered head_of outcome
+returns-in-Ok c = rw c.in-Ok.is
 
-pub returns-in-Refused : goal.returns-in-Refused
-unfolding head_of read_outcome
-returns-in-Refused c = rw (c.refusal.ensures, c.in-Refused.is) refl
+pub returns-in-Err : goal.returns-in-Err
+unfolding head_of outcome
+returns-in-Err c = rw (c.refusal.ensures, c.in-Err.is) refl
