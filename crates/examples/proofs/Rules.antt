@@ -2,7 +2,7 @@
 use mathlib.Core.List.{zip_with, flatten}
 use lib.Count.{ones, count_trailing_zeros, under}
 use Rattle.bitset.specs.Set.{inside}
-use Rattle.job.specs.Refusal.{read_outcome, count_outcome, ◌>>=◌, ◌>>◌, mapped, demand, room, overwritten, leaves}
+use Rattle.job.specs.Refusal.{outcome, ◌>>=◌, ◌>>◌, mapped, demand, room, overwritten, leaves}
 use Rattle.lists.specs.Choice.{keep, choose, best_of}
 use Rattle.job.specs.Handed.{between, listed, each, places_known, curves_known, tests_known, method_known, wants_known, wants_fit, numbers_known}
 use Rattle.job.specs.Handed.{is_method, booked_below, booked_known, held_known, job_known_by, counts_known}
@@ -40,7 +40,7 @@ use Rattle.planned.specs.Planned.{order_request, plan_in_order, order_and_plan, 
 use Rattle.curveplan.specs.Call.{written, job_to_plan, number_of, call_answer, call_plan}
 
 unfoldable pub rules : Unit {0}
-unfolding ones count_trailing_zeros under read_outcome count_outcome ◌>>=◌ ◌>>◌ mapped demand room overwritten leaves keep choose best_of between inside listed
+unfolding ones count_trailing_zeros under outcome ◌>>=◌ ◌>>◌ mapped demand room overwritten leaves keep choose best_of between inside listed
     each
     places_known curves_known tests_known is_method method_known wants_known wants_fit numbers_known booked_below booked_known held_known job_known_by
     counts_known

@@ -4,34 +4,39 @@ use mathlib.Core.Bool.{Bool, true}
 use Prim.Native.Nat.{ℕ}
 use lib.Dec.{eqb}
 use borrow.Author.Tests.{eq-eqb}
+use Rattle.std.specs.Prelude.{Result, Ok, Err}
 use Rattle.job.specs.declared.Refusal.{Refusal}
-use Rattle.job.specs.Refusal.{Outcome, done, refused, number, figure}
+use Rattle.job.specs.Refusal.{Outcome, outcome, done, refused, number, figure}
 use Rattle.job.proofs.Laws.{refused≢done, done_same}
-use Rattle.planning.specs.declared.PlanCounted.{PlanCounted}
 use Rattle.planning.specs.declared.CountEnd.{CountEnd}
-use Rattle.planning.specs.Plan.{plan_outcome}
 
-module _ (x : PlanCounted) (o : Outcome CountEnd) (told : plan_outcome x ≡ o) where
+module _ (o : Outcome CountEnd) where
   -- the rule is done, so no refusal was answered
-  pub not_refused : (r : Refusal) (n end : ℕ) {b : Bool} → x ≡ PlanCounted.Refused r → o ≡ done (record { count = n; end = end }) → b ≡ true
-  unfolding plan_outcome
-  not_refused r n end p q = absurd (refused≢done {k = number r} {i = figure r} (sym (ap plan_outcome p) ∙ told ∙ q))
+  pub not_refused : (r : Refusal) (n end : ℕ) {b : Bool} → outcome (Err r) ≡ o → o ≡ done (record { count = n; end = end }) → b ≡ true
+  unfolding outcome
+  not_refused r n end p q = absurd (refused≢done (p ∙ q))
 
   -- .. and the count is the rule's
-  pub count_is : (m left n end : ℕ) → x ≡ PlanCounted.Count m left → o ≡ done (record { count = n; end = end }) → eqb m n ≡ true
-  unfolding plan_outcome
-  count_is m left n end p q = eq-eqb m n (ap (λ (a : CountEnd). a.count) (done_same (sym (ap plan_outcome p) ∙ told ∙ q)))
+  pub count_is : (a : CountEnd) (n end : ℕ) → outcome (Ok a) ≡ o → o ≡ done (record { count = n; end = end }) → eqb a.count n ≡ true
+  unfolding outcome
+  count_is a n end p q = eq-eqb a.count n (ap (λ (a : CountEnd). a.count) (done_same (p ∙ q)))
 
   -- the rule refuses, so no count was answered
-  pub not_counted : (m left k i : ℕ) {b : Bool} → x ≡ PlanCounted.Count m left → o ≡ refused k i → b ≡ true
-  unfolding plan_outcome
-  not_counted m left k i p q = absurd (refused≢done (sym q ∙ sym told ∙ ap plan_outcome p))
+  pub not_counted : (a : CountEnd) (k i : ℕ) {b : Bool} → outcome (Ok a) ≡ o → o ≡ refused k i → b ≡ true
+  unfolding outcome
+  not_counted a k i p q = absurd (refused≢done (sym (p ∙ q)))
 
   -- .. and the number and the figure are the rule's
-  pub number_is : (r : Refusal) (k i : ℕ) → x ≡ PlanCounted.Refused r → o ≡ refused k i → number r ≡ k
-  unfolding plan_outcome
-  number_is r k i p q = let e : ◌≡◌ {A = Outcome CountEnd} (refused (number r) (figure r)) (refused k i) = sym (ap plan_outcome p) ∙ told ∙ q in cc
+  pub number_is : (r : Refusal) (k i : ℕ) → outcome (Err r) ≡ o → o ≡ refused k i → number r ≡ k
+  unfolding outcome
+  number_is r k i p q = let e : ◌≡◌ {A = Outcome CountEnd} (refused (number r) (figure r)) (refused k i) = p ∙ q in cc
 
-  pub figure_is : (r : Refusal) (k i : ℕ) → x ≡ PlanCounted.Refused r → o ≡ refused k i → figure r ≡ i
-  unfolding plan_outcome
-  figure_is r k i p q = let e : ◌≡◌ {A = Outcome CountEnd} (refused (number r) (figure r)) (refused k i) = sym (ap plan_outcome p) ∙ told ∙ q in cc
+  pub figure_is : (r : Refusal) (k i : ℕ) → outcome (Err r) ≡ o → o ≡ refused k i → figure r ≡ i
+  unfolding outcome
+  figure_is r k i p q = let e : ◌≡◌ {A = Outcome CountEnd} (refused (number r) (figure r)) (refused k i) = p ∙ q in cc
+
+-- where the rule is done, its value was answered
+pub answered : {A : Type 0} (r : Result A Refusal) (a : A) → outcome r ≡ done a → r ≡ Ok a
+unfolding outcome
+answered (Ok b) a e = ap Ok (done_same e)
+answered (Err x) a e = absurd (refused≢done e)

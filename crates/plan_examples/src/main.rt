@@ -3,7 +3,6 @@
 ghost use Rattle.std.specs.Prelude.{◌≡◌, true};
 
 use job::Rig;
-use planning::PlanCounted;
 use stepping::NextStep;
 
 // "Wants {0} {1} {2} {0}, 2 places: step 2 drops 1; 3 loads."
@@ -26,8 +25,8 @@ fn furthest_use() -> bool
         &mut drops,
         &mut loads,
     ) {
-        PlanCounted::Refused(_) => false,
-        PlanCounted::Count(n, _) => n == 3 && drops[2] == 2,
+        Err(_) => false,
+        Ok(plan) => plan.count == 3 && drops[2] == 2,
     }
 }
 
@@ -51,8 +50,8 @@ fn nothing_dropped() -> bool
         &mut drops,
         &mut loads,
     ) {
-        PlanCounted::Refused(_) => false,
-        PlanCounted::Count(n, _) => n == 3 && drops[2] == 0,
+        Err(_) => false,
+        Ok(plan) => plan.count == 3 && drops[2] == 0,
     }
 }
 
@@ -76,8 +75,8 @@ fn just_fits() -> bool
         &mut drops,
         &mut loads,
     ) {
-        PlanCounted::Refused(_) => false,
-        PlanCounted::Count(n, _) => n == 3 && drops[0] == 0,
+        Err(_) => false,
+        Ok(plan) => plan.count == 3 && drops[0] == 0,
     }
 }
 
@@ -101,8 +100,8 @@ fn too_large() -> bool
         &mut drops,
         &mut loads,
     ) {
-        PlanCounted::Count(_, _) => false,
-        PlanCounted::Refused(r) => job::number_of(r) == 7 && job::figure_of(r) == 0,
+        Ok(_) => false,
+        Err(r) => job::number_of(r) == 7 && job::figure_of(r) == 0,
     }
 }
 
@@ -126,8 +125,8 @@ fn repeated_test() -> bool
         &mut drops,
         &mut loads,
     ) {
-        PlanCounted::Count(_, _) => false,
-        PlanCounted::Refused(r) => job::number_of(r) == 8 && job::figure_of(r) == 2,
+        Ok(_) => false,
+        Err(r) => job::number_of(r) == 8 && job::figure_of(r) == 2,
     }
 }
 
@@ -151,8 +150,8 @@ fn missing_test() -> bool
         &mut drops,
         &mut loads,
     ) {
-        PlanCounted::Count(_, _) => false,
-        PlanCounted::Refused(r) => job::number_of(r) == 8 && job::figure_of(r) == 2,
+        Ok(_) => false,
+        Err(r) => job::number_of(r) == 8 && job::figure_of(r) == 2,
     }
 }
 
@@ -176,8 +175,8 @@ fn from_halfway() -> bool
         &mut drops,
         &mut loads,
     ) {
-        PlanCounted::Refused(_) => false,
-        PlanCounted::Count(n, _) => n == 2 && drops[0] == 6,
+        Err(_) => false,
+        Ok(plan) => plan.count == 2 && drops[0] == 6,
     }
 }
 
@@ -187,20 +186,18 @@ fn look_behind_commit() -> bool
 {
     let wants = [3u64, 6, 3, 8];
     let order = [0u16, 1, 2, 3];
-    let made = stepping::make_state(
-        Rig {
-            places: 2,
-            booked: 0,
-            curves: 4,
-        },
-        &wants,
-        0,
-        &order,
-    );
-    let first = made.state;
-    let committed = stepping::commit(first, 0);
-    let second = committed.state;
-    match stepping::look(second) {
+    let rig = Rig {
+        places: 2,
+        booked: 0,
+        curves: 4,
+    };
+    let Ok(mut state) = stepping::make_state(rig, &wants, 0, &order) else {
+        return false;
+    };
+    let Ok(_) = stepping::commit(&mut state, 0) else {
+        return false;
+    };
+    match stepping::look(&state) {
         NextStep::Step(sets) => sets.drops == 1 && sets.loads == 4,
         NextStep::End(_) => false,
         NextStep::Done => false,

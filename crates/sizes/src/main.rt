@@ -6,7 +6,6 @@ ghost use Rattle.input.specs.Counts.{IsPrefixLen};
 ghost use Rattle.report.specs.SizeTable.{size_table};
 ghost use Rattle.report.specs.Input.{Enough};
 
-use report::sizes::Wanted;
 use std::env::{Env, FillError};
 use std::io;
 use std::io::{Read, Write};
@@ -22,7 +21,7 @@ fn read_input<R: Read>(input: &mut R, job: &mut [u8; JOB_INPUT]) -> usize
     input::read_full(input, job)
 }
 
-fn print_table<R: Input + Print>(rt: &R, wanted: Wanted) -> io::Result<()> {
+fn print_table<R: Input + Print>(rt: &R, wanted: Option<usize>) -> io::Result<()> {
     let mut job = [0u8; JOB_INPUT];
     let n = read_input(&mut rt.reader(), &mut job);
     let mut text = [0u8; report::sizes::TABLE_BYTES];
@@ -41,21 +40,21 @@ fn has_argument(rt: &impl Env, i: usize) -> bool {
 }
 
 // The count of loads that the argument names. Of a word that is longer than the buffer no byte counts, and an empty one is no count.
-fn wanted_argument(rt: &impl Env, i: usize) -> Wanted {
+fn wanted_argument(rt: &impl Env, i: usize) -> Option<usize> {
     let mut word = [0u8; 8];
     match rt.arg(i, &mut word) {
         Ok(n) => report::sizes::wanted_in(&word[..n]),
-        Err(_) => Wanted::NotAsked,
+        Err(_) => None,
     }
 }
 
 fn main(rt: HostRuntime) -> io::Result<()> {
     if !has_argument(&rt, 1) {
-        return print_table(&rt, Wanted::NotAsked);
+        return print_table(&rt, None);
     }
     if !has_argument(&rt, 2) {
         let wanted = wanted_argument(&rt, 1);
-        if let Wanted::Loads(_) = wanted {
+        if let Some(_) = wanted {
             return print_table(&rt, wanted);
         }
     }

@@ -7,14 +7,14 @@ use Rattle.examples.proofs.Rules.{rules}
 use Rattle.plan_examples.proofs.Laws.{not_refused, count_is}
 use Rattle.plan_examples.proofs.from_halfway.Goals as goal
 
-pub returns-in-Refused : goal.returns-in-Refused
+pub returns-in-Err : goal.returns-in-Err
 unfolding rules
-returns-in-Refused c = not_refused _ _ c.plan.ensures.answer _ 2 24 c.in-Refused.is refl
+returns-in-Err c = not_refused _ _ 2 24 c.in-Err.ensures.answer refl
 
-pub returns-then-n-eq2 : goal.returns-then-n-eq2
+pub returns-then-plan-eq2 : goal.returns-then-plan-eq2
 unfolding rules
-returns-then-n-eq2 c = ap (λ (p : SetLists). eqb (get_or p.drops 0 0) 6) c.plan.ensures.lists
+returns-then-plan-eq2 c = ap (λ (p : SetLists). eqb (get_or p.drops 0 0) 6) c.plan.ensures.lists
 
-pub returns-else-n-eq2 : goal.returns-else-n-eq2
+pub returns-else-plan-eq2 : goal.returns-else-plan-eq2
 unfolding rules
-returns-else-n-eq2 c = count_is _ _ c.plan.ensures.answer _ _ 2 24 c.in-Count.is refl
+returns-else-plan-eq2 c = count_is _ _ 2 24 c.in-Ok.ensures.answer refl
