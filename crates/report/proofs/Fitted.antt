@@ -1,10 +1,10 @@
 -- A text that was measured by a first pass, and is then refused or written.
 use mathlib.Core.Path.{◌≡◌, refl, sym, ap, ◌∙◌}
 use mathlib.Core.List.{List}
-use Prim.Native.Nat.{ℕ, ◌+◌, ◌≤◌, ◌<◌}
+use Prim.Native.Nat.{ℕ, ◌≤◌, ◌<◌}
 use native.Mathlib.Omega.{arith}
 use lib.ListN.{length, take, drop, length-append}
-use lib.Seq.{sets-eq, length-take-le}
+use lib.Seq.{length-take-le}
 use Rattle.std.specs.Prelude.{Ok, Err}
 use Rattle.job.specs.declared.Refusal.{Refusal}
 use Rattle.job.specs.Refusal.{Outcome, done, refused, outcome, mapped, overwritten, leaves}
@@ -21,13 +21,12 @@ module _ (text old : List ℕ) where
         record { answers = rw (f, e) refl; holds = rw f refl }
 
     pub fill_whole : {new : List ℕ} {m : ℕ} → n ≤ length old → Wrote old text new m → Filled text old (outcome (Ok m)) new
-    unfolding outcome mapped leaves overwritten
+    unfolding outcome mapped leaves
     fill_whole {new} {m} h second =
         let l : length text ≤ length old = omega (arith, first.counted) in
         let e : m ≡ length text = omega (arith, second.counted) in
-        let z : 0 + length text ≡ length text = omega arith in
         let f = fitting_whole text (length old) l in
-        record { answers = rw (f, e) refl; holds = second.written ∙ rw f (rw z at (sets-eq text old 0 (omega arith))) }
+        record { answers = rw (f, e) refl; holds = second.written l ∙ rw f refl }
 
 -- a text for which there is always room: its length is answered, and the buffer begins with it
 module _ {text : List ℕ} {o : Outcome (List ℕ)} (fits : o ≡ done text) where

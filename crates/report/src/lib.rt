@@ -17,8 +17,8 @@ pub mod sizes; // sizes.rt: the loads of every drive size
 // A buffer that takes every sheet.
 pub const SHEET_BYTES: usize = 105_000;
 
-// A text that is put into a lent buffer: `len` counts all its bytes, and the buffer takes those that it has room for. So a first pass over an empty
-// buffer tells how long a text is, and a second one writes it.
+// A text that is put into a lent buffer: `len` counts all its bytes, and the buffer has them where there is room for all. So a first pass over an empty buffer
+// tells how long a text is, and a second one writes it.
 #[derive(Drop)]
 struct Text<'a> {
     out: &'a mut [u8],
@@ -39,9 +39,13 @@ impl Text<'_> {
     fn text(&mut self, text: &[u8])
         ensures { Appended self.old text.now self.new }
     {
-        for &b in text {
-            self.byte(b);
+        let at = self.len;
+        let end = at.wrapping_add(text.len());
+        if at <= end && end <= self.out.len() {
+            let out = &mut *self.out;
+            out[at..end].copy_from_slice(text);
         }
+        self.len = end;
     }
 
     // A number in decimal digits.
