@@ -43,10 +43,8 @@ pub fn examine_sets(tests: usize, drops: usize, loads: usize) -> Examined
 pub fn in_order(wants: &[u64], order: &[u16], steps: &mut [u64])
     ensures { steps.new ≡ sets steps.old 0 (in_order wants.now order.now) }
 {
-    let mut i: usize = 0;
-    while i < order.len() {
-        lists::put(steps, i, lists::entry(wants, order[i] as usize));
-        i += 1;
+    for (i, t) in order.iter().enumerate() {
+        lists::put(steps, i, lists::entry(wants, *t as usize));
     }
 }
 
@@ -55,13 +53,7 @@ fn count_curves(sets: &[u64]) -> usize
     requires { length sets.now ≤ 256 }
     ensures { result ≡ curve_count sets.now }
 {
-    let mut count: usize = 0;
-    let mut i: usize = 0;
-    while i < sets.len() {
-        count += bitset::size(sets[i]);
-        i += 1;
-    }
-    count
+    sets.iter().map(|s| bitset::size(*s)).sum()
 }
 
 // Whether a plan from anywhere keeps the rules, with so much held before its first step: its load count, or the first fault. "checking 8, 12", after 10, 13 and
