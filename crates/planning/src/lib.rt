@@ -20,13 +20,6 @@ pub enum PlanCounted {
     Refused(Refusal),
 }
 
-// The smaller of two numbers.
-fn smaller(a: usize, b: usize) -> usize
-    ensures { result ≡ min a b }
-{
-    if a < b { a } else { b }
-}
-
 // 12: "first missing or surplus position of the drops or loads, the smaller", of the lengths of three lists.
 pub fn examine_sets(tests: usize, drops: usize, loads: usize) -> Examined
     ensures { examined_outcome result ≡ sets_known tests drops loads }
@@ -36,7 +29,7 @@ pub fn examine_sets(tests: usize, drops: usize, loads: usize) -> Examined
             return Examined::Passed;
         }
     }
-    Examined::Refused(Refusal::PlanRejected(smaller(smaller(drops, loads), tests)))
+    Examined::Refused(Refusal::PlanRejected(drops.min(loads).min(tests)))
 }
 
 // The steps' wants, "the order giving the steps' tests", into the first entries of the list lent, as far as it has entries.
