@@ -6,10 +6,7 @@ ghost use Rattle.std.specs.Prelude.{◌≡◌, get_or, set};
 pub fn entry(list: &[u64], i: usize) -> u64
     ensures { result ≡ get_or list.now i 0 }
 {
-    if list.len() <= i {
-        return 0;
-    }
-    list[i]
+    list.get(i).copied().unwrap_or(0)
 }
 
 // Stores an entry; nothing beyond the list.
