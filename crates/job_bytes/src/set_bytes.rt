@@ -79,8 +79,8 @@ pub fn put_set_at(s: u64, to: usize, out: &mut [u8]) -> usize
     let mut map: u64 = 0;
     let mut end = to + 1;
     for j in 0..8u32 {
-        let byte = rest % 256;
-        out[end] = byte as u8;
+        let byte = (rest % 256) as u8;
+        out[end] = byte;
         let stands = byte != 0;
         end += usize::from(stands);
         map += u64::from(stands) << j;

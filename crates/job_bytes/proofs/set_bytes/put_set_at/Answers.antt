@@ -57,8 +57,8 @@ map_is c = let l = c.loop-j in l.invariant.whole ∙ map_end l.j l.rest l.map (o
 pub bounds-out-end-2 : goal.bounds-out-end-2
 bounds-out-end-2 c = omega (arith, end_is (goal.at.bounds-out-end-2 c).After-loop-j, set_le c.args.s, c.loop-j.invariant.long)
 
-pub overflow_cast-out-2 : goal.overflow_cast-out-2
-overflow_cast-out-2 c =
+pub overflow_cast-out : goal.overflow_cast-out
+overflow_cast-out c =
     let l = c.loop-j in
     let e : l.j ≡ 8 = omega arith in
     omega (arith, rw e at l.invariant.small)
