@@ -13,6 +13,7 @@ pub fn entry(list: &[u64], i: usize) -> u64
 pub fn put(list: &mut [u64], i: usize, value: u64)
     ensures { list.new ≡ set list.old i value }
 {
+    // Kept: tried, the proof did not close (`if let Some(x) = list.get_mut(i)`: once that borrow is over, nothing is known of the list's elements).
     if i < list.len() {
         list[i] = value;
     }
