@@ -1,4 +1,4 @@
-use Prim.Native.Nat.{ℕ, ◌≤◌, ◌<◌, ◌+◌, ◌*◌, ◌%◌, ◌^◌}
+use Prim.Native.Nat.{ℕ, ◌<◌, ◌+◌, ◌*◌, ◌%◌, ◌^◌}
 use mathlib.Core.Path.{◌≡◌, refl, ap, ◌∙◌}
 use mathlib.Core.List.{[], ◌∷◌, ◌++◌}
 use native.Mathlib.Omega.{arith}
@@ -7,7 +7,7 @@ use native.Mathlib.Nat.{one-mul, zero-add, pow-suc}
 use lib.ListN.{length, set}
 use borrow.Author.Rules.{set_long}
 use Rattle.job_bytes.specs.SetBytes.{group_map, group_bytes, set_bytes}
-use Rattle.job_bytes.proofs.Encoding.{mark, mark_placed, mark_adds, set_length, set_le, stores_turn, long_turn, map_turn, bytes_end, map_end, map_last}
+use Rattle.job_bytes.proofs.Encoding.{mark_placed, mark_adds, set_length, set_le, stores_turn, long_turn, map_turn, bytes_end, map_end, map_last}
 use Rattle.job_bytes.proofs.set_bytes.put_set_at.Goals.{After-loop-j, In-loop-j}
 use Rattle.job_bytes.proofs.set_bytes.put_set_at.Goals as goal
 

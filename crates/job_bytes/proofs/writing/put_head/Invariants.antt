@@ -1,9 +1,8 @@
 -- `job_bytes::writing::put_head` meets its contract. The invariant: storing the fields from the j-th on leads to the same buffer as storing all.
 use mathlib.Core.Path.{◌≡◌}
-use Prim.Native.Nat.{◌+◌, ◌-◌, ◌≤◌}
+use Prim.Native.Nat.{◌+◌, ◌≤◌}
 use lib.ListN.{length}
 use lib.Seq.{length-sets}
-use Rattle.job_bytes.specs.JobBytes.{fields}
 use Rattle.job_bytes.proofs.JobWritten.{bytes_from}
 use Rattle.job_bytes.proofs.writing.put_head.Given as goal
 

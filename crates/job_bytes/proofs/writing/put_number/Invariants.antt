@@ -1,6 +1,6 @@
 -- `job_bytes::writing::put_number` meets its contract. The invariant: storing the bytes to come leads to the same buffer as storing all.
 use mathlib.Core.Path.{◌≡◌}
-use Prim.Native.Nat.{◌+◌, ◌-◌, ◌≤◌}
+use Prim.Native.Nat.{◌+◌, ◌-◌}
 use lib.ListN.{length}
 use Rattle.job_bytes.specs.JobBytes.{number_bytes}
 use Rattle.job_bytes.proofs.writing.put_number.Given as goal

@@ -1,6 +1,6 @@
 -- `job_bytes::writing::put_records` meets its contract. The invariant: storing the records to come, and a zero behind them, leads to the same buffer as
 -- storing all.
-use Prim.Native.Nat.{◌≤◌, ◌-◌, ◌+◌, ◌*◌}
+use Prim.Native.Nat.{◌≤◌, ◌+◌, ◌*◌}
 use mathlib.Core.Path.{◌≡◌}
 use mathlib.Core.List.{[], ◌∷◌, ◌++◌}
 use lib.ListN.{length, drop}
