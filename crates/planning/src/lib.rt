@@ -1,6 +1,6 @@
 #![tactic(auto)]
 // Plans of a job: the examination of an order, our plan, and the plan check. The rules of one drive are those of `drive`.
-ghost use Rattle.std.specs.Prelude.{◌≡◌, ◌≤◌, min, length};
+ghost use Rattle.std.specs.Prelude.{◌≡◌, ◌≤◌, length};
 ghost use Rattle.std.proofs.lemmas.List.Edits.{sets};
 ghost use Rattle.job.specs.Refusal.{examined_outcome, count_outcome};
 ghost use Rattle.job.specs.Words.{job_of};
