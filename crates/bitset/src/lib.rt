@@ -50,7 +50,7 @@ pub fn single(k: usize) -> u64
 pub fn has(s: u64, k: usize) -> bool
     ensures { result ≡ eqb (bit k s) 1 }
 {
-    if k < 64 { (s >> k) % 2 == 1 } else { false }
+    k < 64 && (s >> k) % 2 == 1
 }
 
 // The set without its lowest element.

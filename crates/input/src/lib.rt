@@ -11,10 +11,7 @@ fn read_some<R: Read>(input: &mut R, buf: &mut [u8]) -> usize
     ensures bound { result ≤ length buf.new }
     ensures bytes { Consumes (R.remaining input.old) (R.remaining input.new) (take result buf.new) }
 {
-    match input.read(buf) {
-        Ok(n) => n,
-        Err(_) => 0,
-    }
+    input.read(buf).unwrap_or(0)
 }
 
 // Reads until the buffer is full, the input ends or a read fails, and returns how many bytes it put at the start of the buffer. On an empty buffer it makes no

@@ -1,13 +1,17 @@
 -- One turn of a loop that writes a set's bytes: what the rules of `SetBytes` come to with j groups behind it; and runs of stores.
 use mathlib.Core.Path.{◌≡◌, refl, sym, ap, ◌∙◌}
+use mathlib.Core.Bool.{Bool, not}
 use mathlib.Core.List.{List, [], ◌∷◌, ◌++◌}
-use Prim.Native.Nat.{ℕ, zero, suc, ◌+◌, ◌-◌, ◌*◌, ◌/◌, ◌%◌, ◌<◌, ◌≤◌}
+use Prim.Native.Nat.{ℕ, zero, suc, ◌+◌, ◌-◌, ◌*◌, ◌/◌, ◌%◌, ◌^◌, ◌<◌, ◌≤◌}
 use native.Mathlib.Omega.{arith}
-use native.Mathlib.Nat.{add-zero, mul_assoc, mul-add, add_assoc, mul-zero}
+use native.Mathlib.Nat.{add-zero, mul_assoc, mul-add, add_assoc, mul-zero, zero-mul, one-mul, mul-one, pow-suc}
 use native.Mathlib.Numerals.{add-one}
+use mir.Val.{bool_byte}
+use lib.Dec.{eqb}
+use lib.Pow.{pow_mono}
 use lib.ListN.{length, get_or, take, drop, set, length-drop}
 use lib.Seq.{sets, sets-eq, length-sets, get_or-take, set-set, set_comm, take-set-le, take_all}
-use borrow.Author.Tests.{lt-leb}
+use borrow.Author.Tests.{lt-leb, ne_eqb}
 use Rattle.lists.proofs.Overwritten.{sets_front}
 use Rattle.job.specs.Refusal.{mapped, demand, room, leaves, overwritten}
 use Rattle.job.proofs.Laws.{done_room, leaves_done, leaves_refused}
@@ -28,32 +32,50 @@ stands_le (suc x) = omega arith
 
 -- .. as the code reckons it
 abbrev pub mark : ℕ → ℕ
-mark x = (x + 255) / 256
+mark x = bool_byte (not (eqb x 0))
 
 pub at_most : (x d : ℕ) → d ≤ 1 → x * d ≤ x
 at_most x zero h = omega arith
 at_most x (suc zero) h = omega arith
 at_most x (suc (suc d)) h = absurd (omega arith)
 
-mark_stands : (x : ℕ) → x < 256 → stands x ≡ mark x
+mark_some : (x : ℕ) → mark (suc x) ≡ 1
+mark_some x = ap (λ (b : Bool). bool_byte (not b)) (ne_eqb (suc x) 0 (λ e. omega arith))
+
+mark_stands : (x : ℕ) → stands x ≡ mark x
 unfolding stands
-mark_stands zero h = refl
-mark_stands (suc x) h = omega arith
+mark_stands zero = refl
+mark_stands (suc x) = sym (mark_some x)
+
+mark_le : (x : ℕ) → mark x ≤ 1
+mark_le x = omega (arith, mark_stands x, stands_le x)
+
+-- it at place j
+placed : (d j : ℕ) → d ≤ 1 → j < 8 → d * 2 ^ j % 2 ^ 64 ≡ 2 ^ j * d
+placed zero j l h = rw (zero-mul, mul-zero) refl
+placed (suc zero) j l h = rw (one-mul, mul-one) (omega (arith, pow_mono {i = j} {j = 7} (omega arith)))
+placed (suc (suc d)) j l h = absurd (omega arith)
+
+pub mark_placed : (x j : ℕ) → j < 8 → mark x * 2 ^ j % 2 ^ 64 ≡ 2 ^ j * mark x
+mark_placed x j h = placed (mark x) j (mark_le x) h
+
+pub mark_adds : (x j : ℕ) → j < 8 → (mark x * 2 ^ j % 2 ^ 64 ≤ 2 ^ j) × (2 ^ j ≤ 2 ^ 7)
+mark_adds x j h = (omega (arith, mark_placed x j h, at_most (2 ^ j) (mark x) (mark_le x)), pow_mono {j = 7} (omega arith))
 
 -- a run of one store or more begins where a zero was stored
 over_zero : (l vs : List ℕ) (i x : ℕ) → sets l i (vs ++ (x ∷ [])) ≡ sets (set l i 0) i (vs ++ (x ∷ []))
 over_zero l [] i x = sym (set-set l i 0 x)
 over_zero l (v ∷ vs) i x = ap (λ (k : List ℕ). sets k (suc i) (vs ++ (x ∷ []))) (sym (set-set l i 0 v))
 
-one_group : (x : ℕ) (l vs : List ℕ) (i : ℕ) → x < 256 → sets l i (group_of x vs ++ (0 ∷ [])) ≡ sets (set l i x) (i + mark x) (vs ++ (0 ∷ []))
+one_group : (x : ℕ) (l vs : List ℕ) (i : ℕ) → sets l i (group_of x vs ++ (0 ∷ [])) ≡ sets (set l i x) (i + mark x) (vs ++ (0 ∷ []))
 unfolding group_of
-one_group zero l vs i h = let e : i + mark 0 ≡ i = omega arith in rw e (over_zero l vs i 0)
-one_group (suc x) l vs i h = let e : i + mark (suc x) ≡ suc i = omega arith in rw e refl
+one_group zero l vs i = let e : i + mark 0 ≡ i = omega arith in rw e (over_zero l vs i 0)
+one_group (suc x) l vs i = let e : i + mark (suc x) ≡ suc i = omega (arith, mark_some x) in rw e refl
 
-group_long : (x : ℕ) (vs : List ℕ) → x < 256 → length (group_of x vs) ≡ mark x + length vs
+group_long : (x : ℕ) (vs : List ℕ) → length (group_of x vs) ≡ mark x + length vs
 unfolding group_of
-group_long zero vs h = omega arith
-group_long (suc x) vs h = omega arith
+group_long zero vs = omega arith
+group_long (suc x) vs = omega (arith, mark_some x)
 
 -- group j: its byte is stored and may be written over, its bit is added to the map
 module _ (j n : ℕ) (h : j < 8) where
@@ -63,18 +85,18 @@ module _ (j n : ℕ) (h : j < 8) where
 
   pub stores_turn : (l : List ℕ) (i : ℕ)
       → sets l i (group_bytes (8 - j) n ++ (0 ∷ [])) ≡ sets (set l i (n % 256)) (i + mark (n % 256)) (group_bytes (8 - (j + 1)) (n / 256) ++ (0 ∷ []))
-  stores_turn l i = rw bytes_turn (one_group (n % 256) l (group_bytes (8 - (j + 1)) (n / 256)) i (omega arith))
+  stores_turn l i = rw bytes_turn (one_group (n % 256) l (group_bytes (8 - (j + 1)) (n / 256)) i)
 
   pub long_turn : length (group_bytes (8 - j) n) ≡ mark (n % 256) + length (group_bytes (8 - (j + 1)) (n / 256))
-  long_turn = ap length bytes_turn ∙ group_long (n % 256) (group_bytes (8 - (j + 1)) (n / 256)) (omega arith)
+  long_turn = ap length bytes_turn ∙ group_long (n % 256) (group_bytes (8 - (j + 1)) (n / 256))
 
-  pub map_turn : (map bit : ℕ) → map + bit * group_map (8 - j) n ≡ (map + bit * mark (n % 256)) + (bit * 2) * group_map (8 - (j + 1)) (n / 256)
+  pub map_turn : (map : ℕ) → map + 2 ^ j * group_map (8 - j) n ≡ (map + 2 ^ j * mark (n % 256)) + 2 ^ (j + 1) * group_map (8 - (j + 1)) (n / 256)
   unfolding group_map
-  map_turn map bit = rw (less j h, mark_stands (n % 256) (omega arith), mul_assoc, mul-add, add_assoc) refl
+  map_turn map = rw (less j h, add-one j, pow-suc, mark_stands (n % 256), mul_assoc, mul-add, add_assoc) refl
 
-pub map_end : (j n map bit : ℕ) → j ≡ 8 → map + bit * group_map (8 - j) n ≡ map
+pub map_end : (j n map : ℕ) → j ≡ 8 → map + 2 ^ j * group_map (8 - j) n ≡ map
 unfolding group_map
-map_end j n map bit e = rw (e, mul-zero, add-zero)
+map_end j n map e = rw (e, mul-zero, add-zero)
 
 pub bytes_end : (j n : ℕ) → j ≡ 8 → group_bytes (8 - j) n ≡ []
 unfolding group_bytes

@@ -3,7 +3,6 @@
 --     Encoding      one turn of a loop that writes bytes, and runs of stores
 --     GroupByte     one group byte, and what its reader's answer says
 --     Heads         reading a head, step by step
---     Front         a loop that copies the front of a list
 --     Records       reading the records and the whole job, step by step
 --     Spans         how many bytes a reading takes at most, and where its figures point
 --     Behind        bytes behind those that a reading takes do not change it
@@ -19,7 +18,6 @@
 --     Booked        13 comes exactly where none of the places is left, with the offset of the booked byte
 pub mod Turns
 pub mod Encoding
-pub mod Front
 pub mod Heads
 pub mod Spans
 pub mod Behind

@@ -16,9 +16,7 @@ fn number_at(job: &[u8], at: usize, width: usize) -> usize
     ensures { read_number width at (drop at job.now) ≡ done (got result (at + width) (drop (at + width) job.now)) }
 {
     let mut value: usize = 0;
-    let mut k = width;
-    while 0 < k {
-        k -= 1;
+    for k in (0..width).rev() {
         value = job[at + k] as usize + 256 * value;
     }
     value
@@ -28,13 +26,7 @@ fn number_at(job: &[u8], at: usize, width: usize) -> usize
 fn holds(field: Field, value: usize) -> bool
     ensures { result ≡ (between field.low field.high value && not (eqb value field.absent)) }
 {
-    if value < field.low {
-        return false;
-    }
-    if field.high < value {
-        return false;
-    }
-    value != field.absent
+    (field.low..=field.high).contains(&value) && value != field.absent
 }
 
 // A field, if its bit stands: "cut before value". The next one begins at `at + stands * width`.
@@ -65,18 +57,18 @@ fn method_read(value: usize) -> usize
 }
 
 // A head of its fields' values.
-fn head_of(values: &[usize]) -> Head
-    requires { 5 ≤ length values.now }
+fn head_of(values: &[usize; FIELDS]) -> Head
     ensures { result ≡ head_of values.now }
 {
+    let [places, curves, tests, method, booked] = *values;
     Head {
         rig: Rig {
-            places: values[0],
-            booked: values[4],
-            curves: values[1],
+            places,
+            booked,
+            curves,
         },
-        tests: values[2],
-        method: method_read(values[3]),
+        tests,
+        method: method_read(method),
     }
 }
 
@@ -162,11 +154,7 @@ fn copy_front(to: &mut [u64], from: &[u64], n: usize)
     requires { (n ≤ length from.now) × (n ≤ length to.old) }
     ensures { to.new ≡ take n from.now ++ drop n to.old }
 {
-    let mut i = 0;
-    while i < n {
-        to[i] = from[i];
-        i += 1;
-    }
+    to[..n].copy_from_slice(&from[..n]);
 }
 
 // The tests behind a head that was read, from `start` on: the records, 6, 9.

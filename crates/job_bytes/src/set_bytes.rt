@@ -81,19 +81,14 @@ pub fn put_set_at(s: u64, to: usize, out: &mut [u8]) -> usize
     }
     let mut rest = s;
     let mut map: u64 = 0;
-    let mut bit: u64 = 1;
     let mut end = to + 1;
-    let mut j: u32 = 0;
-    while j < 8 {
-        let byte = rest % 256;
-        out[end] = byte as u8;
-        // 1 for a byte that is not zero
-        let stands = (byte + 255) / 256;
-        end += stands as usize;
-        map += bit * stands;
-        bit *= 2;
+    for j in 0..8u32 {
+        let byte = (rest % 256) as u8;
+        out[end] = byte;
+        let stands = byte != 0;
+        end += usize::from(stands);
+        map += u64::from(stands) << j;
         rest /= 256;
-        j += 1;
     }
     out[end] = 0;
     out[to] = map as u8;
@@ -124,11 +119,7 @@ pub fn put_front(from: &[u8], to: &mut [u8])
     if to.len() < from.len() {
         return;
     }
-    let mut i = 0;
-    while i < from.len() {
-        to[i] = from[i];
-        i += 1;
-    }
+    to[..from.len()].copy_from_slice(from);
 }
 
 // Writes a set's bytes to the beginning of `out`, where they fit, and answers how many they are.

@@ -16,16 +16,13 @@ struct Shape {
     len: usize,
 }
 
-fn head_shape(values: &[usize]) -> Shape
-    requires { length values.now ≡ length fields }
+fn head_shape(values: &[usize; FIELDS]) -> Shape
     ensures map { result.map ≡ get_or (head_bytes values.now) 0 0 }
     ensures len { (result.len ≡ length (head_bytes values.now)) × (result.len ≤ 1 + 8 * length fields) }
 {
     let mut map: u8 = 0;
     let mut len: usize = 1;
-    let mut j = FIELDS;
-    while 0 < j {
-        j -= 1;
+    for j in (0..FIELDS).rev() {
         let field = row(j);
         map *= 2;
         if values[j] != field.absent {
@@ -42,28 +39,23 @@ fn put_number(value: usize, width: usize, at: usize, out: &mut [u8])
     ensures { out.new ≡ sets out.old at (number_bytes width value) }
 {
     let mut rest = value;
-    let mut k = 0;
-    while k < width {
+    for k in 0..width {
         out[at + k] = (rest % 256) as u8;
         rest /= 256;
-        k += 1;
     }
 }
 
 // Writes a head, whose map is handed over, to the beginning of `out`.
-fn put_head(values: &[usize], map: u8, out: &mut [u8])
-    requires { (length values.now ≡ length fields) × (map ≡ get_or (head_bytes values.now) 0 0) × (length (head_bytes values.now) ≤ length out.old) }
+fn put_head(values: &[usize; FIELDS], map: u8, out: &mut [u8])
+    requires { (map ≡ get_or (head_bytes values.now) 0 0) × (length (head_bytes values.now) ≤ length out.old) }
     ensures { out.new ≡ sets out.old 0 (head_bytes values.now) }
 {
     out[0] = map;
     let mut at: usize = 1;
-    let mut j = 0;
-    while j < FIELDS {
+    for (j, value) in values.iter().enumerate() {
         let field = row(j);
-        let value = values[j];
-        j += 1;
-        if value != field.absent {
-            put_number(value, field.width, at, out);
+        if *value != field.absent {
+            put_number(*value, field.width, at, out);
             at += field.width;
         }
     }
@@ -76,10 +68,8 @@ fn put_records(wants: &[u64], at: usize, out: &mut [u8]) -> usize
     ensures bytes { out.new ≡ sets out.old at (record_bytes wants.now ++ (0 ∷ [])) }
 {
     let mut to = at;
-    let mut t = 0;
-    while t < wants.len() {
-        to = put_set_at(wants[t], to, out);
-        t += 1;
+    for w in wants {
+        to = put_set_at(*w, to, out);
     }
     out[to] = 0;
     to

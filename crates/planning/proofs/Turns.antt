@@ -1,11 +1,13 @@
 -- One turn of a loop: over the steps and their sets.
-use mathlib.Core.Path.{◌≡◌, refl, ap}
+use mathlib.Core.Path.{◌≡◌, refl, ap, ◌∙◌}
 use mathlib.Core.List.{List, [], ◌∷◌}
 use Prim.Native.Nat.{ℕ, zero, suc, ◌+◌, ◌≤◌, ◌<◌}
 use native.Mathlib.Omega.{arith}
 use native.Mathlib.Numerals.{add-one}
 use lib.ListN.{length, get_or, drop, drop_of_length-le}
 use lib.Seq.{drop-cons}
+use Rattle.std.specs.List.{sum_by}
+use Rattle.std.proofs.lemmas.List.Sums.{sum_by-cons}
 use Rattle.bitset.specs.Set.{size}
 use Rattle.drive.specs.Steps.{curve_count}
 use Rattle.planning.specs.Plan.{in_order}
@@ -32,11 +34,8 @@ pub wants_end : (wants order : List ℕ) (i : ℕ) → length order ≤ i → in
 unfolding in_order
 wants_end wants order i h = rw (drop_of_length-le order h) refl
 
--- ---- the number of curves, from set i on
-pub count_here : (ls : List ℕ) (i : ℕ) → i < length ls → curve_count (drop i ls) ≡ size (get_or ls i 0) + curve_count (drop (i + 1) ls)
+-- ---- the number of curves
+pub count_sum : (ls : List ℕ) → sum_by size ls ≡ curve_count ls
 unfolding curve_count
-count_here ls i h = rw (add-one i, drop-cons ls i 0 h) refl
-
-pub count_end_lem : (ls : List ℕ) (i : ℕ) → length ls ≤ i → curve_count (drop i ls) ≡ 0
-unfolding curve_count
-count_end_lem ls i h = rw (drop_of_length-le ls h) refl
+count_sum [] = refl
+count_sum (s ∷ ss) = sum_by-cons size s ss ∙ ap (λ (n : ℕ). size s + n) (count_sum ss)

@@ -1,6 +1,6 @@
 #![tactic(auto)]
 // Plans of a job: the examination of an order, our plan, and the plan check. The rules of one drive are those of `drive`.
-ghost use Rattle.std.specs.Prelude.{◌≡◌, ◌≤◌, min, length};
+ghost use Rattle.std.specs.Prelude.{◌≡◌, ◌≤◌, length};
 ghost use Rattle.std.proofs.lemmas.List.Edits.{sets};
 ghost use Rattle.job.specs.Refusal.{outcome};
 ghost use Rattle.job.specs.Words.{job_of};
@@ -19,13 +19,6 @@ pub struct CountEnd {
     pub end: u64,
 }
 
-// The smaller of two numbers.
-fn smaller(a: usize, b: usize) -> usize
-    ensures { result ≡ min a b }
-{
-    if a < b { a } else { b }
-}
-
 // 12: "first missing or surplus position of the drops or loads, the smaller", of the lengths of three lists.
 pub fn examine_sets(tests: usize, drops: usize, loads: usize) -> Result<(), Refusal>
     ensures { outcome result ≡ sets_known tests drops loads }
@@ -35,17 +28,15 @@ pub fn examine_sets(tests: usize, drops: usize, loads: usize) -> Result<(), Refu
             return Ok(());
         }
     }
-    Err(Refusal::PlanRejected(smaller(smaller(drops, loads), tests)))
+    Err(Refusal::PlanRejected(drops.min(loads).min(tests)))
 }
 
 // The steps' wants, "the order giving the steps' tests", into the first entries of the list lent, as far as it has entries.
 pub fn in_order(wants: &[u64], order: &[u16], steps: &mut [u64])
     ensures { steps.new ≡ sets steps.old 0 (in_order wants.now order.now) }
 {
-    let mut i: usize = 0;
-    while i < order.len() {
-        lists::put(steps, i, lists::entry(wants, order[i] as usize));
-        i += 1;
+    for (i, t) in order.iter().enumerate() {
+        lists::put(steps, i, lists::entry(wants, *t as usize));
     }
 }
 
@@ -54,13 +45,7 @@ fn count_curves(sets: &[u64]) -> usize
     requires { length sets.now ≤ 256 }
     ensures { result ≡ curve_count sets.now }
 {
-    let mut count: usize = 0;
-    let mut i: usize = 0;
-    while i < sets.len() {
-        count += bitset::size(sets[i]);
-        i += 1;
-    }
-    count
+    sets.iter().map(|s| bitset::size(*s)).sum()
 }
 
 // Whether a plan from anywhere keeps the rules, with so much held before its first step: its load count, or the first fault. "checking 8, 12", after 10, 13 and

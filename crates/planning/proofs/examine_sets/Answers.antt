@@ -14,8 +14,8 @@ pub returns : goal.returns
 unfolding outcome
 returns c =
     let a = c.args in
-    let least : c.smaller-2.result ≡ min (min a.drops a.loads) a.tests =
-    c.smaller-2.ensures ∙ ap (λ (x : ℕ). min x a.tests) c.smaller.ensures in
+    let least : c.min-2.result ≡ min (min a.drops a.loads) a.tests =
+    c.min-2.ensures ∙ ap (λ (x : ℕ). min x a.tests) c.min.ensures in
     rw least
     (sym (elim c.if-drops-tests.branch [
       | then-drops-tests+else-loads-tests w ↦ sets_loads a.tests a.drops a.loads w.if-drops-tests.true w.if-loads-tests.false

@@ -1,6 +1,6 @@
 -- `job_bytes::reading::number_at` meets its contract. The invariant: the number of the bytes from the k-th on.
 use mathlib.Core.Path.{◌≡◌}
-use Prim.Native.Nat.{◌+◌, ◌-◌, ◌*◌, ◌^◌, ◌≤◌, ◌<◌}
+use Prim.Native.Nat.{◌+◌, ◌-◌, ◌*◌, ◌^◌, ◌<◌}
 use lib.ListN.{drop}
 use Rattle.job.specs.Refusal.{done}
 use Rattle.job_bytes.specs.SetBytes.{got}
@@ -9,8 +9,5 @@ use Rattle.job_bytes.proofs.reading.number_at.Given as goal
 
 abbrev pub invariant-loop-k : goal.invariant-loop-k
 invariant-loop-k l =
-    (l.k ≤ l.width) × (l.value < 2 ^ (8 * (l.width - l.k)))
+    (l.value < 2 ^ (8 * (l.width - l.k)))
     × (read_number (l.width - l.k) (l.at + l.k) (drop (l.at + l.k) l.job) ≡ done (got l.value (l.at + l.width) (drop (l.at + l.width) l.job)))
-
-abbrev pub decreases-loop-k : goal.decreases-loop-k
-decreases-loop-k l = l.k

@@ -8,7 +8,4 @@ use Rattle.job_bytes.proofs.writing.head_shape.Given as goal
 
 abbrev pub invariant-loop-j : goal.invariant-loop-j
 invariant-loop-j l =
-    (l.j ≤ length fields) × (l.map ≡ map_from l.values l.j) × (l.len ≡ 1 + length (bytes_from l.values l.j)) × (l.len ≤ 1 + 8 * (length fields - l.j))
-
-abbrev pub decreases-loop-j : goal.decreases-loop-j
-decreases-loop-j l = l.j
+    (l.map ≡ map_from l.values l.j) × (l.len ≡ 1 + length (bytes_from l.values l.j)) × (l.len ≤ 1 + 8 * (length fields - l.j))

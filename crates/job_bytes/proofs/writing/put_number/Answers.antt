@@ -13,9 +13,8 @@ loop-k-preserved c =
     let l = c.loop-k in
     let w : a.width - l.k ≡ suc (a.width - (l.k + 1)) = omega arith in
     let n : a.at + l.k + 1 ≡ a.at + (l.k + 1) = omega arith in (
-      omega arith,
-      simp length-set l.invariant.1,
-      l.invariant.2
+      simp length-set l.invariant.0,
+      l.invariant.1
           ∙ rw (w, ← n) (sets_cons l.out (a.at + l.k) (l.rest % 256) (number_bytes (a.width - (l.k + 1)) (l.rest / 256))),
     )
 
@@ -23,4 +22,4 @@ pub returns : goal.returns
 unfolding number_bytes
 returns c =
     let z : c.args.width - c.loop-k.k ≡ 0 = omega arith in
-    sym (rw z at c.loop-k.invariant.2)
+    sym (rw z at c.loop-k.invariant.1)

@@ -33,11 +33,8 @@ returns-in_err-examine_job c =
     let both = job_unknown a.method (job_of a.rig a.wants.now) a.out.now _ _ (sym c.in_err-examine_job.ensures) in
     record { answer = handed_on _ _ c.from_residual.ensures.1 ∙ both.0; lent = both.1 }
 
-pub head_shape-head-requires : goal.head_shape-head-requires
-head_shape-head-requires c = sym rows
-
 pub put_head-requires : goal.put_head-requires
-put_head-requires c = let e = c.head_shape-head.ensures in (sym rows, e.map, omega (arith, rows, e.len.0, e.len.1))
+put_head-requires c = let e = c.head_shape-head.ensures in (e.map, omega (arith, rows, e.len.0, e.len.1))
 
 pub put_records-needed-requires : goal.put_records-needed-requires
 put_records-needed-requires c =
