@@ -32,4 +32,4 @@ returns c =
     let s = c.args.same in
     let end : 0 < s → (bit (count_trailing_zeros 64 q.left) s ≡ 1) × ((k : ℕ) → bit k s ≡ 1 → k ≤ count_trailing_zeros 64 q.left) =
     λ p. walk_end s q.left q.invariant.walked (sym q.invariant.next ∙ c.loop-higher-test.false) (q.invariant.some p) q.invariant.range in
-    rw c.lowest.ensures record { same_value = λ p. (end p).0; by_index = λ k i. (end (∈-pos k s i)).1 k i }
+    rw c.lowest.ensures record { member = λ p. (end p).0; highest = λ k i. (end (∈-pos k s i)).1 k i }
