@@ -1,26 +1,23 @@
 -- The candidates in groups by their next use: how a walk finds the groups, what goes first of those left, and what stays.
 use mathlib.Core.Path.{◌≡◌, refl, sym, ap, ◌∙◌}
-use mathlib.Core.List.{List, [], ◌∷◌, ◌++◌, map}
+use mathlib.Core.List.{List, [], ◌∷◌}
 use mathlib.Core.Logic.{◌⊎◌, inl, inr, ⊎_elim}
 use Prim.Native.Nat.{ℕ, zero, suc, ◌+◌, ◌-◌, ◌^◌, ◌≤◌, ◌<◌, min}
 use native.Mathlib.Omega.{arith}
 use native.Mathlib.Decide.{ℕ_discrete, dec_le}
-use lib.ListN.{length, length-map, get_or, drop, set, take}
-use lib.Seq.{get_or-set_same, get_or-set_other, get_or-append_seam}
-use Rattle.std.specs.List.{IsLastAndRest}
+use lib.ListN.{length, get_or, drop, set}
+use lib.Seq.{get_or-set_same, get_or-set_other}
 use Rattle.std.specs.Prelude.{Option, Some, None}
-use Rattle.std.proofs.lemmas.List.{append_assoc, map-append, get_or-take, length-take-le, take-map}
 use Rattle.bitset.specs.Set.{◌∩◌, ◌∪◌, ◌∖◌, size, bit}
 use Rattle.bitset.proofs.Bits.{bit-∩, bit-∪, bit-∖, bit_empty, bit_other, same_by_bits, size_empty, sizes_eq}
 use Rattle.bitset.proofs.Laws.{∖-∖}
 use Rattle.bitset.proofs.Element.{some, size_insert, ∈-pos}
 use Rattle.bitset.proofs.Parts.{◌≼◌, empty-≼, without-≼, single-≼, positive, in_range}
 use Rattle.drive.specs.declared.choice.Candidate.{Candidate}
-use Rattle.drive.specs.declared.choice.Group.{Group}
 use Rattle.drive.specs.Uses.{later, use_by, next_use}
 use Rattle.drive.specs.Plan.{furthest, victims}
 use Rattle.drive.specs.Steps.{together}
-use Rattle.drive.specs.ContractWords.{Grouped, curves_of, steps_of, InGroups, GoesBefore, UsedAt, GoesFirst}
+use Rattle.drive.specs.ContractWords.{Grouped, GoesBefore, UsedAt, GoesFirst}
 use Rattle.drive.proofs.Turns.{step_of, use_wanted, use_later, use_never}
 use Rattle.drive.proofs.Staying.{First, same_before, further_before, never_before, sooner_stays, victims_first, none_first, more_first, less_first}
 
@@ -48,9 +45,6 @@ together_used c (w ∷ ws) e n = go (bit c w) refl (next_use c ws) (together_use
 
 pub without_none : (s : ℕ) → s ∖ 0 ≡ s
 without_none s = same_by_bits (s ∖ 0) s (λ c. omega (arith, bit-∖ c s 0, bit_empty c))
-
-pub without_all : (s : ℕ) → 0 ∖ s ≡ 0
-without_all s = same_by_bits (0 ∖ s) 0 (λ c. omega (arith, bit-∖ c 0 s, bit_empty c))
 
 other : (l : List ℕ) (j m x : ℕ) → j < m → get_or (set l m x) j 0 ≡ get_or l j 0
 other l j m x h = get_or-set_other l m j x 0 (λ e. omega arith)
@@ -130,24 +124,6 @@ module _ {cs unused m : ℕ} {groups when ws : List ℕ} (g : Grouped cs unused 
         order i j l (inl h) = rw (other when i m k (omega arith), other when j m k h) (g.rising i j l h)
         order i j l (inr h) = let b : i < m = omega (arith, h.0) in rw (other when i m k b, h.0, new_step) (soon i b)
 
--- the first m of the groups by themselves
-pub groups_taken : {cs unused m : ℕ} {ws : List ℕ} (groups : List Group) → m ≤ length groups
-    → Grouped cs unused m (curves_of groups) (steps_of groups) ws
-    → InGroups cs unused (take m groups) ws
-groups_taken {cs} {unused} {m} {ws} groups h g =
-    rw (length-take-le m groups h)
-    record {
-      few = g.few;
-      never = g.never;
-      used = λ j c l i. let u = g.used j c l (rw (same (λ g. g.curves) j l) at i) in (u.0, u.1 ∙ ap Some (sym (same (λ g. g.step) j l)));
-      all = λ c i n. let a = g.all c i n in (a.0, a.1, rw (same (λ g. g.curves) a.0 a.1) a.2);
-      rising = λ i j l k. rw (same (λ g. g.step) i (omega arith), same (λ g. g.step) j k) (g.rising i j l k);
-      some = λ j l. rw (same (λ g. g.curves) j l) (g.some j l);
-    }
-  where
-    same : (f : Group → ℕ) (j : ℕ) → j < m → get_or (map f (take m groups)) j 0 ≡ get_or (map f groups) j 0
-    same f j l = ap (λ (xs : List ℕ). get_or xs j 0) (sym (take-map f m groups)) ∙ get_or-take m (map f groups) j 0 l
-
 -- ---- what a step of the walk meets
 
 pub step_zero : (u : Option ℕ) → step_of 0 u ≡ u
@@ -163,15 +139,6 @@ used_ends x used k later e i ahead = go (dec_le (length later) k)
     go : Dec (length later ≤ k) → k < length later
     go (yes l) = absurd (together_used x later (omega (arith, ap (bit x) e)) (ahead ∙ use_never x k later l))
     go (no l) = omega arith
-
--- the walk is over: none is left
-pub none_left : (cs used left k : ℕ) (later : List ℕ) → used ≡ together later → left ≼ cs ∩ used
-    → ((c : ℕ) → bit c left ≡ 1 → next_use c later ≡ step_of k (next_use c (drop k later)))
-    → length later ≤ k → left ≡ 0
-none_left cs used zero k later e part ahead h = refl
-none_left cs used (suc n) k later e part ahead h =
-    let x = some (suc n) (omega arith) in
-    absurd (omega (arith, used_ends x.0 used k later e (omega (arith, x.1, part x.0, bit-∩ x.0 cs used)) (ahead x.0 x.1)))
 
 -- one step of the walk: what it wants of those left
 pub record Met (cs left hit k : ℕ) (later : List ℕ) : Type 0 where
@@ -262,26 +229,23 @@ module _ {cs unused found : ℕ} {groups when ws : List ℕ} (g : Grouped cs unu
         go d m h n j b k (no e) = further_before r.curve d ws _ _ n (g.used j d (omega (arith, o.within)) k).1 (g.rising j l (omega arith) h)
 
     -- what goes first of those never used, or else of the last group, goes first of all that are left
-    pub goes_first : (same step : ℕ) → ((l : ℕ) → count ≡ l + 1 → (same ≡ group l ∖ chosen) × (step ≡ get_or when l 0)) → 0 < size (cs ∖ chosen)
-        → (r : Candidate) → (0 < unused ∖ chosen → UsedAt None (unused ∖ chosen) ws → GoesFirst ws (unused ∖ chosen) r)
-        → (unused ∖ chosen ≡ 0 → 0 < same → UsedAt (Some step) same ws → GoesFirst ws same r)
+    pub goes_first : 0 < size (cs ∖ chosen) → (r : Candidate) → (0 < unused ∖ chosen → UsedAt None (unused ∖ chosen) ws → GoesFirst ws (unused ∖ chosen) r)
+        → (unused ∖ chosen ≡ 0 → 0 < group (count - 1) ∖ chosen → UsedAt (Some (get_or when (count - 1) 0)) (group (count - 1) ∖ chosen) ws
+        → GoesFirst ws (group (count - 1) ∖ chosen) r)
         → GoesFirst ws (cs ∖ chosen) r
-    goes_first same step here h r never last = go (unused ∖ chosen) refl (dec_le count 0)
+    goes_first h r never last = go (unused ∖ chosen) refl (dec_le count 0)
       where
         go : (n : ℕ) → unused ∖ chosen ≡ n → Dec (count ≤ 0) → GoesFirst ws (cs ∖ chosen) r
         go zero e (yes l) = absurd (omega (arith, some_never (omega arith) h))
         go zero e (no l) =
             let w = o.within in
-            let p = here (count - 1) (omega arith) in
-            let first = rw (p.0, p.1) at (last e) in
-            last_goes (count - 1) (omega arith) e r (first (o.left (count - 1) (omega arith))
+            last_goes (count - 1) (omega arith) e r (last e (o.left (count - 1) (omega arith))
             (λ c i. (g.used (count - 1) c (omega arith) (omega (arith, bit-∖ c (group (count - 1)) chosen))).1))
         go (suc n) e d = never_goes r (never (omega arith) (λ c i. (g.never c (omega (arith, bit-∖ c unused chosen))).1))
 
     -- v, which goes first, was chosen too, and what is left of the last group counts: r groups are left then
-    module _ (same v r : ℕ) (here : (l : ℕ) → count ≡ l + 1 → same ≡ group l ∖ chosen) (empty : count ≡ 0 → same ≡ 0)
-        (first : (d : ℕ) → bit d (cs ∖ chosen) ≡ 1 → GoesBefore ws v d) (none : same ∖ 2 ^ v ≡ 0 → r ≡ count - 1)
-        (more : 0 < same ∖ 2 ^ v → r ≡ count) where
+    module _ (v r : ℕ) (first : (d : ℕ) → bit d (cs ∖ chosen) ≡ 1 → GoesBefore ws v d) (none : group (count - 1) ∖ chosen ∖ 2 ^ v ≡ 0 → r ≡ count - 1)
+        (more : 0 < group (count - 1) ∖ chosen ∖ 2 ^ v → r ≡ count) where
       -- v is in no group but the last
       apart : (j : ℕ) → j + 1 < count → bit v (group j) ≡ 1 → ⊥
       apart j h i = go count refl
@@ -310,7 +274,7 @@ module _ {cs unused found : ℕ} {groups when ws : List ℕ} (g : Grouped cs unu
               out (suc b) i = let o : bit c (group j) ≡ 1 = omega arith in absurd (apart j h (rw e at o))
 
       pub open_next : Open found r (chosen ∪ 2 ^ v) groups
-      open_next = by_count (dec_le count 0)
+      open_next = go (group (count - 1) ∖ chosen ∖ 2 ^ v) refl
         where
           passed : (j c : ℕ) → count ≤ j → j < found → bit c (group j) ≡ 1 → bit c (chosen ∪ 2 ^ v) ≡ 1
           passed j c l h i = omega (arith, bit-∪ c chosen (2 ^ v), o.gone j c l h i)
@@ -318,37 +282,31 @@ module _ {cs unused found : ℕ} {groups when ws : List ℕ} (g : Grouped cs unu
           still : (j : ℕ) → j + 1 < count → 0 < group j ∖ (chosen ∪ 2 ^ v)
           still j h = rw (whole j h) (o.left j (omega arith))
 
-          go : (l : ℕ) → count ≡ l + 1 → same ≡ group l ∖ chosen → (n : ℕ) → same ∖ 2 ^ v ≡ n → Open found r (chosen ∪ 2 ^ v) groups
-          go l s p zero e =
+          go : (n : ℕ) → group (count - 1) ∖ chosen ∖ 2 ^ v ≡ n → Open found r (chosen ∪ 2 ^ v) groups
+          go zero e =
               let f = none e in
-              record { within = omega (arith, o.within); gone = λ j c k h i. last j c k h i (dec_le count j); left = λ j h. still j (omega arith) }
+              record { within = omega (arith, o.within); gone = λ j c l h i. last j c l h i (dec_le count j); left = λ j h. still j (omega arith) }
             where
               last : (j c : ℕ) → r ≤ j → j < found → bit c (group j) ≡ 1 → Dec (count ≤ j) → bit c (chosen ∪ 2 ^ v) ≡ 1
-              last j c k h i (yes q) = passed j c q h i
-              last j c k h i (no q) =
+              last j c l h i (yes p) = passed j c p h i
+              last j c l h i (no p) =
                   let f = none e in
-                  let t : j ≡ l = omega arith in
-                  let z : group j ∖ chosen ∖ 2 ^ v ≡ 0 = rw (p, sym t) at e in
-                  omega (arith, bit-∪ c chosen (2 ^ v), bit-∖ c (group j ∖ chosen) (2 ^ v), bit-∖ c (group j) chosen, bit_empty c, ap (bit c) z)
-          go l s p (suc n) e =
+                  let q : j ≡ count - 1 = omega arith in
+                  omega (arith, bit-∪ c chosen (2 ^ v), bit-∖ c (group j ∖ chosen) (2 ^ v), bit-∖ c (group j) chosen, bit_empty c, ap (bit c) (rw (← q) at e))
+          go (suc n) e =
               let f = more (omega arith) in
               record {
                 within = omega (arith, o.within);
-                gone = λ j c k h i. passed j c (omega arith) h i;
-                left = λ j h. last j (omega arith) (ℕ_discrete j l);
+                gone = λ j c l h i. passed j c (omega arith) h i;
+                left = λ j h. last j (omega arith)
+                    (ℕ_discrete count (j + 1));
               }
             where
-              last : (j : ℕ) → j < count → Dec (j ≡ l) → 0 < group j ∖ (chosen ∪ 2 ^ v)
+              last : (j : ℕ) → j < count → Dec (count ≡ j + 1) → 0 < group j ∖ (chosen ∪ 2 ^ v)
               last j h (yes q) =
-                  let z : group j ∖ chosen ∖ 2 ^ v ≡ suc n = rw (p, sym q) at e in
-                  rw (sym (∖-∖ (group j) chosen (2 ^ v)), z) (omega arith)
+                  let p : j ≡ count - 1 = omega arith in
+                  rw (sym (∖-∖ (group j) chosen (2 ^ v)), p) (omega arith)
               last j h (no q) = still j (omega arith)
-
-          by_count : Dec (count ≤ 0) → Open found r (chosen ∪ 2 ^ v) groups
-          by_count (yes h) =
-              let z : same ∖ 2 ^ v ≡ 0 = ap (λ (s : ℕ). s ∖ 2 ^ v) (empty (omega arith)) ∙ without_all (2 ^ v) in
-              record { within = omega (arith, none z); gone = λ j c k l i. passed j c (omega arith) l i; left = λ j l. absurd (omega (arith, none z)) }
-          by_count (no h) = let s : count ≡ count - 1 + 1 = omega arith in go (count - 1) s (here (count - 1) s) (same ∖ 2 ^ v) refl
 
   -- ---- from the near end: none of the groups before j is left
   module _ (left j : ℕ) (part : left ≼ cs) (passed : (i c : ℕ) → i < j → bit c (group i) ≡ 1 → bit c left ≡ 0) where
@@ -419,24 +377,14 @@ module _ {cs unused found : ℕ} {groups when ws : List ℕ} (g : Grouped cs unu
     pub chosen_left : excess ≤ size cs → 0 < size (cs ∖ chosen)
     chosen_left h = omega (arith, q.size_chosen, sizes_eq (cs ∷ []) (chosen ∷ cs ∖ chosen ∷ []) (λ c. omega (arith, q.part c, bit-∖ c cs chosen)))
 
-    pub chosen_next : (same v r : ℕ) → ((l : ℕ) → count ≡ l + 1 → same ≡ get_or groups l 0 ∖ chosen) → (count ≡ 0 → same ≡ 0) → bit v (cs ∖ chosen) ≡ 1
-        → ((d : ℕ) → bit d (cs ∖ chosen) ≡ 1 → GoesBefore ws v d) → (same ∖ 2 ^ v ≡ 0 → r ≡ count - 1) → (0 < same ∖ 2 ^ v → r ≡ count)
+    pub chosen_next : (v r : ℕ) → bit v (cs ∖ chosen) ≡ 1 → ((d : ℕ) → bit d (cs ∖ chosen) ≡ 1 → GoesBefore ws v d)
+        → (get_or groups (count - 1) 0 ∖ chosen ∖ 2 ^ v ≡ 0 → r ≡ count - 1) → (0 < get_or groups (count - 1) 0 ∖ chosen ∖ 2 ^ v → r ≡ count)
         → Chosen cs found r (chosen ∪ 2 ^ v) excess more groups ws
-    chosen_next same v r here empty i next none some_left =
+    chosen_next v r i next none some_left =
         let b = bit-∖ v cs chosen in
         record {
           part = λ c. omega (arith, bit-∪ c chosen (2 ^ v), q.part c, single-≼ v cs (omega arith) c);
           size_chosen = omega (arith, q.size_chosen, size_insert v chosen (λ e. omega arith));
           first = more_first cs chosen v ws next q.first;
-          opened = open_next g q.opened same v r here empty next none some_left;
+          opened = open_next g q.opened v r next none some_left;
         }
-
--- ---- the last of the groups that are left: `left` are the first of them
-module _ (groups left tail rest : List Group) (x : Group) (e : groups ≡ left ++ tail) (is : IsLastAndRest left x rest) where
-  pub last_passed : groups ≡ rest ++ (x ∷ tail)
-  last_passed = e ∙ ap (λ (gs : List Group). gs ++ tail) is.0 ∙ append_assoc rest (x ∷ []) tail
-
-  pub last_group : (f : Group → ℕ) (l : ℕ) → length left ≡ l + 1 → f x ≡ get_or (map f groups) l 0
-  last_group f l h =
-      let n : l ≡ length (map f rest) = omega (arith, length-map rest f, is.1) in
-      sym (rw (last_passed, map-append f rest (x ∷ tail), n) (get_or-append_seam (map f rest) (f x) (map f tail) 0))

@@ -1,8 +1,7 @@
 -- Words for the choice of the drops, which only contracts of private functions cite: the candidates in groups by their next use, and which of two goes first.
-use Rattle.std.specs.Prelude.{◌≡◌, true, false, List, map, ℕ, ◌≤◌, ◌<◌, length, get_or, Option, Some, None}
+use Rattle.std.specs.Prelude.{◌≡◌, true, false, List, ℕ, ◌≤◌, ◌<◌, get_or, Option, Some, None}
 use Rattle.bitset.specs.Set.{bit}
 use Rattle.drive.specs.declared.choice.Candidate.{Candidate}
-use Rattle.drive.specs.declared.choice.Group.{Group}
 use Rattle.drive.specs.Uses.{next_use, further}
 
 -- "Every candidate curve goes with its next use, which is a later step or never": of the candidates cs, where the later steps want ws, those in `unused` are
@@ -14,17 +13,6 @@ pub record Grouped (cs unused count : ℕ) (groups when ws : List ℕ) : Type 0 
   pub all : (c : ℕ) → bit c cs ≡ 1 → bit c unused ≡ 0 → (j : ℕ) × (j < count) × (bit c (get_or groups j 0) ≡ 1)
   pub rising : (i j : ℕ) → i < j → j < count → get_or when i 0 < get_or when j 0
   pub some : (j : ℕ) → j < count → 0 < get_or groups j 0
-
--- the curves of some groups, and their steps
-abbrev pub curves_of : List Group → List ℕ
-curves_of = map (λ g. g.curves)
-
-abbrev pub steps_of : List Group → List ℕ
-steps_of = map (λ g. g.step)
-
--- the candidates in a list of groups, each with its step
-abbrev pub InGroups : ℕ → ℕ → List Group → List ℕ → Type 0
-InGroups cs unused groups ws = Grouped cs unused (length groups) (curves_of groups) (steps_of groups) ws
 
 -- "each time the curve whose next use in a later step is furthest"; wish 2: "Of curves with equally distant next use the highest number is dropped": c goes
 -- before d. The next use of d is not further; and where d has the higher number, that of c is. (Of two different curves just one goes before the other; each

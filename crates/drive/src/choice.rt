@@ -1,11 +1,10 @@
 // Which curves a step drops.
-ghost use Rattle.std.specs.Prelude.{◌≡◌, List, ℕ, ◌+◌, ◌^◌, ◌≤◌, ◌<◌, length, Some, None};
-ghost use Rattle.std.specs.List.{IsLastAndRest};
+ghost use Rattle.std.specs.Prelude.{◌≡◌, List, ℕ, ◌+◌, ◌^◌, ◌≤◌, ◌<◌, Some, None};
 ghost use Rattle.bitset.specs.Set.{◌∖◌, size, bit};
 ghost use Rattle.drive.specs.Uses.{further};
 ghost use Rattle.drive.specs.Plan.{furthest, victims, drops_for};
 ghost use Rattle.drive.specs.Steps.{together};
-ghost use Rattle.drive.specs.ContractWords.{InGroups, UsedAt, GoesFirst};
+ghost use Rattle.drive.specs.ContractWords.{Grouped, UsedAt, GoesFirst};
 
 // "Every candidate curve goes with its next use, which is a later step or never": none is never, and step 0 is the one after the present step.
 #[derive(Clone, Copy)]
@@ -14,11 +13,14 @@ pub struct Candidate {
     pub next: Option<usize>,
 }
 
-// Candidates with the same next use, which is this step.
-#[derive(Clone, Copy)]
-pub struct Group {
-    pub curves: u64,
-    pub step: usize,
+// Candidates in so many groups by their next use, the soonest first: what is in each, and the step that uses it.
+// Kept: two lists, and not one of pairs: tried, a plan took 4% longer.
+#[derive(Drop)]
+pub struct Groups {
+    curves: [u64; 64],
+    steps: [usize; 64],
+    count: usize,
+    ghost few: { count ≤ 64 },
 }
 
 // Whether the next use of `a` is further than that of `b`: "never is furthest".
@@ -71,33 +73,6 @@ fn together(wants: &[u64]) -> u64
     wants.iter().fold(0, |all, want| bitset::union(all, *want))
 }
 
-// The groups of the candidates, the soonest first, by one walk over the later steps. `used` is what these want together: the walk ends where each candidate that
-// is used again is found.
-fn find_groups<'a>(
-    candidates: u64,
-    used: u64,
-    later: &[u64],
-    room: &'a mut [Group; 64],
-) -> &'a [Group]
-    requires { used ≡ together later.now }
-    ensures { InGroups candidates (candidates ∖ used) result.now later.now }
-{
-    let mut left = bitset::common(candidates, used);
-    let mut count: usize = 0;
-    for (step, want) in later.iter().enumerate() {
-        if left == 0 {
-            break;
-        }
-        let curves = bitset::common(left, *want);
-        room[count] = Group { curves, step };
-        if curves != 0 {
-            count += 1;
-        }
-        left = bitset::without(left, curves);
-    }
-    &room[..count]
-}
-
 // ---- the choice
 
 // The candidate "whose next use in a later step is furthest": the first of those never used against the first of a group, whose next use is `step`.
@@ -122,67 +97,89 @@ fn furthest(never: u64, group: u64, step: usize) -> Candidate
     sooner
 }
 
-// The last of some groups, which has no curves where there is none, and those before it.
-fn far_end(groups: &[Group]) -> (Group, &[Group])
-    ensures last { 0 < length groups.now → IsLastAndRest groups.now result.0 result.1.now }
-    ensures none { length groups.now ≡ 0 → (result.0.curves ≡ 0) × (result.1.now ≡ groups.now) }
-{
-    match groups.split_last() {
-        Some((last, nearer)) => (*last, nearer),
-        None => (Group { curves: 0, step: 0 }, groups),
-    }
-}
-
-// So many of the candidates, "one by one: each time the curve whose next use in a later step is furthest".
-fn drop_from_far(excess: usize, unused: u64, groups: &[Group]) -> u64
-    ensures { (cs : ℕ) (ws : List ℕ) → InGroups cs unused groups.now ws → cs < 2 ^ 64 → excess ≤ size cs
-        → result ≡ victims (furthest 64) excess cs ws }
-{
-    let mut chosen: u64 = 0;
-    let mut left = groups;
-    for _ in 0..excess {
-        let (last, nearer) = far_end(left);
-        let group = bitset::without(last.curves, chosen);
-        let best = furthest(bitset::without(unused, chosen), group, last.step);
-        let victim = bitset::single(best.curve);
-        chosen = bitset::union(chosen, victim);
-        if bitset::without(group, victim) == 0 {
-            left = nearer;
+impl Groups {
+    // No groups.
+    pub fn new() -> Groups {
+        Groups {
+            curves: [0; 64],
+            steps: [0; 64],
+            count: 0,
         }
     }
-    chosen
-}
 
-// The same drops, found by those that stay: whole groups from the near end, and of the last one those that go last.
-fn keep_from_near(excess: usize, candidates: u64, groups: &[Group]) -> u64
-    requires { excess < size candidates }
-    ensures { (unused : ℕ) (ws : List ℕ) → InGroups candidates unused groups.now ws → result ≡ victims (furthest 64) excess candidates ws }
-{
-    let mut left = candidates;
-    for group in groups {
-        let behind = bitset::without(left, group.curves);
-        let n = bitset::size(behind);
-        if n <= excess {
-            return bitset::without(
-                left,
-                left_after(bitset::common(left, group.curves), excess - n),
-            );
+    // The next use of every candidate, by one walk over the later steps. `used` is what these want together: the walk ends where each candidate that is used
+    // again is found.
+    fn find(&mut self, candidates: u64, used: u64, later: &[u64])
+        requires { used ≡ together later.now }
+        ensures { Grouped candidates (candidates ∖ used) self.new.count self.new.curves self.new.steps later.now }
+    {
+        let mut left = bitset::common(candidates, used);
+        let mut count: usize = 0;
+        let mut step: usize = 0;
+        // Kept: a `while`: a `for` over the later steps tests for their end too: tried, a plan took 10 to 26% longer.
+        while left != 0 {
+            let group = bitset::common(left, later[step]);
+            self.curves[count] = group;
+            self.steps[count] = step;
+            if group != 0 {
+                count += 1;
+            }
+            left = bitset::without(left, group);
+            step += 1;
         }
-        left = behind;
+        self.count = count;
     }
-    bitset::without(left, left_after(left, excess))
+
+    // So many of the candidates, "one by one: each time the curve whose next use in a later step is furthest". Where no group is left, those never used are
+    // further than whatever stands in entry 0.
+    fn drop_from_far(&self, excess: usize, unused: u64) -> u64
+        ensures { (cs : ℕ) (ws : List ℕ) → Grouped cs unused self.now.count self.now.curves self.now.steps ws → cs < 2 ^ 64 → excess ≤ size cs
+            → result ≡ victims (furthest 64) excess cs ws }
+    {
+        let mut chosen: u64 = 0;
+        let mut count = self.count;
+        for _ in 0..excess {
+            let last = count.saturating_sub(1);
+            let group = bitset::without(self.curves[last], chosen);
+            let best = furthest(bitset::without(unused, chosen), group, self.steps[last]);
+            let victim = bitset::single(best.curve);
+            chosen = bitset::union(chosen, victim);
+            if bitset::without(group, victim) == 0 {
+                count = last;
+            }
+        }
+        chosen
+    }
+
+    // The same drops, found by those that stay: whole groups from the near end, and of the last one those that go last.
+    fn keep_from_near(&self, excess: usize, candidates: u64) -> u64
+        requires { excess < size candidates }
+        ensures { (unused : ℕ) (ws : List ℕ) → Grouped candidates unused self.now.count self.now.curves self.now.steps ws
+            → result ≡ victims (furthest 64) excess candidates ws }
+    {
+        let mut left = candidates;
+        for group in &self.curves[..self.count] {
+            let behind = bitset::without(left, *group);
+            let n = bitset::size(behind);
+            if n <= excess {
+                return bitset::without(left, left_after(bitset::common(left, *group), excess - n));
+            }
+            left = behind;
+        }
+        bitset::without(left, left_after(left, excess))
+    }
 }
 
 // "If held and wanted curves together exceed the places, drop exactly the excess, from held curves that the test doesn't want"; where there are not more of
 // these, as where the test alone exceeds the places, all of them. The drops are chosen one by one, or those that stay are counted off, where these or the groups
-// are fewer. `used` is what the later steps want together, where that is known; in `room` the candidates are noted.
+// are fewer. `used` is what the later steps want together, where that is known; in `groups` the candidates are noted.
 pub(crate) fn drops_with(
     capacity: usize,
     held: u64,
     want: u64,
     used: Option<u64>,
     later: &[u64],
-    room: &mut [Group; 64],
+    groups: &mut Groups,
 ) -> u64
     requires { (u : ℕ) → used ≡ Some u → u ≡ together later.now }
     ensures { result ≡ drops_for (furthest 64) capacity held want later.now }
@@ -198,9 +195,9 @@ pub(crate) fn drops_with(
         return candidates;
     }
     let used = used.unwrap_or_else(|| together(later));
-    let groups = find_groups(candidates, used, later, room);
-    if size - excess < excess || groups.len() < excess {
-        return keep_from_near(excess, candidates, groups);
+    groups.find(candidates, used, later);
+    if size - excess < excess || groups.count < excess {
+        return groups.keep_from_near(excess, candidates);
     }
-    drop_from_far(excess, bitset::without(candidates, used), groups)
+    groups.drop_from_far(excess, bitset::without(candidates, used))
 }

@@ -9,7 +9,7 @@ ghost use Rattle.drive.specs.Steps.{together};
 
 pub mod choice;
 
-use choice::Group;
+use choice::Groups;
 
 // What a step drops and loads.
 #[derive(Clone, Copy)]
@@ -28,20 +28,20 @@ pub fn moved(held: u64, sets: Sets) -> u64
 // ---- our plan
 
 // The next step of our plan, with `held` in the drive, for a test that wants `want` and later ones that want `later`: "Load what is wanted and not held." `used`
-// is what the later ones want together, where that is known. In `room` the candidates are noted.
+// is what the later ones want together, where that is known. In `groups` the candidates are noted.
 fn step_with(
     capacity: usize,
     held: u64,
     want: u64,
     used: Option<u64>,
     later: &[u64],
-    room: &mut [Group; 64],
+    groups: &mut Groups,
 ) -> Sets
     requires { (u : ℕ) → used ≡ Some u → u ≡ together later.now }
     ensures { result ≡ next (furthest 64) capacity held want later.now }
 {
     Sets {
-        drops: choice::drops_with(capacity, held, want, used, later, room),
+        drops: choice::drops_with(capacity, held, want, used, later, groups),
         loads: bitset::without(want, held),
     }
 }
@@ -50,8 +50,8 @@ fn step_with(
 pub fn step(capacity: usize, held: u64, want: u64, later: &[u64]) -> Sets
     ensures { result ≡ next (furthest 64) capacity held want later.now }
 {
-    let mut room = [Group { curves: 0, step: 0 }; 64];
-    step_with(capacity, held, want, None, later, &mut room)
+    let mut groups = Groups::new();
+    step_with(capacity, held, want, None, later, &mut groups)
 }
 
 // Writes for each step what the steps after it want together, as far as the list has entries.
@@ -80,11 +80,11 @@ pub fn plan_steps(
     ensures loaded { loads.new ≡ sets loads.old 0 (loads_of (plan_from (furthest 64) capacity start wants.now)) }
 {
     write_later(wants, loads);
-    let mut room = [Group { curves: 0, step: 0 }; 64];
+    let mut groups = Groups::new();
     let mut held = start;
     for (i, want) in wants.iter().enumerate() {
         let used = loads.get(i).copied();
-        let sets = step_with(capacity, held, *want, used, &wants[i + 1..], &mut room);
+        let sets = step_with(capacity, held, *want, used, &wants[i + 1..], &mut groups);
         lists::put(drops, i, sets.drops);
         lists::put(loads, i, sets.loads);
         held = moved(held, sets);

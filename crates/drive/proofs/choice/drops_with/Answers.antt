@@ -32,21 +32,21 @@ returns-then-size-excess c =
     (sym (all_victims 64 _ c.without-candidates.result _ (omega (arith, c.size-size.ensures, c.if-size-excess.true))
     (in_range 64 c.without-candidates.result (omega (arith, c.without-candidates.type_inv)))))
 
-pub find_groups-groups-requires : goal.find_groups-groups-requires
-find_groups-groups-requires c = search rules
+pub find-requires : goal.find-requires
+find-requires c = search rules
 
 pub keep_from_near-requires : goal.keep_from_near-requires
 keep_from_near-requires c = omega (arith, c.if-size-excess.false, c.size-size.ensures)
 
 pub returns-then-size-excess-2 : goal.returns-then-size-excess-2
 returns-then-size-excess-2 c =
-    by_rule (goal.at.returns-then-size-excess-2 c).After-without-candidates _ (c.keep_from_near.ensures _ _ c.find_groups-groups.ensures)
+    by_rule (goal.at.returns-then-size-excess-2 c).After-without-candidates _ (c.keep_from_near.ensures _ _ c.find.ensures)
 
 pub returns : goal.returns
 returns c =
     let unused : c.without.result ≡ c.without-candidates.result ∖ c.unwrap_or_else-used.result =
     c.without.ensures in
-    let g = rw (sym unused) at c.find_groups-groups.ensures in
+    let g = rw (sym unused) at c.find.ensures in
     by_rule (goal.at.returns c).After-without-candidates _
     (c.drop_from_far.ensures c.without-candidates.result _ g (omega (arith, c.without-candidates.type_inv))
     (omega (arith, c.if-size-excess.false, c.size-size.ensures)))
