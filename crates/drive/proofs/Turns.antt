@@ -148,7 +148,8 @@ together_fold : (u : ℕ) (ws : List ℕ) → fold (λ (a w : ℕ). a ∪ w) u w
 unfolding together
 together_fold u [] = sym (same_by_bits _ _ (λ c. omega (arith, bit-∪ c u 0, bit_empty c)))
 together_fold u (w ∷ ws) =
-    together_fold (u ∪ w) ws ∙ same_by_bits _ _ (λ c. omega (arith, bit-∪ c (u ∪ w) (together ws), bit-∪ c u w, bit-∪ c u (w ∪ together ws), bit-∪ c w (together ws)))
+    together_fold (u ∪ w) ws
+    ∙ same_by_bits _ _ (λ c. omega (arith, bit-∪ c (u ∪ w) (together ws), bit-∪ c u w, bit-∪ c u (w ∪ together ws), bit-∪ c w (together ws)))
 
 pub together_folded : (ws : List ℕ) → fold (λ (a w : ℕ). a ∪ w) 0 ws ≡ together ws
 together_folded ws = together_fold 0 ws ∙ same_by_bits _ _ (λ c. omega (arith, bit-∪ c 0 (together ws), bit_empty c))

@@ -16,7 +16,7 @@ pub struct Candidate {
 // Candidates in so many groups by their next use, the soonest first: what is in each, and the step that uses it.
 // Kept: two lists, and not one of pairs: tried, a plan took 4% longer.
 #[derive(Drop)]
-pub struct Groups {
+pub(crate) struct Groups {
     curves: [u64; 64],
     steps: [usize; 64],
     count: usize,
@@ -99,7 +99,7 @@ fn furthest(never: u64, group: u64, step: usize) -> Candidate
 
 impl Groups {
     // No groups.
-    pub fn new() -> Groups {
+    pub(crate) fn new() -> Groups {
         Groups {
             curves: [0; 64],
             steps: [0; 64],

@@ -27,8 +27,8 @@ pub fn moved(held: u64, sets: Sets) -> u64
 
 // ---- our plan
 
-// The next step of our plan, with `held` in the drive, for a test that wants `want` and later ones that want `later`: "Load what is wanted and not held." `used`
-// is what the later ones want together, where that is known. In `groups` the candidates are noted.
+// The next step of our plan, with `held` in the drive, for a test that wants `want` and later ones that want `later`: "Load what is wanted and not held."
+// `used` is what the later ones want together, where that is known. In `groups` the candidates are noted.
 fn step_with(
     capacity: usize,
     held: u64,

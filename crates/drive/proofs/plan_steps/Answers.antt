@@ -36,9 +36,10 @@ loop-i-preserved c =
     let a = c.args in
     let w = a.wants.now in
     let t = c.step_with-sets in
+    let e = rw (part_to_end w (q.i + 1)) at t.ensures in
     record {
       ahead = rw c.put-in-loop-i.ensures (ahead_too w q.loads q.i t.result.loads q.invariant.ahead);
-      goes = rw (c.put.ensures, c.put-in-loop-i.ensures, c.moved-held.ensures) (goes_on _ _ _ _ _ _ q.invariant.goes c.loop-i-test.true (rw (part_to_end w (q.i + 1)) at t.ensures));
+      goes = rw (c.put.ensures, c.put-in-loop-i.ensures, c.moved-held.ensures) (goes_on _ _ _ _ _ _ q.invariant.goes c.loop-i-test.true e);
     }
 
 pub shape_of-drops : goal.shape_of-drops

@@ -3,7 +3,7 @@ use mathlib.Core.Path.{◌≡◌, refl, sym, ap, ◌∙◌}
 use native.Mathlib.Omega.{arith}
 use borrow.Author.Rules.{rules}
 use lib.ListN.{length, length-set}
-use Rattle.bitset.specs.Set.{◌∩◌, ◌∖◌, size}
+use Rattle.bitset.specs.Set.{◌∩◌, ◌∖◌, size, bit}
 use Rattle.bitset.proofs.Bits.{bit-∩, bit-∖}
 use Rattle.bitset.proofs.Laws.{∩-lt, size_le, size_none}
 use Rattle.bitset.proofs.Element.{some}
@@ -23,7 +23,8 @@ within : (c : In-loop-left) → c.loop-left.step < length c.args.later.now
 within c =
     let q = c.loop-left in
     let x = some q.left (omega (arith, c.loop-left-test.true)) in
-    used_ends x.0 c.args.used q.step _ c.requires (omega (arith, x.1, q.invariant.part x.0, bit-∩ x.0 c.args.candidates c.args.used)) (q.invariant.ahead x.0 x.1)
+    let mine : bit x.0 c.args.used ≡ 1 = omega (arith, x.1, q.invariant.part x.0, bit-∩ x.0 c.args.candidates c.args.used) in
+    used_ends x.0 c.args.used q.step _ c.requires mine (q.invariant.ahead x.0 x.1)
 
 room : (c : In-loop-left) → c.loop-left.count < 64
 room c = omega (arith, c.loop-left.invariant.room, some_size c.loop-left.left c.loop-left-test.true)
