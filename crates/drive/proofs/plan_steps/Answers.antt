@@ -42,12 +42,6 @@ loop-i-preserved c =
       goes = rw (c.put.ensures, c.put-in-loop-i.ensures, c.moved-held.ensures) (goes_on _ _ _ _ _ _ q.invariant.goes c.loop-i-test.true e);
     }
 
-pub shape_of-drops : goal.shape_of-drops
-shape_of-drops c = c.loop-i.invariant.goes.long_drops
-
-pub shape_of-loads : goal.shape_of-loads
-shape_of-loads c = c.loop-i.invariant.goes.long_loads ∙ c.write_later.auto.list
-
 pub returns : goal.returns
 returns c =
     let a = c.args in

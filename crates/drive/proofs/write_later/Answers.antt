@@ -42,6 +42,3 @@ loop-i-preserved c =
       written = written_too w q.list a.list.now q.i q.all p q.auto.i q.auto.list i.is i.written;
       kept = kept_too w q.list a.list.now q.i q.all p q.auto.i q.auto.list i.is i.kept;
     }
-
-pub returns : goal.returns
-returns c = let i = c.loop-i.invariant in record { by_index = λ j. i.written j (omega (arith, c.loop-i-test.false)); by_index_2 = i.kept }

@@ -22,6 +22,3 @@ loop-p-preserved c =
       | then-most-p w ↦ rw w.counts-is (entered_count q.invariant c.loop-p-test.true few c.told-loads (le-leb c.args.most q.p w.if-most-p.true))
       | else-most-p w ↦ rw w.counts-is (entered_mark q.invariant c.loop-p-test.true few c.told-loads (lt-leb c.args.most q.p w.if-most-p.false))
     ]
-
-pub returns : goal.returns
-returns c p o m = c.loop-p.invariant.made p (omega (arith, c.loop-p-test.false)) m

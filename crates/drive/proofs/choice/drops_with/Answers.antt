@@ -35,9 +35,6 @@ returns-then-size-excess c =
 pub find-requires : goal.find-requires
 find-requires c = search rules
 
-pub keep_from_near-requires : goal.keep_from_near-requires
-keep_from_near-requires c = omega (arith, c.if-size-excess.false, c.size-size.ensures)
-
 pub returns-then-size-excess-2 : goal.returns-then-size-excess-2
 returns-then-size-excess-2 c =
     by_rule (goal.at.returns-then-size-excess-2 c).After-without-candidates _ (c.keep_from_near.ensures _ _ c.find.ensures)

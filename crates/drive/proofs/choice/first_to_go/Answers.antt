@@ -5,11 +5,8 @@ use borrow.Author.Rules.{rules}
 use lib.Count.{count_trailing_zeros}
 use Rattle.bitset.specs.Set.{bit}
 use Rattle.bitset.proofs.Element.{∈-pos}
-use Rattle.drive.proofs.Walk.{walk_start, walk_on, walk_size, walk_end}
+use Rattle.drive.proofs.Walk.{walk_on, walk_size, walk_end}
 use Rattle.drive.proofs.choice.first_to_go.Goals as goal
-
-pub loop-higher-init : goal.loop-higher-init
-loop-higher-init c = record { walked = walk_start _; next = c.without_lowest-higher.ensures; some = λ p. p; range = search rules }
 
 pub loop-higher-smaller : goal.loop-higher-smaller
 loop-higher-smaller c =

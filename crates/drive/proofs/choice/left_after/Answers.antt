@@ -1,15 +1,11 @@
 use Prim.Native.Nat.{◌<◌}
 use mathlib.Core.List.{[], ◌∷◌}
 use native.Mathlib.Omega.{arith}
-use borrow.Author.Rules.{rules}
 use Rattle.bitset.specs.Set.{◌∖◌, size}
 use Rattle.bitset.proofs.Bits.{bit-∖, sizes_eq}
 use Rattle.bitset.proofs.Parts.{positive}
-use Rattle.drive.proofs.Walk.{walk_start, walk_on, walk_size}
+use Rattle.drive.proofs.Walk.{walk_on, walk_size}
 use Rattle.drive.proofs.choice.left_after.Goals as goal
-
-pub loop-init : goal.loop-init
-loop-init c = record { walked = walk_start _; passed = omega arith; range = search rules }
 
 pub loop-preserved : goal.loop-preserved
 loop-preserved c =

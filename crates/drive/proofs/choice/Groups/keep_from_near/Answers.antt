@@ -10,7 +10,6 @@ use Rattle.bitset.specs.Set.{◌∩◌, ◌∖◌, size, bit}
 use Rattle.bitset.proofs.Bits.{bit-∩, bit-∖}
 use Rattle.bitset.proofs.Laws.{size_split}
 use Rattle.bitset.proofs.Parts.{◌≼◌, without-≼}
-use Rattle.drive.proofs.Staying.{all_first}
 use Rattle.drive.proofs.Groups.{group_stays, never_stays, next_first, stay_victims}
 use Rattle.drive.proofs.choice.Groups.keep_from_near.Goals.{After-without-behind, After-common}
 use Rattle.drive.proofs.choice.Groups.keep_from_near.Goals as goal
@@ -31,9 +30,6 @@ behind c =
     let g = c.args.self.now in
     let n = counted g.curves g.count q.group-index (search rules) g.few in
     (omega (arith, n.0, c.loop-group-test.true), c.without-behind.ensures ∙ ap (λ (x : ℕ). q.left ∖ x) (n.1 c.loop-group-test.true))
-
-pub loop-group-init : goal.loop-group-init
-loop-group-init c = record { more = c.requires; part = λ x. omega arith; passed = λ i x h. absurd (omega arith); first = λ u ws g. all_first _ ws }
 
 here : (c : After-common)
     → let q = c.loop-group in
@@ -92,9 +88,6 @@ loop-group-preserved c =
       passed = passed_too a.self.now.curves q.left j i.passed;
       first = λ u ws g. next_first g q.left j i.part i.passed e.0 (i.first u ws g);
     }
-
-pub left_after-requires-2 : goal.left_after-requires-2
-left_after-requires-2 c = omega (arith, c.loop-group.invariant.more)
 
 pub returns : goal.returns
 returns c =
