@@ -64,7 +64,8 @@ grouped_start cs used groups when ws e =
 -- the candidates `hit`, whose next use is step k, are the next group, where there are any
 module _ {cs unused m : ℕ} {groups when ws : List ℕ} (g : Grouped cs unused m groups when ws) (hit k n : ℕ) (room : m < 64) (sets : 64 ≤ length groups)
     (steps : 64 ≤ length when)
-    (next : (c : ℕ) → bit c hit ≡ 1 → next_use c ws ≡ Some k) (soon : (j : ℕ) → j < m → get_or when j 0 < k) (none : hit ≡ 0 → n ≡ m) (more : 0 < hit → n ≡ m + 1)
+    (next : (c : ℕ) → bit c hit ≡ 1 → next_use c ws ≡ Some k) (soon : (j : ℕ) → j < m → get_or when j 0 < k) (none : hit ≡ 0 → n ≡ m)
+    (more : 0 < hit → n ≡ m + 1)
   where
     slot : (j : ℕ) → j < n → (j < m) ⊎ ((j ≡ m) × (0 < hit))
     slot j h = go hit refl (dec_le m j)
@@ -363,8 +364,8 @@ pub record Chosen (cs found count chosen excess more : ℕ) (groups ws : List �
   pub opened : Open found count chosen groups
 
 module _ {cs unused found : ℕ} {groups when ws : List ℕ} (g : Grouped cs unused found groups when ws) where
-  pub chosen_start : (excess : ℕ) → Chosen cs found found 0 excess excess groups ws
-  chosen_start excess =
+  pub chosen_start : (excess more : ℕ) → more ≡ excess → Chosen cs found found 0 excess more groups ws
+  chosen_start excess more all =
       record {
         part = empty-≼ cs;
         size_chosen = omega (arith, size_empty);

@@ -9,8 +9,10 @@ use native.Mathlib.Numerals.{add-one}
 use native.Mathlib.Nat.{add-zero}
 use lib.ListN.{length, get_or, drop, set, length-set, drop_of_length-le, get_or-eq_default}
 use lib.Seq.{drop-cons, drop-drop, get_or-drop, get_or-set_same, get_or-set_other, ext_get_or, sets}
+use Rattle.std.specs.List.{fold}
 use Rattle.std.specs.Prelude.{Option, Some, None, Ok, Err}
 use Rattle.bitset.specs.Set.{◌∪◌, size, bit}
+use Rattle.bitset.proofs.Bits.{bit-∪, bit_empty, same_by_bits}
 use Rattle.lists.specs.Choice.{Found}
 use Rattle.lists.proofs.Overwritten.{sets_cons}
 use Rattle.drive.specs.declared.Sets.{Sets}
@@ -141,6 +143,16 @@ use_never c s ws h = rw (drop_of_length-le ws h) refl
 pub together_end : (ws : List ℕ) (i : ℕ) → length ws ≤ i → together (drop i ws) ≡ 0
 unfolding together
 together_end ws i h = rw (drop_of_length-le ws h) refl
+
+together_fold : (u : ℕ) (ws : List ℕ) → fold (λ (a w : ℕ). a ∪ w) u ws ≡ u ∪ together ws
+unfolding together
+together_fold u [] = sym (same_by_bits _ _ (λ c. omega (arith, bit-∪ c u 0, bit_empty c)))
+together_fold u (w ∷ ws) =
+    together_fold (u ∪ w) ws
+    ∙ same_by_bits _ _ (λ c. omega (arith, bit-∪ c (u ∪ w) (together ws), bit-∪ c u w, bit-∪ c u (w ∪ together ws), bit-∪ c w (together ws)))
+
+pub together_folded : (ws : List ℕ) → fold (λ (a w : ℕ). a ∪ w) 0 ws ≡ together ws
+together_folded ws = together_fold 0 ws ∙ same_by_bits _ _ (λ c. omega (arith, bit-∪ c 0 (together ws), bit_empty c))
 
 pub together_back : (ws : List ℕ) (i u : ℕ) → 0 < i → i ≤ length ws → u ≡ together (drop i ws) → get_or ws (i - 1) 0 ∪ u ≡ together (drop (i - 1) ws)
 unfolding together

@@ -1,6 +1,6 @@
 #![tactic(auto)]
 // One drive: what a step drops and loads, all steps, and the check of steps. It knows no jobs, refusals and bytes.
-ghost use Rattle.std.specs.Prelude.{◌≡◌, ℕ, ◌+◌, ◌≤◌, ◌<◌, length, get_or, drop};
+ghost use Rattle.std.specs.Prelude.{◌≡◌, ℕ, ◌+◌, ◌≤◌, ◌<◌, length, get_or, drop, Some};
 ghost use Rattle.std.proofs.lemmas.List.Edits.{sets};
 ghost use Rattle.drive.specs.Steps.{moved, held_after, drops_of, loads_of, moves};
 ghost use Rattle.drive.specs.Check.{keeps, check_from};
@@ -8,6 +8,8 @@ ghost use Rattle.drive.specs.Plan.{furthest, next, plan_from};
 ghost use Rattle.drive.specs.Steps.{together};
 
 pub mod choice;
+
+use choice::Groups;
 
 // What a step drops and loads.
 #[derive(Clone, Copy)]
@@ -25,23 +27,21 @@ pub fn moved(held: u64, sets: Sets) -> u64
 
 // ---- our plan
 
-// The next step of our plan, with `held` in the drive, for a test that wants `want` and later ones that want `later`: "Load what is wanted and not held." What
-// the later ones want together stands in entry i of the list, where it has one. In `groups` and `when` the candidates are noted.
+// The next step of our plan, with `held` in the drive, for a test that wants `want` and later ones that want `later`: "Load what is wanted and not held."
+// `used` is what the later ones want together, where that is known. In `groups` the candidates are noted.
 fn step_with(
     capacity: usize,
     held: u64,
     want: u64,
-    list: &[u64],
-    i: usize,
+    used: Option<u64>,
     later: &[u64],
-    groups: &mut [u64],
-    when: &mut [usize],
+    groups: &mut Groups,
 ) -> Sets
-    requires { (i < length list.now → get_or list.now i 0 ≡ together later.now) × ((64 ≤ length groups.old) × (64 ≤ length when.old)) }
+    requires { (u : ℕ) → used ≡ Some u → u ≡ together later.now }
     ensures { result ≡ next (furthest 64) capacity held want later.now }
 {
     Sets {
-        drops: choice::drops_with(capacity, held, want, list, i, later, groups, when),
+        drops: choice::drops_with(capacity, held, want, used, later, groups),
         loads: bitset::without(want, held),
     }
 }
@@ -50,18 +50,8 @@ fn step_with(
 pub fn step(capacity: usize, held: u64, want: u64, later: &[u64]) -> Sets
     ensures { result ≡ next (furthest 64) capacity held want later.now }
 {
-    let mut groups = [0u64; 64];
-    let mut when = [0usize; 64];
-    step_with(
-        capacity,
-        held,
-        want,
-        &later[..0],
-        0,
-        later,
-        &mut groups,
-        &mut when,
-    )
+    let mut groups = Groups::new();
+    step_with(capacity, held, want, None, later, &mut groups)
 }
 
 // Writes for each step what the steps after it want together, as far as the list has entries.
@@ -70,21 +60,10 @@ pub fn write_later(wants: &[u64], list: &mut [u64])
     ensures by_index_2 { (i : ℕ) → length wants.now ≤ i → get_or list.new i 0 ≡ get_or list.old i 0 }
 {
     let mut all: u64 = 0;
-    let mut i = wants.len();
-    while 0 < i {
-        i -= 1;
+    for i in (0..wants.len()).rev() {
         lists::put(list, i, all);
         all = bitset::union(wants[i], all);
     }
-}
-
-// The wants of the steps after step i.
-fn later(wants: &[u64], i: usize) -> &[u64]
-    requires { i < length wants.now }
-    ensures { result.now ≡ drop (i + 1) wants.now }
-{
-    let next = i + 1;
-    &wants[next..]
 }
 
 // All steps of our plan, with `start` held before the first: what is held at the end. Their drops and loads go into the first entries of the lists lent, as far
@@ -101,26 +80,14 @@ pub fn plan_steps(
     ensures loaded { loads.new ≡ sets loads.old 0 (loads_of (plan_from (furthest 64) capacity start wants.now)) }
 {
     write_later(wants, loads);
-    let mut groups = [0u64; 64];
-    let mut when = [0usize; 64];
+    let mut groups = Groups::new();
     let mut held = start;
-    let mut i: usize = 0;
-    while i < wants.len() {
-        let behind = later(wants, i);
-        let sets = step_with(
-            capacity,
-            held,
-            wants[i],
-            loads,
-            i,
-            behind,
-            &mut groups,
-            &mut when,
-        );
+    for (i, want) in wants.iter().enumerate() {
+        let used = loads.get(i).copied();
+        let sets = step_with(capacity, held, *want, used, &wants[i + 1..], &mut groups);
         lists::put(drops, i, sets.drops);
         lists::put(loads, i, sets.loads);
         held = moved(held, sets);
-        i += 1;
     }
     held
 }
@@ -154,17 +121,15 @@ pub fn check_steps(
     ensures { result ≡ check_from capacity all 0 start (moves wants.now drops.now loads.now) }
 {
     let mut held = start;
-    let mut i: usize = 0;
-    while i < wants.len() {
+    for (i, want) in wants.iter().enumerate() {
         let sets = Sets {
             drops: lists::entry(drops, i),
             loads: lists::entry(loads, i),
         };
-        if !keeps(capacity, all, held, wants[i], sets) {
+        if !keeps(capacity, all, held, *want, sets) {
             return Err(i);
         }
         held = moved(held, sets);
-        i += 1;
     }
     Ok(held)
 }

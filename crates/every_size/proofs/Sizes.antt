@@ -1,48 +1,48 @@
 -- The entries of all drive sizes, as loops make them and look for one.
 use mathlib.Core.Path.{◌≡◌, refl, sym, ap, ◌∙◌}
-use mathlib.Core.Bool.{true, false}
-use mathlib.Core.List.{List}
+use mathlib.Core.Bool.{Bool, true, false}
+use mathlib.Core.List.{List, [], ◌∷◌}
 use Prim.Native.Nat.{ℕ, suc, ◌+◌, ◌-◌, ◌≤◌, ◌<◌, min, max}
 use native.Mathlib.Omega.{arith}
 use native.Mathlib.Decide.{ℕ_discrete, dec_le}
 use native.Mathlib.Numerals.{add-one}
 use lib.Dec.{leb}
 use lib.ListN.{length, get_or, take, drop, set, length-set, replicate, get_or-replicate, drop_of_length-le}
-use lib.Seq.{take_all, take-length, drop-cons, get_or-set_same, get_or-set_other, ext_get_or}
+use lib.Seq.{take_all, take-length, get_or-set_same, get_or-set_other, ext_get_or}
+use Rattle.std.specs.List.{fold, position_from}
+use Rattle.std.specs.Option.{option_map}
 use Rattle.bitset.specs.Set.{size}
-use Rattle.lists.specs.Choice.{nobody, found, keep}
-use Rattle.every_size.specs.Sizes.{largest, mark, or_mark, count_for, all_sizes, serves, fewest_from}
+use Rattle.lists.specs.Choice.{keep}
+use Rattle.every_size.specs.Sizes.{largest, mark, or_mark, count_for, all_sizes, serves, fewest_from, size_found}
 use Rattle.every_size.specs.ContractWords.{sum}
 use Rattle.every_size.proofs.LoadCounts.{length_sizes, size_at}
 use Rattle.every_size.proofs.Loads.{sum_from}
 
 -- ---- the largest test
 
-pub largest_end : (ws : List ℕ) (i : ℕ) → length ws ≤ i → largest (drop i ws) ≡ 0
+-- from a number on
+largest_from : (n : ℕ) (ws : List ℕ) → fold (λ m w. max m (size w)) n ws ≡ max n (largest ws)
 unfolding largest
-largest_end ws i h = rw (drop_of_length-le ws h) refl
+largest_from n [] = omega arith
+largest_from n (w ∷ ws) = largest_from (max n (size w)) ws ∙ omega arith
 
-pub largest_back : (ws : List ℕ) (i : ℕ) → 0 < i → i ≤ length ws → largest (drop (i - 1) ws) ≡ max (size (get_or ws (i - 1) 0)) (largest (drop i ws))
-unfolding largest
-largest_back ws i p h =
-    let s : i ≡ suc (i - 1) = omega arith in
-    ap largest (drop-cons ws (i - 1) 0 (omega arith)) ∙ ap (λ (n : ℕ). max (size (get_or ws (i - 1) 0)) (largest (drop n ws))) (sym s)
+pub largest_fold : (ws : List ℕ) → fold (λ m w. max m (size w)) 0 ws ≡ largest ws
+largest_fold ws = largest_from 0 ws ∙ omega arith
 
 -- ---- the first size that serves
 
-module _ (loads : ℕ) (entries : List ℕ) (i : ℕ) where
-  pub fewest_here : i < length entries → serves loads (get_or entries i 0) ≡ true → fewest_from loads (i + 1) (drop i entries) ≡ found (i + 1)
-  unfolding fewest_from keep
-  fewest_here h e = rw (drop-cons entries i 0 h, e) refl
-
-  pub fewest_later : i < length entries → serves loads (get_or entries i 0) ≡ false
-      → fewest_from loads (i + 1) (drop i entries) ≡ fewest_from loads (i + 1 + 1) (drop (i + 1) entries)
-  unfolding fewest_from keep
-  fewest_later h e = rw (drop-cons entries i 0 h, e) (rw (add-one (i + 1), add-one i) refl)
-
-  pub fewest_none : length entries ≤ i → fewest_from loads (i + 1) (drop i entries) ≡ nobody
-  unfolding fewest_from
-  fewest_none h = rw (drop_of_length-le entries h) refl
+-- where the first entries are those of i sizes
+pub fewest_position : (loads i : ℕ) (entries : List ℕ)
+    → size_found (option_map (λ (k : ℕ). k + 1) (position_from (serves loads) i entries)) ≡ fewest_from loads (i + 1) entries
+unfolding size_found fewest_from keep
+fewest_position loads i [] = refl
+fewest_position loads i (entry ∷ entries) = go (serves loads entry) refl (fewest_position loads (i + 1) entries)
+  where
+    go : (b : Bool) → serves loads entry ≡ b
+        → size_found (option_map (λ (k : ℕ). k + 1) (position_from (serves loads) (i + 1) entries)) ≡ fewest_from loads (i + 1 + 1) entries
+        → size_found (option_map (λ (k : ℕ). k + 1) (position_from (serves loads) i (entry ∷ entries))) ≡ fewest_from loads (i + 1) (entry ∷ entries)
+    go true e later = unfold size_found fewest_from keep in rw e refl
+    go false e later = unfold fewest_from keep in rw (e, sym (add-one (i + 1))) later
 
 -- ---- the entries, from the loads by slots: those of the sizes above p are made
 

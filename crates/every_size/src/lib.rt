@@ -14,9 +14,8 @@ pub const MARK: u16 = 65_535;
 // ---- one step
 
 // Loads the wanted curves: each is loaded by every drive up to its slot, and then held by every drive. `loads[s]` counts the loads of curves with slot s.
-fn load_wanted(want: u64, slots: &mut [usize], loads: &mut [u16])
-    requires in_bounds { (64 ≤ length slots.old) × (65 ≤ length loads.old) }
-    requires by_index { ((c : ℕ) → get_or slots.old c 0 ≤ 64) × (sum loads.old + size want ≤ 65535) }
+fn load_wanted(want: u64, slots: &mut [usize; 64], loads: &mut [u16; 65])
+    requires { ((c : ℕ) → get_or slots.old c 0 ≤ 64) × (sum loads.old + size want ≤ 65535) }
     ensures loaded { (p hold : ℕ) → ((c : ℕ) → bit c want ≡ 1 → bit c hold ≡ holds_at (get_or slots.old c 0) p)
         → sum (drop p loads.new) ≡ sum (drop p loads.old) + size (want ∖ hold) }
     ensures wanted { (c : ℕ) → bit c want ≡ 1 → get_or slots.new c 0 ≡ 0 }
@@ -33,8 +32,7 @@ fn load_wanted(want: u64, slots: &mut [usize], loads: &mut [u16])
 }
 
 // Gives the curves of a group, the lowest first, each the lowest free slot that is not below its own; answers the slots that are free then.
-fn place_group(group: u64, free: u64, slots: &mut [usize]) -> u64
-    requires { 64 ≤ length slots.old }
+fn place_group(group: u64, free: u64, slots: &mut [usize; 64]) -> u64
     ensures { (hold : ℕ → ℕ) (w seen others placed : ℕ) (ws before : List ℕ) → Waiting hold w seen others ws before
         → NextGroup others placed group ws → Placing hold w others placed free ws before slots.old
         → Placing hold w others (placed ∪ group) result ws before slots.new }
@@ -53,14 +51,15 @@ fn place_group(group: u64, free: u64, slots: &mut [usize]) -> u64
 
 // Gives the other curves new slots, those with the soonest next use first, behind as many slots as curves are wanted: one walk over the later steps, which ends
 // where each of them is found. Answers the slots that are free then.
-fn place_others(wanted: usize, others: u64, later: &[u64], slots: &mut [usize]) -> u64
-    requires { ((c : ℕ) → bit c others ≤ bit c (together later.now)) × (64 ≤ length slots.old) }
+fn place_others(wanted: usize, others: u64, later: &[u64], slots: &mut [usize; 64]) -> u64
+    requires { (c : ℕ) → bit c others ≤ bit c (together later.now) }
     ensures { (hold : ℕ → ℕ) (w seen : ℕ) → wanted ≡ size w → Waiting hold w seen others later.now slots.old
         → Placing hold w others others result later.now slots.old slots.new }
 {
     let mut free = bitset::without(bitset::below(64), bitset::below(wanted));
     let mut left = others;
     let mut k: usize = 0;
+    // Kept: a `while`: a `for` over the later steps tests for their end too: tried, the counts of all sizes took 6 to 20% longer.
     while left != 0 {
         let group = bitset::common(left, later[k]);
         free = place_group(group, free, slots);
@@ -71,9 +70,16 @@ fn place_others(wanted: usize, others: u64, later: &[u64], slots: &mut [usize]) 
 }
 
 // One step, whose test wants `want`, before later ones that want `later`, and `used` together; so far some step wanted each curve of `seen`.
-fn step(want: u64, seen: u64, used: u64, later: &[u64], slots: &mut [usize], loads: &mut [u16])
-    requires in_bounds { (64 ≤ length slots.old) × (65 ≤ length loads.old) }
-    requires used_value { (used ≡ together later.now) × (((c : ℕ) → get_or slots.old c 0 ≤ 64) × (sum loads.old + size want ≤ 65535)) }
+fn step(
+    want: u64,
+    seen: u64,
+    used: u64,
+    later: &[u64],
+    slots: &mut [usize; 64],
+    loads: &mut [u16; 65],
+)
+    requires used { used ≡ together later.now }
+    requires room { ((c : ℕ) → get_or slots.old c 0 ≤ 64) × (sum loads.old + size want ≤ 65535) }
     ensures slotted { (hold : ℕ → ℕ) → Slotted hold seen (want ∷ later.now) slots.old
         → Slotted (held_next hold want later.now) (seen ∪ want) later.now slots.new }
     ensures loaded { (hold : ℕ → ℕ) → Slotted hold seen (want ∷ later.now) slots.old → (p : ℕ) → 1 ≤ p → p ≤ 64
@@ -90,28 +96,24 @@ fn step(want: u64, seen: u64, used: u64, later: &[u64], slots: &mut [usize], loa
 // The loads of the whole list, by the slots that the curves had when they were loaded.
 fn loads_by_slot(wants: &[u64]) -> [u16; 65]
     requires { length wants.now ≤ 256 }
-    ensures by_index { (p : ℕ) → 1 ≤ p → p ≤ 64 → sum (drop p result) ≡ load_count (plan_from (furthest 64) p 0 wants.now) }
-    ensures result_bound { sum result ≤ 16384 }
+    ensures counted { (p : ℕ) → 1 ≤ p → p ≤ 64 → sum (drop p result) ≡ load_count (plan_from (furthest 64) p 0 wants.now) }
+    ensures small { sum result ≤ 16384 }
 {
     let mut laters = [0u64; 256];
     drive::write_later(wants, &mut laters);
     let mut slots = [64usize; 64];
     let mut loads = [0u16; 65];
     let mut seen: u64 = 0;
-    let mut i: usize = 0;
-    while i < wants.len() {
-        let want = wants[i];
-        let next = i + 1;
+    for (i, want) in wants.iter().enumerate() {
         step(
-            want,
+            *want,
             seen,
             laters[i],
-            &wants[next..],
+            &wants[i + 1..],
             &mut slots,
             &mut loads,
         );
-        seen = bitset::union(seen, want);
-        i += 1;
+        seen = bitset::union(seen, *want);
     }
     loads
 }
@@ -120,33 +122,25 @@ fn loads_by_slot(wants: &[u64]) -> [u16; 65]
 fn largest(wants: &[u64]) -> usize
     ensures { result ≡ largest wants.now }
 {
-    let mut most: usize = 0;
-    let mut i = wants.len();
-    while 0 < i {
-        i -= 1;
-        let n = bitset::size(wants[i]);
-        if most < n {
-            most = n;
-        }
-    }
-    most
+    wants
+        .iter()
+        .map(|want| bitset::size(*want))
+        .max()
+        .unwrap_or(0)
 }
 
 // The entries of all sizes: the drive with p places makes the loads of slots from p on, or has the mark where it is too small.
-fn entries(most: usize, loads: &[u16]) -> [u16; 64]
-    requires { (length loads.now ≡ 65) × (sum loads.now ≤ 16384) }
+fn entries(most: usize, loads: &[u16; 65]) -> [u16; 64]
+    requires { sum loads.now ≤ 16384 }
     ensures { (p : ℕ) → 1 ≤ p → p ≤ 64 → get_or result (p - 1) 0 ≡ or_mark (leb most p) (sum (drop p loads.now)) }
 {
     let mut counts = [MARK; 64];
     let mut total: u16 = 0;
-    let mut p: usize = 64;
-    while 0 < p {
+    for p in (1..=64).rev() {
         total += loads[p];
-        let at = p - 1;
         if most <= p {
-            counts[at] = total;
+            counts[p - 1] = total;
         }
-        p -= 1;
     }
     counts
 }
@@ -156,12 +150,7 @@ fn entries(most: usize, loads: &[u16]) -> [u16; 64]
 pub fn all_sizes(wants: &[u64]) -> [u16; 64]
     ensures { result ≡ all_sizes 64 (take 256 wants.now) }
 {
-    let n = wants.len();
-    let mut end: usize = 256;
-    if n < end {
-        end = n;
-    }
-    let steps = &wants[..end];
+    let steps = &wants[..wants.len().min(256)];
     let loads = loads_by_slot(steps);
     entries(largest(steps), &loads)
 }
@@ -180,12 +169,8 @@ fn serves(loads: usize, entry: u16) -> bool
 pub fn fewest_places(entries: &[u16], loads: usize) -> Option<usize>
     ensures { size_found result ≡ fewest_places loads entries.now }
 {
-    let mut i: usize = 0;
-    while i < entries.len() {
-        if serves(loads, entries[i]) {
-            return Some(i + 1);
-        }
-        i += 1;
-    }
-    None
+    entries
+        .iter()
+        .position(|entry| serves(loads, *entry))
+        .map(|at| at + 1)
 }

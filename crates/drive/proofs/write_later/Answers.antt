@@ -3,7 +3,7 @@ use mathlib.Core.Path.{◌≡◌, refl, sym, ap, ◌∙◌}
 use mathlib.Core.List.{List}
 use native.Mathlib.Omega.{arith}
 use native.Mathlib.Decide.{ℕ_discrete}
-use lib.ListN.{length, get_or, drop, set, length-set}
+use lib.ListN.{length, get_or, drop, set}
 use lib.Seq.{get_or-set_same, get_or-set_other}
 use Rattle.drive.specs.Steps.{together}
 use Rattle.drive.proofs.Turns.{together_end, together_back}
@@ -12,7 +12,7 @@ use Rattle.drive.proofs.write_later.Goals as goal
 pub loop-i-init : goal.loop-i-init
 loop-i-init c =
     let w = c.args.wants.now in
-    record { turns = omega arith; long = refl; is = sym (together_end w (length w) (omega arith)); written = λ j l h. absurd (omega arith); kept = λ j h. refl }
+    record { is = sym (together_end w (length w) (omega arith)); written = λ j l h. absurd (omega arith); kept = λ j h. refl }
 
 -- the entry of step i - 1 is written
 module _ (wants list list₀ : List ℕ) (i u : ℕ) (p : 0 < i) (h : i ≤ length wants) (long : length list ≡ length list₀) (e : u ≡ together (drop i wants)) where
@@ -32,23 +32,13 @@ module _ (wants list list₀ : List ℕ) (i u : ℕ) (p : 0 < i) (h : i ≤ leng
 pub loop-i-preserved : goal.loop-i-preserved
 loop-i-preserved c =
     let q = c.loop-i in
+    let i = q.invariant in
     let a = c.args in
     let w = a.wants.now in
     let p = c.loop-i-test.true in
     rw c.put.ensures
     record {
-      turns = omega (arith, q.invariant.turns);
-      long = length-set q.list (q.i - 1) q.all ∙ q.invariant.long;
-      is = c.union-all.ensures ∙ together_back w q.i q.all p q.invariant.turns q.invariant.is;
-      written = written_too w q.list a.list.now q.i q.all p q.invariant.turns q.invariant.long q.invariant.is q.invariant.written;
-      kept = kept_too w q.list a.list.now q.i q.all p q.invariant.turns q.invariant.long q.invariant.is q.invariant.kept;
+      is = c.union-all.ensures ∙ together_back w q.i q.all p q.auto.i i.is;
+      written = written_too w q.list a.list.now q.i q.all p q.auto.i q.auto.list i.is i.written;
+      kept = kept_too w q.list a.list.now q.i q.all p q.auto.i q.auto.list i.is i.kept;
     }
-
-pub shape_of-list : goal.shape_of-list
-shape_of-list c = c.loop-i.invariant.long
-
-pub returns : goal.returns
-returns c = let q = c.loop-i in record { by_index = λ j. q.invariant.written j (omega (arith, c.loop-i-test.false)); by_index_2 = q.invariant.kept }
-
-pub bounds-wants-i : goal.bounds-wants-i
-bounds-wants-i c = omega arith

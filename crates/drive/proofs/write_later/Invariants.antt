@@ -8,12 +8,7 @@ use Rattle.drive.proofs.write_later.Given as goal
 abbrev pub invariant-loop-i : goal.invariant-loop-i
 invariant-loop-i l =
     record {
-      turns : l.i ≤ length l.wants;
-      long : length l.list ≡ length l.initial.list;
       is : l.all ≡ together (drop l.i l.wants);
       written : (j : ℕ) → l.i ≤ j → j < length l.wants → j < length l.initial.list → get_or l.list j 0 ≡ together (drop (j + 1) l.wants);
       kept : (j : ℕ) → length l.wants ≤ j → get_or l.list j 0 ≡ get_or l.initial.list j 0;
     }
-
-abbrev pub decreases-loop-i : goal.decreases-loop-i
-decreases-loop-i l = l.i

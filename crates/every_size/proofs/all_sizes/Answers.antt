@@ -11,16 +11,7 @@ use Rattle.drive.specs.Plan.{furthest, plan_from}
 use Rattle.every_size.specs.Sizes.{largest, or_mark, count_for, all_sizes}
 use Rattle.every_size.specs.ContractWords.{sum}
 use Rattle.every_size.proofs.Sizes.{sizes_by, take_min}
-use Rattle.every_size.proofs.all_sizes.Goals.{then-n-end, else-n-end, Joined-n-end}
 use Rattle.every_size.proofs.all_sizes.Goals as goal
-
--- 256 steps, or as many as there are
-ends : (c : Joined-n-end) → c.if-n-end.end ≡ min 256 (length c.args.wants.now)
-ends c =
-    elim c.if-n-end.branch [
-      | then-n-end w ↦ omega (arith, w.if-n-end.true, w.end-is)
-      | else-n-end w ↦ omega (arith, w.if-n-end.false, w.end-is)
-    ]
 
 counted : (ws loads counts : List ℕ) (most : ℕ) → most ≡ largest ws → length counts ≡ 64
     → ((p : ℕ) → 1 ≤ p → p ≤ 64 → sum (drop p loads) ≡ load_count (plan_from (furthest 64) p 0 ws))
@@ -33,7 +24,7 @@ counted ws loads counts most e long sums made =
 pub returns : goal.returns
 returns c =
     let w = c.args.wants.now in
-    let end = c.if-n-end.end in
-    let first : take end w ≡ take 256 w = ap (λ (n : ℕ). take n w) (ends (goal.at.returns c).Joined-n-end) ∙ take_min 256 w in
-    counted (take end w) _ _ _ c.largest.ensures (search rules) c.loads_by_slot-loads.ensures.by_index c.entries.ensures
-    ∙ ap (all_sizes 64) first
+    let end = c.min.result in
+    let short : end ≡ min 256 (length w) = omega (arith, c.min.ensures) in
+    let first : take end w ≡ take 256 w = ap (λ (n : ℕ). take n w) short ∙ take_min 256 w in
+    counted (take end w) _ _ _ c.largest.ensures (search rules) c.loads_by_slot-loads.ensures.counted c.entries.ensures ∙ ap (all_sizes 64) first

@@ -1,26 +1,18 @@
-use mathlib.Core.Path.{sym}
-use native.Mathlib.Omega.{arith}
-use lib.ListN.{length}
-use Rattle.every_size.proofs.Sizes.{largest_back, largest_end}
+-- `largest` meets its contract.
+use mathlib.Core.Path.{ap, ◌∙◌}
+use borrow.Author.Rules.{rules}
+use Rattle.std.specs.Option.{unwrap_or}
+use Rattle.std.proofs.lemmas.Iterator.{YieldsList-from_slice, YieldsList-from_map}
+use Rattle.std.proofs.lemmas.Iterator.Consumers.{reduce_from_yields_List}
+use Rattle.std.proofs.lemmas.List.Folds.{max_of_map}
+use Rattle.bitset.specs.Set.{size}
+use Rattle.every_size.proofs.Sizes.{largest_fold}
 use Rattle.every_size.proofs.largest.Goals as goal
 
-pub loop-i-init : goal.loop-i-init
-loop-i-init c = record { turns = omega arith; is = let w = c.args.wants.now in sym (largest_end w (length w) (omega arith)) }
-
-pub loop-i-preserved-then-most-n : goal.loop-i-preserved-then-most-n
-loop-i-preserved-then-most-n c =
-    let q = c.loop-i in
-    let w = c.args.wants.now in
-    record {
-      turns = omega arith;
-      is = omega (arith, q.invariant.is, c.size-n.ensures, c.if-most-n.true, largest_back w q.i c.loop-i-test.true q.invariant.turns);
-    }
-
-pub loop-i-preserved : goal.loop-i-preserved
-loop-i-preserved c =
-    let q = c.loop-i in
-    let w = c.args.wants.now in
-    record {
-      turns = omega arith;
-      is = omega (arith, q.invariant.is, c.size-n.ensures, c.if-most-n.false, largest_back w q.i c.loop-i-test.true q.invariant.turns);
-    }
+pub returns : goal.returns
+returns c =
+    let ws = c.args.wants.now in
+    c.unwrap_or.ensures
+    ∙ ap (λ o. unwrap_or o 0) (reduce_from_yields_List _ c.map.result _ c.max.ensures.ran
+    (YieldsList-from_map _ size (YieldsList-from_slice ws cc) c.map.ensures.closure (λ x b q k. search rules))) ∙ max_of_map size ws
+    ∙ largest_fold ws

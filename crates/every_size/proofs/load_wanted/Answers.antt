@@ -39,8 +39,8 @@ loop-left-preserved c =
       long = length-set q.slots _ _ ∙ i.long;
       long_loads = length-set q.loads _ _ ∙ i.long_loads;
       loaded = rw (c.without_lowest-left.ensures, ← first)
-          (loaded_next i.loaded c.lowest-c.result mine (omega (arith, small (goal.at.loop-left-preserved c).After-lowest-c, i.long, c.requires.in_bounds.0))
-          (omega (arith, i.long_loads, c.requires.in_bounds.1)));
+          (loaded_next i.loaded c.lowest-c.result mine (omega (arith, small (goal.at.loop-left-preserved c).After-lowest-c, i.long))
+          (omega (arith, i.long_loads)));
     }
 
 pub returns-clause-loaded : goal.returns-clause-loaded

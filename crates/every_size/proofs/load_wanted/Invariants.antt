@@ -10,8 +10,8 @@ abbrev pub invariant-loop-left : goal.invariant-loop-left
 invariant-loop-left l =
     record {
       range : l.left < 2 ^ 64;
-      long : length l.slots ≡ length l.initial.slots;
-      long_loads : length l.loads ≡ length l.initial.loads;
+      long : length l.slots ≡ 64;
+      long_loads : length l.loads ≡ 65;
       loaded : Loaded l.want l.left l.initial.slots l.initial.loads l.slots l.loads;
     }
 

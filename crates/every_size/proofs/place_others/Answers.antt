@@ -25,13 +25,12 @@ within c =
     let q = c.loop-left in
     let x = some q.left (omega (arith, c.loop-left-test.true)) in
     used_ends x.0 (together c.args.later.now) q.k c.args.later.now refl
-    (omega (arith, x.1, q.invariant.passed.part x.0, c.requires.0 x.0)) (q.invariant.passed.ahead x.0 x.1)
+    (omega (arith, x.1, q.invariant.passed.part x.0, c.requires x.0)) (q.invariant.passed.ahead x.0 x.1)
 
 pub loop-left-init : goal.loop-left-init
 loop-left-init c =
     let a = c.args in
     record {
-      long = refl;
       passed = none_passed a.others a.later.now;
       places =
           λ hold w seen e wait. at_first hold w a.others a.wanted c.without-free.result a.later.now a.slots.now wait.most e
@@ -57,13 +56,12 @@ loop-left-preserved c =
     let p = c.place_group-free in
     let hit = c.common-group in
     let at = q.invariant.passed in
-    let none = next_group at c.requires.0 (within (goal.at.loop-left-preserved c).In-loop-left) hit.ensures in
+    let none = next_group at c.requires (within (goal.at.loop-left-preserved c).In-loop-left) hit.ensures in
     rw c.without-left.ensures
     record {
-      long = p.auto.slots ∙ q.invariant.long;
-      passed = passed_next at c.requires.0 (within (goal.at.loop-left-preserved c).In-loop-left) hit.ensures;
+      passed = passed_next at c.requires (within (goal.at.loop-left-preserved c).In-loop-left) hit.ensures;
       places =
-          λ hold w seen e wait. rw (← (placed_next at c.requires.0 (within (goal.at.loop-left-preserved c).In-loop-left) hit.ensures))
+          λ hold w seen e wait. rw (← (placed_next at c.requires (within (goal.at.loop-left-preserved c).In-loop-left) hit.ensures))
           (p.ensures hold w seen c.args.others (c.args.others ∖ q.left) c.args.later.now _ wait none (q.invariant.places hold w seen e wait));
     }
 

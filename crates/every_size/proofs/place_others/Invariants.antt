@@ -10,7 +10,6 @@ use Rattle.every_size.proofs.place_others.Given as goal
 abbrev pub invariant-loop-left : goal.invariant-loop-left
 invariant-loop-left l =
     record {
-      long : length l.slots ≡ length l.initial.slots;
       passed : Passed l.others l.left l.k l.later;
       places : (hold : ℕ → ℕ) (w seen : ℕ) → l.wanted ≡ size w → Waiting hold w seen l.others l.later l.initial.slots
           → Placing hold w l.others (l.others ∖ l.left) l.free l.later l.initial.slots l.slots;

@@ -12,10 +12,7 @@ use Rattle.every_size.proofs.Places.{loads_agree, waiting_others, slotted_next}
 use Rattle.every_size.proofs.step.Goals as goal
 
 pub place_others-requires : goal.place_others-requires
-place_others-requires c = (
-  (λ k. omega (arith, ap (bit k) c.common-others.ensures, bit-∩ k c.without.result c.args.used, ap (bit k) c.requires.used_value.0)),
-  omega (arith, c.requires.in_bounds.0, c.load_wanted.auto.slots),
-)
+place_others-requires c k = omega (arith, ap (bit k) c.common-others.ensures, bit-∩ k c.without.result c.args.used, ap (bit k) c.requires.used)
 
 pub returns : goal.returns
 returns c =
@@ -23,7 +20,7 @@ returns c =
     let lw = c.load_wanted.ensures in
     let po = c.place_others in
     let others : c.common-others.result ≡ (a.seen ∖ a.want) ∩ together a.later.now =
-    c.common-others.ensures ∙ ap (λ (x : ℕ). x ∩ a.used) c.without.ensures ∙ ap (λ (x : ℕ). (a.seen ∖ a.want) ∩ x) c.requires.used_value.0 in
+    c.common-others.ensures ∙ ap (λ (x : ℕ). x ∩ a.used) c.without.ensures ∙ ap (λ (x : ℕ). (a.seen ∖ a.want) ∩ x) c.requires.used in
     let placed = rw others at po.ensures in record {
       slotted = (λ hold s. slotted_next s (search rules) (search rules) lw.wanted lw.others
           (placed hold a.want a.seen c.size.ensures (waiting_others s (search rules) (search rules) lw.wanted lw.others)));

@@ -2,6 +2,7 @@
 use mathlib.Core.Path.{◌≡◌, sym, ap, ◌∙◌}
 use Prim.Native.Nat.{ℕ, ◌-◌}
 use native.Mathlib.Omega.{arith}
+use borrow.Author.Rules.{rules}
 use Rattle.bitset.specs.Set.{◌∖◌, size}
 use Rattle.bitset.proofs.Parts.{in_range}
 use Rattle.drive.specs.Plan.{furthest, victims, drops_for}
@@ -31,29 +32,18 @@ returns-then-size-excess c =
     (sym (all_victims 64 _ c.without-candidates.result _ (omega (arith, c.size-size.ensures, c.if-size-excess.true))
     (in_range 64 c.without-candidates.result (omega (arith, c.without-candidates.type_inv)))))
 
-pub find_uses-count-requires : goal.find_uses-count-requires
-find_uses-count-requires c =
-    (c.wanted_later-used.ensures, c.requires.1)
-
-pub keep_from_near-requires : goal.keep_from_near-requires
-keep_from_near-requires c =
-    let p = c.requires.1 in
-    (omega (arith, c.find_uses-count.ensures.few, c.find_uses-count.auto.groups, p.0), omega (arith, c.if-size-excess.false, c.size-size.ensures))
+pub find-requires : goal.find-requires
+find-requires c = search rules
 
 pub returns-then-size-excess-2 : goal.returns-then-size-excess-2
 returns-then-size-excess-2 c =
-    by_rule (goal.at.returns-then-size-excess-2 c).After-without-candidates _ (c.keep_from_near.ensures _ _ _ c.find_uses-count.ensures)
-
-pub drop_from_far-requires : goal.drop_from_far-requires
-drop_from_far-requires c =
-    let p = c.requires.1 in
-    (c.find_uses-count.ensures.few, (omega (arith, p.0, c.find_uses-count.auto.groups), omega (arith, p.1, c.find_uses-count.auto.when)))
+    by_rule (goal.at.returns-then-size-excess-2 c).After-without-candidates _ (c.keep_from_near.ensures _ _ c.find.ensures)
 
 pub returns : goal.returns
 returns c =
-    let unused : c.without.result ≡ c.without-candidates.result ∖ c.wanted_later-used.result =
+    let unused : c.without.result ≡ c.without-candidates.result ∖ c.unwrap_or_else-used.result =
     c.without.ensures in
-    let g = rw (sym unused) at c.find_uses-count.ensures in
+    let g = rw (sym unused) at c.find.ensures in
     by_rule (goal.at.returns c).After-without-candidates _
     (c.drop_from_far.ensures c.without-candidates.result _ g (omega (arith, c.without-candidates.type_inv))
     (omega (arith, c.if-size-excess.false, c.size-size.ensures)))

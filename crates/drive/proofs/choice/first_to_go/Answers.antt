@@ -5,11 +5,8 @@ use borrow.Author.Rules.{rules}
 use lib.Count.{count_trailing_zeros}
 use Rattle.bitset.specs.Set.{bit}
 use Rattle.bitset.proofs.Element.{∈-pos}
-use Rattle.drive.proofs.Walk.{walk_start, walk_on, walk_size, walk_end}
+use Rattle.drive.proofs.Walk.{walk_on, walk_size, walk_end}
 use Rattle.drive.proofs.choice.first_to_go.Goals as goal
-
-pub loop-higher-init : goal.loop-higher-init
-loop-higher-init c = record { walked = walk_start _; next = c.without_lowest-higher.ensures; some = λ p. p; range = search rules }
 
 pub loop-higher-smaller : goal.loop-higher-smaller
 loop-higher-smaller c =
@@ -32,4 +29,4 @@ returns c =
     let s = c.args.same in
     let end : 0 < s → (bit (count_trailing_zeros 64 q.left) s ≡ 1) × ((k : ℕ) → bit k s ≡ 1 → k ≤ count_trailing_zeros 64 q.left) =
     λ p. walk_end s q.left q.invariant.walked (sym q.invariant.next ∙ c.loop-higher-test.false) (q.invariant.some p) q.invariant.range in
-    rw c.lowest.ensures record { same_value = λ p. (end p).0; by_index = λ k i. (end (∈-pos k s i)).1 k i }
+    rw c.lowest.ensures record { member = λ p. (end p).0; highest = λ k i. (end (∈-pos k s i)).1 k i }

@@ -12,14 +12,14 @@ pub returns-then-never-eq0 : goal.returns-then-never-eq0
 returns-then-never-eq0 c =
     let f = c.first_to_go.ensures in
     record {
-      by_index = λ ws h. absurd (omega (arith, c.if-never-eq0.true));
-      by_index_2 = λ ws z h used. first_of_same ws _ _ _ (f.same_value h) f.by_index used;
+      of_never = λ ws h. absurd (omega (arith, c.if-never-eq0.true));
+      of_group = λ ws z h used. first_of_same ws _ _ _ (f.member h) f.highest used;
     }
 
 pub returns-then-further : goal.returns-then-further
 returns-then-further c =
     let f = c.first_to_go-2.ensures in
-    record { by_index = λ ws h used. first_of_same ws _ _ _ (f.same_value h) f.by_index used; by_index_2 = λ ws z. absurd (c.if-never-eq0.false z) }
+    record { of_never = λ ws h used. first_of_same ws _ _ _ (f.member h) f.highest used; of_group = λ ws z. absurd (c.if-never-eq0.false z) }
 
 never_further : (m : ℕ) → further None (Some m) ≡ true
 unfolding further
