@@ -14,9 +14,10 @@ use Rattle.bitset.proofs.Bits.{same_by_bits, bit-∪, bit_empty}
 use Rattle.bitset.proofs.Laws.{∪-assoc, ∪-lt, size_le}
 use Rattle.job.specs.Refusal.{overwritten}
 use Rattle.lists.specs.Choice.{Found, nobody, found, keep, choose, best_of}
+use Rattle.std.specs.List.{sum}
 use Rattle.packages.specs.Tests.{wants_of, up_to}
 use Rattle.packages.specs.Packages.{flat, Pair, curves_of, eligible, closer, best_pair, without, joined, on_pair, closest, join_all, packages}
-use Rattle.packages.specs.ContractWords.{at, sum_of, joined_entry, joined_curves, fits_by, join_by, round_of, Laid, within}
+use Rattle.packages.specs.ContractWords.{at, joined_entry, joined_curves, fits_by, join_by, round_of, Laid, within}
 use Rattle.packages.proofs.Rounds.{Good, InOrder, flipped_any, pair_good, length_joined, closest_good, singles, packages_long}
 use Rattle.packages.proofs.Lists.{sum_lengths}
 use Rattle.packages.proofs.Counts.{map_take, map_entries}
@@ -321,12 +322,12 @@ module _ {flipping : Bool} {wants : List ℕ} {places : ℕ} {ps : List (List �
 -- ---- a join of two packages, with the code's numbers: the lengths of the two, where the first begins and where the second ends
 
 module _ {ps : List (List ℕ)} {rest tests lengths : List ℕ} (laid : Laid ps rest tests lengths) (i j : ℕ) (h : i < j) (l : j < length lengths) (a b from to : ℕ)
-    (first : a ≡ get_or lengths i 0) (second : b ≡ get_or lengths j 0) (start : from ≡ sum_of (take i lengths)) (end : to ≡ sum_of (take j lengths) + b) where
+    (first : a ≡ get_or lengths i 0) (second : b ≡ get_or lengths j 0) (start : from ≡ sum (take i lengths)) (end : to ≡ sum (take j lengths) + b) where
   long_at : (k : ℕ) → length (get_or ps k []) ≡ get_or lengths k 0
   long_at k = sym (ap (λ (l : List ℕ). get_or l k 0) laid.lens ∙ get_or-map length ps k [])
 
-  sum_to : (k : ℕ) → sum_of (take k lengths) ≡ length (flat (take k ps))
-  sum_to k = ap sum_of (ap (take k) laid.lens ∙ sym (map_take length k ps)) ∙ sum_lengths (take k ps)
+  sum_to : (k : ℕ) → sum (take k lengths) ≡ length (flat (take k ps))
+  sum_to k = ap sum (ap (take k) laid.lens ∙ sym (map_take length k ps)) ∙ sum_lengths (take k ps)
 
   parts : Split ps i j
   parts = split ps i j h (omega (arith, l, ap length laid.lens, length-map ps length))

@@ -1,5 +1,5 @@
 -- Words that only the contracts of private functions cite: a reader of the public contracts need not believe them.
-use Rattle.std.specs.Prelude.{◌≡◌, Bool, true, cond, List, [], ◌∷◌, ◌++◌, map, reverse, ℕ, suc, ◌+◌, ◌-◌, ◌/◌, ◌%◌, ◌≤◌, ◌<◌, length, get_or, take, drop, set, leb, ltb, eqb}
+use Rattle.std.specs.Prelude.{◌≡◌, Bool, true, cond, List, ◌++◌, map, reverse, ℕ, suc, ◌+◌, ◌-◌, ◌/◌, ◌%◌, ◌≤◌, ◌<◌, length, get_or, take, drop, set, leb, ltb, eqb}
 use Rattle.bitset.specs.Set.{◌∪◌, size}
 use Rattle.lists.specs.Choice.{nobody, found, best_of}
 use Rattle.packages.specs.Packages.{Pair, shared, eligible, closer, flat, join_all, flipped}
@@ -10,17 +10,12 @@ at i j = record { first = i; second = j }
 
 -- ---- lists that are changed in place
 
--- the sum of a list
-unfoldable pub sum_of : List ℕ → ℕ
-sum_of [] = 0
-sum_of (x ∷ xs) = x + sum_of xs
-
 -- "The first package is reversed if its head won, the second if its tail won."
 abbrev pub turned : Bool → List ℕ → List ℕ
 turned turn xs = cond turn (reverse xs) xs
 
 -- one number for each package, after a join of the packages i and j: v in the first's position, none in the second's
-abbrev pub joined_entry : List ℕ → ℕ → ℕ → ℕ → List ℕ
+abbrev pub joined_entry : {A : Type 0} → List A → ℕ → ℕ → A → List A
 joined_entry xs i j v = take j (set xs i v) ++ drop (suc j) (set xs i v)
 
 -- "a package's curves are the union of its tests'"

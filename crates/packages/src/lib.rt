@@ -3,16 +3,17 @@
 // length of each package, its curves, how many these are, and its rating: 256 times its score, plus its partner. The partner is the package behind it that
 // would be the best second one of a pair with it, and the score is one more than the number of curves that the two have in common. A partner of 0 is none, or
 // not known yet: then no package behind it gives a higher score. What a package has in common with others is counted for all of them at once.
-ghost use Rattle.std.specs.Prelude.{◌≡◌, cond, List, ◌++◌, map, reverse, ℕ, suc, ◌+◌, ◌-◌, ◌/◌, ◌%◌, ◌≤◌, ◌<◌, length, get_or, take, drop, ltb};
+ghost use Rattle.std.specs.Prelude.{◌≡◌, cond, List, ◌++◌, map, sum, reverse, ℕ, suc, ◌+◌, ◌-◌, ◌/◌, ◌%◌, ◌≤◌, ◌<◌, length, get_or, take, drop, ltb};
+ghost use Rattle.std.specs.Iterator.{AlwaysYields, IsFinite};
 ghost use Rattle.bitset.specs.Set.{◌∪◌, size};
 ghost use Rattle.job.specs.Refusal.{overwritten};
 ghost use Rattle.lists.specs.Choice.{nobody, keep, best_of};
 ghost use Rattle.packages.specs.Tests.{common, up_to, entered};
-ghost use Rattle.packages.specs.Packages.{shared, eligible, closer, best_pair, curves_of, joined, head, tail, flipped, packages};
-ghost use Rattle.packages.specs.ContractWords.{at, sum_of, turned, joined_entry, joined_curves, join_by, round_of, Laid};
+ghost use Rattle.packages.specs.Packages.{shared, eligible, closer, best_pair, curves_of, joined, run_from, head, tail, flipped, packages};
+ghost use Rattle.packages.specs.ContractWords.{at, turned, joined_entry, joined_curves, join_by, round_of, Laid};
 ghost use Rattle.packages.specs.ContractWords.{within, Rated, AllRated, moved_up, Sized};
 
-// Two places in the list of packages; no pair where the second is 0.
+// Two places in the list of packages.
 #[derive(Clone, Copy)]
 pub struct PackagePair {
     pub first: usize,
@@ -34,45 +35,63 @@ fn shared(a: u64, b: u64) -> usize
     bitset::size(a & b)
 }
 
-// The curves of a package's head, "its longest opening run of tests whose union is at most the places".
-fn head(wants: &[u64], places: usize, tests: &[u16]) -> u64
-    ensures { result ≡ head wants.now places tests.now }
+// The curves of the "longest opening run of tests whose union is at most the places".
+fn longest_run<'a, I: Iterator<Item = &'a u16> + Drop>(
+    wants: &[u64],
+    places: usize,
+    tests: I,
+) -> u64
+    requires can { I.can_next tests }
+    requires ends { IsFinite (I.remaining tests) }
+    ensures { (ts : List ℕ) → AlwaysYields I.next_gives (λ t. t.now) tests ts → result ≡ run_from wants.now places 0 ts }
 {
     let mut run: u64 = 0;
-    let mut k: usize = 0;
-    while k < tests.len() {
-        let wider = bitset::union(run, lists::entry(wants, tests[k] as usize));
+    for test in tests {
+        let wider = bitset::union(run, lists::entry(wants, *test as usize));
         if places < bitset::size(wider) {
             return run;
         }
         run = wider;
-        k += 1;
     }
     run
+}
+
+// The curves of a package's head.
+fn head(wants: &[u64], places: usize, tests: &[u16]) -> u64
+    ensures { result ≡ head wants.now places tests.now }
+{
+    longest_run(wants, places, tests.iter())
 }
 
 // The curves of its tail, "likewise from the end".
 fn tail(wants: &[u64], places: usize, tests: &[u16]) -> u64
     ensures { result ≡ tail wants.now places tests.now }
 {
-    let mut run: u64 = 0;
-    let mut k = tests.len();
-    while 0 < k {
-        let longer = bitset::union(run, lists::entry(wants, tests[k - 1] as usize));
-        if places < bitset::size(longer) {
-            return run;
-        }
-        run = longer;
-        k -= 1;
-    }
-    run
+    longest_run(wants, places, tests.iter().rev())
 }
 
-// "the earliest with most common curves wins": the earlier, unless the later has more.
-fn more(a: Meeting, b: Meeting) -> Meeting
-    ensures { result ≡ cond (ltb a.common b.common) b a }
-{
-    if a.common < b.common { b } else { a }
+impl Meeting {
+    // The way in which parts with these curves meet.
+    fn of(a: u64, b: u64, first: bool, second: bool) -> Meeting
+        ensures { result ≡ record { common = common a b; first = first; second = second } }
+    {
+        Meeting {
+            common: shared(a, b),
+            first,
+            second,
+        }
+    }
+
+    // "the earliest with most common curves wins": the earlier, unless the later has more.
+    fn or_more(self, later: Meeting) -> Meeting
+        ensures { result ≡ cond (ltb self.common later.common) later self }
+    {
+        if self.common < later.common {
+            later
+        } else {
+            self
+        }
+    }
 }
 
 // "Compare tail-head, tail-tail, head-head, head-tail (first package named first)": which of the packages a and b are reversed.
@@ -84,27 +103,10 @@ fn flips(wants: &[u64], places: usize, a: &[u16], b: &[u16]) -> Meeting
     let a_tail = tail(wants, places, a);
     let b_head = head(wants, places, b);
     let b_tail = tail(wants, places, b);
-    let tail_head = Meeting {
-        common: shared(a_tail, b_head),
-        first: false,
-        second: false,
-    };
-    let tail_tail = Meeting {
-        common: shared(a_tail, b_tail),
-        first: false,
-        second: true,
-    };
-    let head_head = Meeting {
-        common: shared(a_head, b_head),
-        first: true,
-        second: false,
-    };
-    let head_tail = Meeting {
-        common: shared(a_head, b_tail),
-        first: true,
-        second: true,
-    };
-    more(more(more(tail_head, tail_tail), head_head), head_tail)
+    Meeting::of(a_tail, b_head, false, false)
+        .or_more(Meeting::of(a_tail, b_tail, false, true))
+        .or_more(Meeting::of(a_head, b_head, true, false))
+        .or_more(Meeting::of(a_head, b_tail, true, true))
 }
 
 // How the packages `part[..a]` and `part[from..]` are joined: in the second round with flipping, in the first as they are.
@@ -131,19 +133,11 @@ fn ways(
     }
 }
 
-// Reverses a list in place. What lies between i and j is still to be reversed.
+// Reverses a list in place.
 pub fn reverse(xs: &mut [u16])
     ensures { xs.new ≡ reverse xs.old }
 {
-    let mut i: usize = 0;
-    let mut j = xs.len();
-    while i + 1 < j {
-        j -= 1;
-        let x = xs[i];
-        xs[i] = xs[j];
-        xs[j] = x;
-        i += 1;
-    }
+    xs.reverse();
 }
 
 fn reverse_if(turn: bool, xs: &mut [u16])
@@ -152,16 +146,6 @@ fn reverse_if(turn: bool, xs: &mut [u16])
     if turn {
         reverse(xs);
     }
-}
-
-// Exchanges the first k entries and the rest, in place: the reverse of two reversed parts.
-fn exchange(xs: &mut [u16], k: usize)
-    requires { k ≤ length xs.old }
-    ensures { xs.new ≡ drop k xs.old ++ take k xs.old }
-{
-    reverse(&mut xs[..k]);
-    reverse(&mut xs[k..]);
-    reverse(xs);
 }
 
 // "The second's tests go behind the first's": the first has a tests at the start of the part, the second b at its end.
@@ -174,34 +158,24 @@ fn join_tests(flipping: bool, wants: &[u64], places: usize, part: &mut [u16], a:
     let way = ways(flipping, wants, places, part, a, from);
     reverse_if(way.first, &mut part[..a]);
     reverse_if(way.second, &mut part[from..]);
-    exchange(&mut part[a..], from - a);
+    part[a..].rotate_left(from - a);
 }
 
 // The number of tests in packages of these lengths.
-fn total(lengths: &[u64]) -> usize
-    requires { sum_of lengths.now ≤ 256 }
-    ensures { result ≡ sum_of lengths.now }
+fn total(lengths: &[usize]) -> usize
+    requires { sum lengths.now ≤ 256 }
+    ensures { result ≡ sum lengths.now }
 {
-    let mut sum: usize = 0;
-    let mut k: usize = 0;
-    while k < lengths.len() {
-        sum += lengths[k] as usize;
-        k += 1;
-    }
-    sum
+    lengths.iter().sum()
 }
 
 // Sets one entry and takes another out; those behind it move up.
-fn join_entry(xs: &mut [u64], first: usize, second: usize, value: u64)
+fn join_entry<T: Copy>(xs: &mut [T], first: usize, second: usize, value: T)
     requires { (first < length xs.old) × (second < length xs.old) }
     ensures { take (length xs.old - 1) xs.new ≡ joined_entry xs.old first second value }
 {
     xs[first] = value;
-    let mut k = second;
-    while k + 1 < xs.len() {
-        xs[k] = xs[k + 1];
-        k += 1;
-    }
+    xs.copy_within(second + 1.., second);
 }
 
 // Writes how many curves a set has in common with each of the others.
@@ -209,10 +183,8 @@ fn write_common(set: u64, others: &[u64], counts: &mut [u16])
     requires { length others.now ≤ length counts.old }
     ensures { counts.new ≡ overwritten (map (common set) others.now) counts.old }
 {
-    let mut j: usize = 0;
-    while j < others.len() {
-        counts[j] = u64::count_ones(set & others[j]) as u16;
-        j += 1;
+    for (j, other) in others.iter().enumerate() {
+        counts[j] = u64::count_ones(set & *other) as u16;
     }
 }
 
@@ -225,11 +197,11 @@ fn count_behind(curves: &[u64], counts: &mut [u16], k: usize)
 }
 
 // The size of a union, by the sizes of the two sets and of what they have in common.
-fn union_size(a: u64, b: u64, both: u16) -> usize
+fn union_size(a: usize, b: usize, both: u16) -> usize
     requires { (a ≤ 64) × (b ≤ 64) × (both ≤ a) }
     ensures { (x y : ℕ) → a ≡ size x → b ≡ size y → both ≡ common x y → result ≡ size (x ∪ y) }
 {
-    (a + b - both as u64) as usize
+    a + b - both as usize
 }
 
 // The rating of a package, whose partner gives "the pair with most common curves; ties to .. the earlier second package". 0 where no union is at most the
@@ -237,7 +209,7 @@ fn union_size(a: u64, b: u64, both: u16) -> usize
 fn best_partner(
     bound: usize,
     curves: &[u64],
-    sizes: &[u64],
+    sizes: &[usize],
     counts: &mut [u16],
     first: usize,
 ) -> u64
@@ -249,8 +221,7 @@ fn best_partner(
     count_behind(curves, counts, first);
     let mut second: usize = 0;
     let mut most: u16 = 0;
-    let mut j = first + 1;
-    while j < curves.len() {
+    for j in first + 1..curves.len() {
         let score = 1 + counts[j];
         if most < score {
             if union_size(sizes[first], sizes[j], counts[j]) <= bound {
@@ -258,7 +229,6 @@ fn best_partner(
                 most = score;
             }
         }
-        j += 1;
     }
     most as u64 * 256 + second as u64
 }
@@ -267,17 +237,15 @@ fn best_partner(
 fn best_partners(
     bound: usize,
     curves: &[u64],
-    sizes: &[u64],
+    sizes: &[usize],
     counts: &mut [u16],
     ratings: &mut [u64],
 )
     requires { (length ratings.old ≡ length curves.now) × Sized curves.now sizes.now counts.old }
     ensures { AllRated bound curves.now ratings.new }
 {
-    let mut k: usize = 0;
-    while k < curves.len() {
+    for k in 0..curves.len() {
         ratings[k] = best_partner(bound, curves, sizes, counts, k);
-        k += 1;
     }
 }
 
@@ -288,14 +256,12 @@ fn highest(ratings: &[u64]) -> usize
 {
     let mut first: usize = 0;
     let mut most: u64 = 0;
-    let mut i: usize = 0;
-    while i < ratings.len() {
-        let count = ratings[i] / 256;
+    for (i, rating) in ratings.iter().enumerate() {
+        let count = *rating / 256;
         if most < count {
             first = i;
             most = count;
         }
-        i += 1;
     }
     first
 }
@@ -305,7 +271,7 @@ fn highest(ratings: &[u64]) -> usize
 fn closest(
     bound: usize,
     curves: &[u64],
-    sizes: &[u64],
+    sizes: &[usize],
     counts: &mut [u16],
     ratings: &mut [u64],
 ) -> PackagePair
@@ -346,10 +312,8 @@ fn renew_behind(ratings: &mut [u64], first: usize, second: usize)
         → get_or ratings.new k 0 ≡ moved_up second (get_or ratings.old k 0) }
     ensures before { (k : ℕ) → k ≤ first → get_or ratings.new k 0 ≡ get_or ratings.old k 0 }
 {
-    let mut row = first + 1;
-    while row < ratings.len() {
-        ratings[row] = moved(second, ratings[row]);
-        row += 1;
+    for rating in ratings[first + 1..].iter_mut() {
+        *rating = moved(second, *rating);
     }
 }
 
@@ -388,7 +352,7 @@ fn renewed(fits: bool, both: u16, first: usize, second: usize, rating: u64) -> u
 fn renew_before(
     bound: usize,
     curves: &[u64],
-    sizes: &[u64],
+    sizes: &[usize],
     counts: &mut [u16],
     ratings: &mut [u64],
     first: usize,
@@ -403,12 +367,10 @@ fn renew_before(
     ensures behind { (k : ℕ) → first ≤ k → get_or ratings.new k 0 ≡ get_or ratings.old k 0 }
 {
     write_common(curves[first], &curves[..first], counts);
-    let mut row: usize = 0;
-    while row < first {
+    for row in 0..first {
         let both = counts[row];
         let fits = union_size(sizes[row], sizes[first], both) <= bound;
         ratings[row] = renewed(fits, both, first, second, ratings[row]);
-        row += 1;
     }
 }
 
@@ -416,7 +378,7 @@ fn renew_before(
 fn renew_ratings(
     bound: usize,
     curves: &[u64],
-    sizes: &[u64],
+    sizes: &[usize],
     counts: &mut [u16],
     ratings: &mut [u64],
     first: usize,
@@ -438,7 +400,7 @@ fn renew_ratings(
 fn join_curves(
     bound: usize,
     curves: &mut [u64],
-    sizes: &mut [u64],
+    sizes: &mut [usize],
     counts: &mut [u16],
     ratings: &mut [u64],
     first: usize,
@@ -454,7 +416,7 @@ fn join_curves(
     let left = curves.len() - 1;
     let joined = bitset::union(curves[first], curves[second]);
     join_entry(curves, first, second, joined);
-    join_entry(sizes, first, second, bitset::size(joined) as u64);
+    join_entry(sizes, first, second, bitset::size(joined));
     renew_ratings(
         bound,
         &curves[..left],
@@ -467,15 +429,13 @@ fn join_curves(
 }
 
 // The sizes of the packages' curves.
-fn sizes_of(curves: &[u64]) -> [u64; 256]
+fn sizes_of(curves: &[u64]) -> [usize; 256]
     requires { length curves.now ≤ 256 }
     ensures { (length result ≡ 256) × (take (length curves.now) result ≡ map size curves.now) }
 {
-    let mut sizes = [0u64; 256];
-    let mut k: usize = 0;
-    while k < curves.len() {
-        sizes[k] = bitset::size(curves[k]) as u64;
-        k += 1;
+    let mut sizes = [0; 256];
+    for (k, set) in curves.iter().enumerate() {
+        sizes[k] = bitset::size(*set);
     }
     sizes
 }
@@ -485,12 +445,8 @@ fn first_curves(wants: &[u64]) -> [u64; 256]
     requires { length wants.now ≤ 256 }
     ensures { (length result ≡ 256) × (take (length wants.now) result ≡ wants.now) }
 {
-    let mut curves = [0u64; 256];
-    let mut t: usize = 0;
-    while t < wants.len() {
-        curves[t] = wants[t];
-        t += 1;
-    }
+    let mut curves = [0; 256];
+    curves[..wants.len()].copy_from_slice(wants);
     curves
 }
 
@@ -499,10 +455,8 @@ fn as_listed(tests: usize, order: &mut [u16])
     requires { (tests ≤ 256) × (tests ≤ length order.old) }
     ensures { order.new ≡ overwritten (up_to tests) order.old }
 {
-    let mut t: usize = 0;
-    while t < tests {
+    for t in 0..tests {
         order[t] = t as u16;
-        t += 1;
     }
 }
 
@@ -525,27 +479,20 @@ fn join_packages(
     wants: &[u64],
     places: usize,
     order: &mut [u16],
-    lengths: &mut [u64],
+    lengths: &mut [usize],
     first: usize,
     second: usize,
 )
-    requires { (first < second) × (second < length lengths.old) × (sum_of lengths.old ≤ 256) × (sum_of lengths.old ≤ length order.old) }
+    requires { (first < second) × (second < length lengths.old) × (sum lengths.old ≤ 256) × (sum lengths.old ≤ length order.old) }
     ensures joined { (ps : List (List ℕ)) (rest : List ℕ) → Laid ps rest order.old lengths.old
         → Laid (joined (join_by flipping wants.now places) ps (at first second)) rest order.new (take (length lengths.old - 1) lengths.new) }
-    ensures sum { sum_of (take (length lengths.old - 1) lengths.new) ≡ sum_of lengths.old }
+    ensures sum { sum (take (length lengths.old - 1) lengths.new) ≡ sum lengths.old }
 {
     let a = lengths[first];
     let b = lengths[second];
     let from = total(&lengths[..first]);
-    let to = total(&lengths[..second]) + b as usize;
-    join_tests(
-        flipping,
-        wants,
-        places,
-        &mut order[from..to],
-        a as usize,
-        b as usize,
-    );
+    let to = total(&lengths[..second]) + b;
+    join_tests(flipping, wants, places, &mut order[from..to], a, b);
     join_entry(lengths, first, second, a + b);
 }
 
@@ -562,12 +509,12 @@ fn join_all(
     wants: &[u64],
     places: usize,
     order: &mut [u16],
-    lengths: &mut [u64],
+    lengths: &mut [usize],
     curves: &mut [u64],
 ) -> usize
-    requires { (length lengths.old ≤ 256) × (length curves.old ≡ length lengths.old) × (sum_of lengths.old ≤ 256)
-        × (sum_of lengths.old ≤ length order.old) }
-    ensures left { (result ≤ length lengths.old) × (sum_of (take result lengths.new) ≡ sum_of lengths.old) }
+    requires { (length lengths.old ≤ 256) × (length curves.old ≡ length lengths.old) × (sum lengths.old ≤ 256)
+        × (sum lengths.old ≤ length order.old) }
+    ensures left { (result ≤ length lengths.old) × (sum (take result lengths.new) ≡ sum lengths.old) }
     ensures round { (ps : List (List ℕ)) (rest : List ℕ) → Laid ps rest order.old lengths.old → curves.old ≡ map (curves_of wants.now) ps
         → Laid (round_of flipping wants.now places ps) rest order.new (take result lengths.new)
         × (take result curves.new ≡ map (curves_of wants.now) (round_of flipping wants.now places ps)) }
@@ -626,7 +573,7 @@ fn order_by_packages(places: usize, wants: &[u64], order: &mut [u16])
 {
     let tests = wants.len();
     as_listed(tests, order);
-    let mut lengths = [1u64; 256];
+    let mut lengths = [1; 256];
     let mut curves = first_curves(wants);
     let left = join_all(
         false,

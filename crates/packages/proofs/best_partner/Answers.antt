@@ -16,8 +16,6 @@ pub loop-j-init : goal.loop-j-init
 loop-j-init c =
     let a = c.args in
     record {
-      turns = omega arith;
-      inside = omega (arith, c.requires.0);
       row = rows.row_start (within a.bound) a.curves.now a.first;
       count = sym (rows.score_none a.curves.now a.first);
       few = omega arith;
@@ -27,7 +25,7 @@ loop-j-init c =
 -- what the two have in common, and the sizes
 counted : (c : In-loop-j) → let a = c.args in
     get_or c.count_behind.new.counts c.loop-j.j 0 ≡ shared a.curves.now (at a.first c.loop-j.j)
-counted c = c.count_behind.ensures c.loop-j.j (omega (arith, c.loop-j.invariant.turns)) (omega arith)
+counted c = c.count_behind.ensures c.loop-j.j (omega arith) (omega arith)
 
 asks : (c : In-loop-j) → let a = c.args in
     (get_or a.sizes.now a.first 0 ≤ 64) × (get_or a.sizes.now c.loop-j.j 0 ≤ 64)
@@ -35,17 +33,6 @@ asks : (c : In-loop-j) → let a = c.args in
 asks c =
     let a = c.args in
     union_size_asks a.curves.now a.sizes.now c.requires.1.2 (λ i. (c.type_inv.curves i).fits) a.first c.loop-j.j _ (counted c)
-
-pub overflow_add-score : goal.overflow_add-score
-overflow_add-score c = let h = asks (goal.at.overflow_add-score c).In-loop-j in omega (arith, h.0, h.2)
-
-pub bounds-sizes-first : goal.bounds-sizes-first
-bounds-sizes-first c =
-    omega (arith, sizes_long c.args.curves.now c.args.sizes.now c.requires.1.2, c.requires.0)
-
-pub bounds-sizes-j : goal.bounds-sizes-j
-bounds-sizes-j c =
-    omega (arith, sizes_long c.args.curves.now c.args.sizes.now c.requires.1.2, c.loop-j.invariant.inside)
 
 pub union_size-requires : goal.union_size-requires
 union_size-requires c = asks (goal.at.union_size-requires c).In-loop-j
@@ -67,9 +54,7 @@ loop-j-preserved c =
           le-leb (size (get_or cs i 0 ∪ get_or cs j 0)) a.bound
           (omega (arith, w.if-union_size-bound.true, w.union_size.ensures (get_or cs i 0) (get_or cs j 0) (ours i) (ours j) e)) in
           record {
-            turns = omega arith;
-            inside = omega arith;
-            row = rw w.second-is (rows.row_take fits cs i j c.loop-j.second c.loop-j.most v.row v.turns v.count (omega (arith, e, w.if-most-score.true)) f);
+            row = rw w.second-is (rows.row_take fits cs i j c.loop-j.second c.loop-j.most v.row (omega arith) v.count (omega (arith, e, w.if-most-score.true)) f);
             count = rw (w.second-is, w.most-is) (ap (λ (n : ℕ). 1 + n) e ∙ sym (rows.score_some cs i j (omega arith)));
             few = omega (arith, w.most-is, h.0, h.2);
             low = omega (arith, w.second-is);
@@ -79,8 +64,6 @@ loop-j-preserved c =
           lt-leb (size (get_or cs i 0 ∪ get_or cs j 0)) a.bound
           (omega (arith, w.if-union_size-bound.false, w.union_size.ensures (get_or cs i 0) (get_or cs j 0) (ours i) (ours j) e)) in
           record {
-            turns = omega arith;
-            inside = omega arith;
             row = rw w.second-is (rows.row_pass fits cs i j c.loop-j.second c.loop-j.most v.row f);
             count = rw (w.second-is, w.most-is) v.count;
             few = omega (arith, w.most-is, v.few);
@@ -88,8 +71,6 @@ loop-j-preserved c =
           }
       | else-most-score w ↦
           record {
-            turns = omega arith;
-            inside = omega arith;
             row = rw w.second-is (rows.row_keep fits cs i j c.loop-j.second c.loop-j.most v.row v.count (omega (arith, e, w.if-most-score.false)));
             count = rw (w.second-is, w.most-is) v.count;
             few = omega (arith, w.most-is, v.few);
@@ -97,21 +78,12 @@ loop-j-preserved c =
           }
     ]
 
-pub overflow_cast-result : goal.overflow_cast-result
-overflow_cast-result c = omega (arith, c.loop-j.invariant.few)
-
-pub overflow_mul-result : goal.overflow_mul-result
-overflow_mul-result c = omega (arith, c.loop-j.invariant.few)
-
-pub overflow_add-result : goal.overflow_add-result
-overflow_add-result c = omega (arith, c.loop-j.invariant.few, c.loop-j.invariant.low)
-
 pub returns : goal.returns
 returns c =
     let a = c.args in
     let v = c.loop-j.invariant in
-    let e : length a.curves.now ≡ c.loop-j.j = omega arith in
-    let low : c.loop-j.second < 256 = omega (arith, v.low, v.inside, c.requires.1) in
+    let e : length a.curves.now ≡ c.loop-j.j = omega (arith, c.requires.0) in
+    let low : c.loop-j.second < 256 = omega (arith, v.low, c.requires) in
     let p : (c.loop-j.most * 256 + c.loop-j.second) % 256 ≡ c.loop-j.second = omega (arith, low) in
     let d : (c.loop-j.most * 256 + c.loop-j.second) / 256 ≡ c.loop-j.most = omega (arith, low) in
     record {

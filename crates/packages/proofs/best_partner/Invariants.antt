@@ -1,21 +1,15 @@
 -- `packages::best_partner` meets its contract. Invariant: the second is the best of those before j, 0 for none, and most is one more than what it has in common
 -- with the first.
 use mathlib.Core.Path.{◌≡◌}
-use Prim.Native.Nat.{◌≤◌, ◌<◌, ◌-◌}
-use lib.ListN.{length}
+use Prim.Native.Nat.{◌≤◌, ◌<◌}
 use Rattle.packages.specs.ContractWords.{within}
 use Rattle.packages.proofs.Rows as rows
 use Rattle.packages.proofs.best_partner.Given as goal
 
 abbrev pub invariant-loop-j : goal.invariant-loop-j
 invariant-loop-j l = record {
-  turns : l.first < l.j;
-  inside : l.j ≤ length l.curves;
   row : rows.row_to (within l.bound) l.curves l.first l.j ≡ rows.chosen l.first l.second;
   count : l.most ≡ rows.score l.curves l.first l.second;
   few : l.most ≤ 65;
   low : l.second < l.j;
 }
-
-abbrev pub decreases-loop-j : goal.decreases-loop-j
-decreases-loop-j l = length l.curves - l.j

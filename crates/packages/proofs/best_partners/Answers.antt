@@ -9,14 +9,6 @@ use Rattle.packages.proofs.Rows as rows
 use Rattle.packages.proofs.Renew.{row_rated}
 use Rattle.packages.proofs.best_partners.Goals as goal
 
-pub loop-k-init : goal.loop-k-init
-loop-k-init c = record { turns = omega arith; room = refl; long = refl; done = λ i h. absurd (omega arith) }
-
-pub best_partner-requires : goal.best_partner-requires
-best_partner-requires c =
-    let p = c.requires.1 in
-    (omega arith, (p.0, omega (arith, c.loop-k.invariant.room, p.1), p.2))
-
 pub loop-k-preserved : goal.loop-k-preserved
 loop-k-preserved c =
     let b = c.best_partner in
@@ -26,7 +18,6 @@ loop-k-preserved c =
     let v = c.loop-k.invariant in
     let long : i < length c.loop-k.ratings = omega (arith, v.long, c.requires.0) in
     record {
-      turns = omega arith;
       room = b.auto.counts ∙ v.room;
       long = simp length-set v.long;
       done = below_more _ i
@@ -34,12 +25,3 @@ loop-k-preserved c =
           (subst (Rated fits cs i) (sym (get_or-set_same c.loop-k.ratings i _ 0 long))
           (row_rated fits cs i b.result (omega arith) b.ensures.partner (b.ensures.score ∙ rows.score_as cs i (b.result % 256))));
     }
-
-pub shape_of-counts : goal.shape_of-counts
-shape_of-counts c = c.loop-k.invariant.room
-
-pub shape_of-ratings : goal.shape_of-ratings
-shape_of-ratings c = c.loop-k.invariant.long
-
-pub returns : goal.returns
-returns c = λ k h. c.loop-k.invariant.done k (omega arith)

@@ -1,17 +1,13 @@
 -- `packages::best_partners` meets its contract. Invariant: the packages before k have their rating.
 use mathlib.Core.Path.{◌≡◌}
-use Prim.Native.Nat.{ℕ, ◌≤◌, ◌<◌, ◌-◌}
+use Prim.Native.Nat.{ℕ, ◌<◌}
 use lib.ListN.{length, get_or}
 use Rattle.packages.specs.ContractWords.{within, Rated}
 use Rattle.packages.proofs.best_partners.Given as goal
 
 abbrev pub invariant-loop-k : goal.invariant-loop-k
 invariant-loop-k l = record {
-  turns : l.k ≤ length l.curves;
   room : length l.counts ≡ length l.initial.counts;
   long : length l.ratings ≡ length l.initial.ratings;
   done : (i : ℕ) → i < l.k → Rated (within l.bound) l.curves i (get_or l.ratings i 0);
 }
-
-abbrev pub decreases-loop-k : goal.decreases-loop-k
-decreases-loop-k l = length l.curves - l.k

@@ -5,8 +5,9 @@ use native.Mathlib.Omega.{arith}
 use lib.Seq.{length-take-le, length_front, take_all, take-length}
 use lib.ListN.{length, take, drop, replicate, length-take}
 use Rattle.bitset.specs.Set.{size}
+use Rattle.std.specs.List.{sum}
 use Rattle.packages.specs.Tests.{wants_of}
-use Rattle.packages.specs.ContractWords.{sum_of, Laid, AllRated}
+use Rattle.packages.specs.ContractWords.{Laid, AllRated}
 use Rattle.packages.proofs.Renew as renew
 use Rattle.packages.proofs.State as state
 use Rattle.packages.proofs.join_all.Goals.{After-closest-pair, After-sizes_of-sizes, At-loop-sizes, Else-second-eq0}
@@ -86,7 +87,7 @@ loop-sizes-init c =
       long_sizes = c.sizes_of-sizes.ensures.0;
       long_counts = bp.auto.counts;
       long_ratings = length_front (replicate 256 0) rs n bp.auto.ratings;
-      sums = ap sum_of (take-length c.args.lengths.now);
+      sums = ap sum (take-length c.args.lengths.now);
       sized = first_sizes (goal.at.loop-sizes-init c).After-sizes_of-sizes ∙ ap (map size) (sym all);
       best = subst (λ (l : List ℕ). AllRated bound l (take n (rs ++ drop n (replicate 256 0)))) (sym all)
           (renew.front_rated _ cs rs _ n (omega (arith, bp.auto.ratings, length-take-le {A = ℕ} n (replicate 256 0) c.requires.0))
@@ -166,7 +167,7 @@ loop-sizes-preserved c =
       long_sizes = length_front q.sizes jc.new.sizes n jc.auto.sizes ∙ v.long_sizes;
       long_counts = jc.auto.counts ∙ counts_long cl;
       long_ratings = length_front (back cl) rs n jc.auto.ratings ∙ back_all cl;
-      sums = ap sum_of lens ∙ jp.ensures.sum ∙ v.sums;
+      sums = ap sum lens ∙ jp.ensures.sum ∙ v.sums;
       sized = some ∙ jc.ensures.sized ∙ ap (map size) (sym sets);
       best = subst (λ (l : List ℕ). AllRated c.round_bound-bound.result l (take (n - 1) (rs ++ drop n (back cl)))) (sym sets)
           (renew.front_rated _ (take (m - 1) cs) rs (drop n (back cl)) (n - 1) (omega (arith, jc.auto.ratings, back_long cl))

@@ -5,8 +5,9 @@ use mathlib.Core.List.{List, map}
 use Prim.Native.Nat.{ℕ, ◌≤◌}
 use lib.ListN.{length, take}
 use Rattle.bitset.specs.Set.{size}
+use Rattle.std.specs.List.{sum}
 use Rattle.packages.specs.Packages.{curves_of}
-use Rattle.packages.specs.ContractWords.{sum_of, Laid, AllRated}
+use Rattle.packages.specs.ContractWords.{Laid, AllRated}
 use Rattle.packages.proofs.State as state
 use Rattle.packages.proofs.join_all.Given as goal
 
@@ -19,7 +20,7 @@ invariant-loop-sizes l = record {
   long_sizes : length l.sizes ≡ 256;
   long_counts : length l.counts ≡ 256;
   long_ratings : length l.ratings ≡ 256;
-  sums : sum_of (take l.left l.lengths) ≡ sum_of l.initial.lengths;
+  sums : sum (take l.left l.lengths) ≡ sum l.initial.lengths;
   sized : take l.left l.sizes ≡ map size (take l.left l.curves);
   best : AllRated l.bound (take l.left l.curves) (take l.left l.ratings);
   goes : (ps : List (List ℕ)) (rest : List ℕ) → Laid ps rest l.initial.order l.initial.lengths → l.initial.curves ≡ map (curves_of l.wants) ps

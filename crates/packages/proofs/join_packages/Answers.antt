@@ -4,7 +4,8 @@ use Prim.Native.Nat.{ℕ, ◌+◌, ◌-◌, ◌≤◌}
 use native.Mathlib.Omega.{arith}
 use lib.Seq.{length-take-le}
 use lib.ListN.{get_or, drop, length-take, length-drop}
-use Rattle.packages.specs.ContractWords.{sum_of}
+use Rattle.std.specs.List.{sum}
+use Rattle.std.proofs.lemmas.List.Sums.{sum_by-take-le}
 use Rattle.packages.proofs.Lists as lists
 use Rattle.packages.proofs.State as state
 use Rattle.packages.proofs.join_packages.Goals.{After-total}
@@ -13,7 +14,7 @@ use Rattle.packages.proofs.join_packages.Goals as goal
 -- the part of the tests that the join changes
 spans : (c : After-total) → let ls =
     c.args.lengths.now in let b = get_or ls c.args.second 0 in
-    (c.total-from.result + (get_or ls c.args.first 0 + b) ≤ c.total.result + b) × (c.total.result + b ≤ sum_of ls)
+    (c.total-from.result + (get_or ls c.args.first 0 + b) ≤ c.total.result + b) × (c.total.result + b ≤ sum ls)
 spans c =
     let p = lists.sum_pair c.args.lengths.now c.args.first c.args.second c.requires.0 c.requires.1 in
     (omega (arith, p.0, c.total-from.ensures, c.total.ensures), omega (arith, p.1, c.total.ensures))
@@ -24,7 +25,7 @@ slice_bounds-total-end-2 c =
 
 pub total-from-requires : goal.total-from-requires
 total-from-requires c =
-    omega (arith, lists.sum_take c.args.lengths.now c.args.first (omega (arith, c.requires)), c.requires)
+    omega (arith, sum_by-take-le (λ x. x) c.args.lengths.now c.args.first, c.requires)
 
 pub slice_bounds-total-end-4 : goal.slice_bounds-total-end-4
 slice_bounds-total-end-4 c =
@@ -32,7 +33,7 @@ slice_bounds-total-end-4 c =
 
 pub total-requires : goal.total-requires
 total-requires c =
-    omega (arith, lists.sum_take c.args.lengths.now c.args.second (omega (arith, c.requires)), c.requires)
+    omega (arith, sum_by-take-le (λ x. x) c.args.lengths.now c.args.second, c.requires)
 
 pub overflow_add-to : goal.overflow_add-to
 overflow_add-to c = omega (arith, spans (goal.at.overflow_add-to c).After-total, c.requires)
@@ -73,5 +74,5 @@ returns c =
           state.laid_join laid i j c.requires.0 c.requires.1 (get_or ls i 0) b one.result (two.result + b) refl refl one.ensures
           (ap (λ (n : ℕ). n + b) two.ensures)
           c.args.flipping c.args.wants.now c.args.places jt.new.part _ _ jt.ensures refl c.join_entry.ensures;
-      sum = ap sum_of c.join_entry.ensures ∙ lists.sum_joined ls i j c.requires.0 c.requires.1;
+      sum = ap sum c.join_entry.ensures ∙ lists.sum_joined ls i j c.requires.0 c.requires.1;
     }

@@ -15,9 +15,6 @@ use Rattle.packages.proofs.Counts.{mapped_at, sizes_long, size_at, union_size_as
 use Rattle.packages.proofs.renew_before.Goals.{In-loop-row}
 use Rattle.packages.proofs.renew_before.Goals as goal
 
-pub loop-row-init : goal.loop-row-init
-loop-row-init c = record { turns = omega arith; long = refl; rest = λ k l. refl; done = λ cs n e k l. absurd (omega arith) }
-
 -- what the package of this row has in common with the joined one, and the sizes
 counted : (c : In-loop-row) → let a = c.args in
     get_or c.write_common.new.counts c.loop-row.row 0 ≡ shared a.curves.now (at c.loop-row.row a.first)
@@ -31,35 +28,11 @@ counted c =
     ∙ mapped_at f (take a.first cs) _ k (omega (arith, length-take-le a.first cs (omega (arith, c.requires.first_lt_second))))
     ∙ ap f (get_or-take a.first cs k 0 (omega arith)) ∙ ap size (and_comm (get_or cs a.first 0) (get_or cs k 0))
 
-pub slice_bounds-write_common-end : goal.slice_bounds-write_common-end
-slice_bounds-write_common-end c =
-    sym (length-take-le c.args.first c.args.curves.now (omega (arith, c.requires.first_lt_second)))
-
-pub write_common-requires : goal.write_common-requires
-write_common-requires c =
-    omega (arith, length-take-le c.args.first c.args.curves.now (omega (arith, c.requires.first_lt_second)), c.requires.first_lt_second, c.requires.sized.1)
-
-pub bounds-counts-row : goal.bounds-counts-row
-bounds-counts-row c =
-    omega (arith, c.write_common.auto.counts, c.requires.first_lt_second, c.requires.sized.1)
-
-pub bounds-sizes-row : goal.bounds-sizes-row
-bounds-sizes-row c =
-    omega (arith, sizes_long c.args.curves.now c.args.sizes.now c.requires.sized.2, c.requires.first_lt_second)
-
-pub bounds-sizes-first : goal.bounds-sizes-first
-bounds-sizes-first c =
-    omega (arith, sizes_long c.args.curves.now c.args.sizes.now c.requires.sized.2, c.requires.first_lt_second)
-
 pub union_size-requires : goal.union_size-requires
 union_size-requires c =
     let a = c.args in
     union_size_asks a.curves.now a.sizes.now c.requires.sized.2 (λ i. (c.type_inv.curves i).fits)
     c.loop-row.row a.first _ (counted (goal.at.union_size-requires c).In-loop-row)
-
-pub renewed-requires : goal.renewed-requires
-renewed-requires c =
-    (c.requires.first_lt_second.0, omega (arith, c.requires.first_lt_second, c.requires.sized.0))
 
 pub loop-row-preserved : goal.loop-row-preserved
 loop-row-preserved c =
@@ -73,7 +46,6 @@ loop-row-preserved c =
     let both = counted (goal.at.loop-row-preserved c).In-loop-row in
     let fit = ap (λ (n : ℕ). leb n a.bound) (c.union_size.ensures (get_or ds i 0) (get_or ds a.first 0) (ours i) (ours a.first) both) in
     record {
-      turns = omega arith;
       long = simp length-set v.long;
       rest = λ k l. get_or-set_other rs i k _ 0 (λ e. omega arith) ∙ v.rest k (omega arith);
       done = λ cs n e.
@@ -83,9 +55,3 @@ loop-row-preserved c =
           (c.renewed.ensures a.bound i cs ds (omega arith) c.requires.first_lt_second.1 n e fit both
           (subst (Rated (within a.bound) cs i) (sym (v.rest i (omega arith))) w)));
     }
-
-pub shape_of-ratings : goal.shape_of-ratings
-shape_of-ratings c = c.loop-row.invariant.long
-
-pub returns : goal.returns
-returns c = record { before = λ cs n e k l w. c.loop-row.invariant.done cs n e k (omega arith) w; behind = λ k l. c.loop-row.invariant.rest k (omega arith) }

@@ -1,0 +1,29 @@
+use mathlib.Core.Path.{refl, subst, sym}
+use native.Mathlib.Omega.{arith}
+use Rattle.std.proofs.Common.{rules}
+use Rattle.std.specs.Iterator.{AlwaysYields}
+use Rattle.packages.proofs.Runs as runs
+use Rattle.packages.proofs.longest_run.Goals as goal
+
+pub loop-test-init : goal.loop-test-init
+loop-test-init g c = (search rules, search rules, λ ts y. record { rest = ts; yields = y; goes = refl })
+
+pub returns-then-places-size : goal.returns-then-places-size
+returns-then-places-size g c = λ ts y.
+    runs.left_stop c.args.wants.now c.args.places ts c.loop-test.test-iterator c.loop-test.run c.in-Some.test c.next.new.self c.entry.result c.union-wider.result
+    c.in-Some.ensures.steps c.entry.ensures c.union-wider.ensures (omega (arith, c.size.ensures, c.if-places-size.true))
+    (c.loop-test.invariant.2 ts (rw c.into_iter-test-iterator.ensures.into_iter_gives y))
+
+pub loop-test-preserved : goal.loop-test-preserved
+loop-test-preserved g c = (
+  search rules,
+  search rules,
+  λ ts y.
+      runs.left_more c.args.wants.now c.args.places ts c.loop-test.test-iterator c.loop-test.run c.in-Some.test c.next.new.self c.entry.result c.union-wider.result
+      c.in-Some.ensures.steps c.entry.ensures c.union-wider.ensures (omega (arith, c.size.ensures, c.if-places-size.false)) (c.loop-test.invariant.2 ts y),
+)
+
+pub returns : goal.returns
+returns g c = λ ts y.
+    runs.left_none c.args.wants.now c.args.places ts c.loop-test.test-iterator c.loop-test.run c.next.new.self c.in-None.ensures.steps
+    (c.loop-test.invariant.2 ts (rw c.into_iter-test-iterator.ensures.into_iter_gives y))
