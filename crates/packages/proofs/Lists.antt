@@ -1,13 +1,11 @@
 -- Lists that the code of method 3 changes in place: a part that is lent, and sums of lengths.
-use mathlib.Core.Path.{◌≡◌, refl, sym, ap, ◌∙◌}
-use mathlib.Core.List.{List, [], ◌∷◌, ◌++◌, map, reverse, reverse-append, reverse-reverse, reverse-cons, append_assoc, append-nil}
+use mathlib.Core.Path.{◌≡◌, refl, ap, ◌∙◌}
+use mathlib.Core.List.{List, [], ◌∷◌, ◌++◌, map, append-nil}
 use Prim.Native.Nat.{ℕ, zero, suc, ◌+◌, ◌-◌, ◌≤◌, ◌<◌}
 use native.Mathlib.Omega.{arith}
-use native.Mathlib.Numerals.{add-one}
-use lib.ListN.{length, get_or, take, drop, set, length-append, length-take, length-drop, length-reverse, length-set, replicate, drop_of_length-le}
-use lib.ListN.{take-append-drop}
-use lib.Seq.{take_at, drop_at, set_at, get_or_at, take-suc, paste, paste-suc, paste-zero, length-paste, take-paste, take-take, take_all}
-use lib.Seq.{get_or-drop, get_or-append-add, get_or-take, get_or-set_other, set_split, split_at, length-take-le}
+use lib.ListN.{length, get_or, take, drop, set, length-append, length-drop, length-set, replicate, drop_of_length-le}
+use lib.Seq.{take-take, take_all}
+use lib.Seq.{get_or-take, get_or-set_other, split_at, length-take-le}
 use Rattle.std.specs.List.{sum}
 use Rattle.std.proofs.lemmas.List.Sums.{sum_by-append, sum_by-cons, sum_by-set}
 use Rattle.packages.specs.Packages.{flat}

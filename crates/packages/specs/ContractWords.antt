@@ -1,7 +1,9 @@
 -- Words that only the contracts of private functions cite: a reader of the public contracts need not believe them.
-use Rattle.std.specs.Prelude.{◌≡◌, Bool, true, cond, List, ◌++◌, map, reverse, ℕ, suc, ◌+◌, ◌-◌, ◌/◌, ◌%◌, ◌≤◌, ◌<◌, length, get_or, take, drop, set, leb, ltb, eqb}
+use Rattle.std.specs.Prelude.{◌≡◌, Bool, true, cond, List, ◌++◌, map, reverse, ℕ, suc, ◌+◌, ◌-◌, ◌≤◌, ◌<◌, length, get_or, take, drop, set, leb, ltb, eqb, Option, Some, None}
 use Rattle.bitset.specs.Set.{◌∪◌, size}
-use Rattle.lists.specs.Choice.{nobody, found, best_of}
+use Rattle.lists.specs.Choice.{Found, nobody, found, best_of}
+use Rattle.packages.specs.declared.PackagePair.{PackagePair}
+use Rattle.packages.specs.declared.Rating.{Rating}
 use Rattle.packages.specs.Packages.{Pair, shared, eligible, closer, flat, join_all, flipped}
 
 -- two places in the list of packages
@@ -41,26 +43,56 @@ pub record Laid (ps : List (List ℕ)) (rest tests lengths : List ℕ) : Type 0 
   pub all : tests ≡ flat ps ++ rest
   pub lens : lengths ≡ map length ps
 
--- ---- ratings: what the code keeps of each package, as one number: 256 times a score, plus the place of a partner
+-- ---- pairs and ratings: what the code keeps of each package
+
+-- the pair that the code names
+abbrev pub named : Option PackagePair → Found Pair
+named None = nobody
+named (Some p) = found (at p.first p.second)
+
+-- a package and its partner
+abbrev pub with_partner : ℕ → Option ℕ → Found Pair
+with_partner i None = nobody
+with_partner i (Some j) = found (at i j)
+
+-- one more than what the two have in common; 0 with no partner
+abbrev pub score_with : List ℕ → ℕ → Option ℕ → ℕ
+score_with cs i None = 0
+score_with cs i (Some j) = 1 + shared cs (at i j)
 
 -- whether a set has at most so many curves
 abbrev pub within : ℕ → ℕ → Bool
 within bound u = leb (size u) bound
 
 -- With the curves cs of the packages: what the rating r says of the package k. No pair of it and a package behind it that fits has as many common curves as
--- the score. A partner other than 0 is the best second package of such a pair, and the score is one more than what the two have in common.
-pub record Rated (fits : ℕ → Bool) (cs : List ℕ) (k r : ℕ) : Type 0 where
-  pub most : (j : ℕ) → k < j → j < length cs → fits (get_or cs k 0 ∪ get_or cs j 0) ≡ true → 1 + shared cs (at k j) ≤ r / 256
-  pub own : 0 < r % 256
-      → (best_of (eligible fits cs) (closer cs) (at k) (length cs) nobody ≡ found (at k (r % 256))) × (r / 256 ≡ 1 + shared cs (at k (r % 256)))
+-- the score. Its partner is the best second package of such a pair, and the score is one more than what the two have in common.
+pub record Rated (fits : ℕ → Bool) (cs : List ℕ) (k : ℕ) (r : Rating) : Type 0 where
+  pub most : (j : ℕ) → k < j → j < length cs → fits (get_or cs k 0 ∪ get_or cs j 0) ≡ true → 1 + shared cs (at k j) ≤ r.score
+  pub own : (j : ℕ) → r.partner ≡ Some j
+      → (best_of (eligible fits cs) (closer cs) (at k) (length cs) nobody ≡ found (at k j)) × (r.score ≡ 1 + shared cs (at k j))
+
+abbrev pub unrated : Rating
+unrated = record { score = 0; partner = None }
 
 -- the ratings rs of all packages
-abbrev pub AllRated : ℕ → List ℕ → List ℕ → Type 0
-AllRated bound cs rs = (k : ℕ) → k < length cs → Rated (within bound) cs k (get_or rs k 0)
+abbrev pub AllRated : ℕ → List ℕ → List Rating → Type 0
+AllRated bound cs rs = (k : ℕ) → k < length cs → Rated (within bound) cs k (get_or rs k unrated)
 
--- The rating r of another package after a join with the second package j, which is no partner any more; those behind it move up by one.
-abbrev pub moved_up : ℕ → ℕ → ℕ
-moved_up j r = cond (eqb (r % 256) j) (r - r % 256) (cond (ltb j (r % 256)) (r - 1) r)
+-- The rating of another package after a join with the second package j, which is no partner any more; those behind it move up by one.
+abbrev pub moved_partner : ℕ → Option ℕ → Option ℕ
+moved_partner j None = None
+moved_partner j (Some p) = cond (eqb p j) None (cond (ltb j p) (Some (p - 1)) (Some p))
+
+abbrev pub moved_up : ℕ → Rating → Rating
+moved_up j r = record { score = r.score; partner = moved_partner j r.partner }
+
+-- The same of a package before the joined one, which is no partner any more either.
+abbrev pub left_partner : PackagePair → Option ℕ → Option ℕ
+left_partner q None = None
+left_partner q (Some p) = cond (eqb p q.first) None (moved_partner q.second (Some p))
+
+abbrev pub left_of : PackagePair → Rating → Rating
+left_of q r = record { score = r.score; partner = left_partner q r.partner }
 
 -- beside the curves cs of at most 256 packages, their sizes, and a list that takes a count for each
 abbrev pub Sized : List ℕ → List ℕ → List ℕ → Type 0

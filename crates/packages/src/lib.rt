@@ -1,23 +1,29 @@
 #![tactic(auto)]
 // Method 3 of "Orders": packages with both rounds, heads, tails and flipping. The packages lie one behind the other in a list of tests. Beside it stand the
-// length of each package, its curves, how many these are, and its rating: 256 times its score, plus its partner. The partner is the package behind it that
-// would be the best second one of a pair with it, and the score is one more than the number of curves that the two have in common. A partner of 0 is none, or
-// not known yet: then no package behind it gives a higher score. What a package has in common with others is counted for all of them at once.
+// length of each package, its curves, how many these are, and its rating. What a package has in common with others is counted for all of them at once.
 ghost use Rattle.std.specs.Prelude.{◌≡◌, cond, List, ◌++◌, map, sum, reverse, ℕ, suc, ◌+◌, ◌-◌, ◌/◌, ◌%◌, ◌≤◌, ◌<◌, length, get_or, take, drop, ltb};
 ghost use Rattle.std.specs.Iterator.{AlwaysYields, IsFinite};
 ghost use Rattle.bitset.specs.Set.{◌∪◌, size};
 ghost use Rattle.job.specs.Refusal.{overwritten};
-ghost use Rattle.lists.specs.Choice.{nobody, keep, best_of};
+ghost use Rattle.lists.specs.Choice.{nobody, best_of};
 ghost use Rattle.packages.specs.Tests.{common, up_to, entered};
 ghost use Rattle.packages.specs.Packages.{shared, eligible, closer, best_pair, curves_of, joined, run_from, head, tail, flipped, packages};
 ghost use Rattle.packages.specs.ContractWords.{at, turned, joined_entry, joined_curves, join_by, round_of, Laid};
-ghost use Rattle.packages.specs.ContractWords.{within, Rated, AllRated, moved_up, Sized};
+ghost use Rattle.packages.specs.ContractWords.{within, with_partner, score_with, named, unrated, Rated, AllRated, moved_up, left_of, Sized};
 
 // Two places in the list of packages.
 #[derive(Clone, Copy)]
 pub struct PackagePair {
     pub first: usize,
     pub second: usize,
+}
+
+// What is known of a package: its partner, the package behind it that would be the best second one of a pair with it, and its score, one more than the number
+// of curves that the two have in common. With no partner, or where it is not known yet, no package behind it gives a higher score.
+#[derive(Clone, Copy)]
+pub struct Rating {
+    pub score: u16,
+    pub partner: Option<u16>,
 }
 
 // A way to join two packages: how many curves the parts that meet have in common, and which of the two packages are reversed.
@@ -27,6 +33,12 @@ pub struct Meeting {
     pub first: bool,
     pub second: bool,
 }
+
+// No partner, and no score.
+const UNRATED: Rating = Rating {
+    score: 0,
+    partner: None,
+};
 
 // How many curves two sets have in common.
 fn shared(a: u64, b: u64) -> usize
@@ -169,13 +181,13 @@ fn total(lengths: &[usize]) -> usize
     lengths.iter().sum()
 }
 
-// Sets one entry and takes another out; those behind it move up.
-fn join_entry<T: Copy>(xs: &mut [T], first: usize, second: usize, value: T)
-    requires { (first < length xs.old) × (second < length xs.old) }
-    ensures { take (length xs.old - 1) xs.new ≡ joined_entry xs.old first second value }
+// Sets the first's entry and takes the second's out; those behind it move up.
+fn join_entry<T: Copy>(xs: &mut [T], pair: PackagePair, value: T)
+    requires { (pair.first < length xs.old) × (pair.second < length xs.old) }
+    ensures { take (length xs.old - 1) xs.new ≡ joined_entry xs.old pair.first pair.second value }
 {
-    xs[first] = value;
-    xs.copy_within(second + 1.., second);
+    xs[pair.first] = value;
+    xs.copy_within(pair.second + 1.., pair.second);
 }
 
 // Writes how many curves a set has in common with each of the others.
@@ -204,33 +216,33 @@ fn union_size(a: usize, b: usize, both: u16) -> usize
     a + b - both as usize
 }
 
-// The rating of a package, whose partner gives "the pair with most common curves; ties to .. the earlier second package". 0 where no union is at most the
-// bound.
+// The rating of a package, whose partner gives "the pair with most common curves; ties to .. the earlier second package". It has none where no union is at
+// most the bound.
 fn best_partner(
     bound: usize,
     curves: &[u64],
     sizes: &[usize],
     counts: &mut [u16],
     first: usize,
-) -> u64
+) -> Rating
     requires { (first < length curves.now) × Sized curves.now sizes.now counts.old }
-    ensures partner { best_of (eligible (within bound) curves.now) (closer curves.now) (at first) (length curves.now) nobody
-        ≡ keep (ltb 0 (result % 256)) (at first (result % 256)) nobody }
-    ensures score { result / 256 ≡ cond (ltb 0 (result % 256)) (1 + common (get_or curves.now first 0) (get_or curves.now (result % 256) 0)) 0 }
+    ensures partner { best_of (eligible (within bound) curves.now) (closer curves.now) (at first) (length curves.now) nobody ≡ with_partner first result.partner }
+    ensures score { result.score ≡ score_with curves.now first result.partner }
 {
     count_behind(curves, counts, first);
-    let mut second: usize = 0;
-    let mut most: u16 = 0;
+    let mut best = UNRATED;
     for j in first + 1..curves.len() {
         let score = 1 + counts[j];
-        if most < score {
+        if best.score < score {
             if union_size(sizes[first], sizes[j], counts[j]) <= bound {
-                second = j;
-                most = score;
+                best = Rating {
+                    score,
+                    partner: Some(j as u16),
+                };
             }
         }
     }
-    most as u64 * 256 + second as u64
+    best
 }
 
 // The rating of each package.
@@ -239,7 +251,7 @@ fn best_partners(
     curves: &[u64],
     sizes: &[usize],
     counts: &mut [u16],
-    ratings: &mut [u64],
+    ratings: &mut [Rating],
 )
     requires { (length ratings.old ≡ length curves.now) × Sized curves.now sizes.now counts.old }
     ensures { AllRated bound curves.now ratings.new }
@@ -250,17 +262,16 @@ fn best_partners(
 }
 
 // The place of the highest score, "ties to the earlier first".
-fn highest(ratings: &[u64]) -> usize
-    ensures most { (k : ℕ) → get_or ratings.now k 0 / 256 ≤ get_or ratings.now result 0 / 256 }
-    ensures earliest { (k : ℕ) → k < result → get_or ratings.now k 0 / 256 < get_or ratings.now result 0 / 256 }
+fn highest(ratings: &[Rating]) -> usize
+    ensures most { (k : ℕ) → (get_or ratings.now k unrated).score ≤ (get_or ratings.now result unrated).score }
+    ensures earliest { (k : ℕ) → k < result → (get_or ratings.now k unrated).score < (get_or ratings.now result unrated).score }
 {
     let mut first: usize = 0;
-    let mut most: u64 = 0;
+    let mut most: u16 = 0;
     for (i, rating) in ratings.iter().enumerate() {
-        let count = *rating / 256;
-        if most < count {
+        if most < rating.score {
             first = i;
-            most = count;
+            most = rating.score;
         }
     }
     first
@@ -273,78 +284,96 @@ fn closest(
     curves: &[u64],
     sizes: &[usize],
     counts: &mut [u16],
-    ratings: &mut [u64],
-) -> PackagePair
+    ratings: &mut [Rating],
+) -> Option<PackagePair>
     requires ratings_len { (length ratings.old ≡ length curves.now) × Sized curves.now sizes.now counts.old }
     requires all_rated { AllRated bound curves.now ratings.old }
-    ensures pair { best_pair (within bound) curves.now (length curves.now) ≡ keep (ltb 0 result.second) (at result.first result.second) nobody }
+    ensures pair { best_pair (within bound) curves.now (length curves.now) ≡ named result }
     ensures rated { AllRated bound curves.now ratings.new }
 {
     loop {
         let first = highest(ratings);
-        let rating = lists::entry(ratings, first);
-        let second = (rating % 256) as usize;
-        if 0 < second {
-            return PackagePair { first, second };
+        let rating = *ratings.get(first)?;
+        if let Some(second) = rating.partner {
+            return Some(PackagePair {
+                first,
+                second: second as usize,
+            });
         }
-        if rating == 0 {
-            return PackagePair { first, second };
+        if rating.score == 0 {
+            return None;
         }
         ratings[first] = best_partner(bound, curves, sizes, counts, first);
     }
 }
 
-// The rating of another package after a join: the second package is no partner any more, and those behind it move up by one.
-fn moved(second: usize, rating: u64) -> u64
-    ensures { result ≡ moved_up second rating }
-{
-    let partner = (rating % 256) as usize;
-    if partner == second {
-        return rating - rating % 256;
+impl Rating {
+    // The rating of another package after a join: the second package is no partner any more, and those behind it move up by one.
+    fn moved(self, second: usize) -> Rating
+        ensures { result ≡ moved_up second self }
+    {
+        let partner = match self.partner {
+            Some(partner) if partner as usize == second => None,
+            Some(partner) if second < partner as usize => Some(partner - 1),
+            kept => kept,
+        };
+        Rating {
+            score: self.score,
+            partner,
+        }
     }
-    if second < partner { rating - 1 } else { rating }
+
+    // The rating of a package before the joined one. The joined one is no partner any more.
+    fn left(self, pair: PackagePair) -> Rating
+        ensures { result ≡ left_of pair self }
+    {
+        match self.partner {
+            Some(partner) if partner as usize == pair.first => Rating {
+                score: self.score,
+                partner: None,
+            },
+            _ => self.moved(pair.second),
+        }
+    }
+
+    // The rating of a package before the joined one, by what the two have in common. The joined one may be its partner, where it fits: with a higher score than
+    // before, or with the same as a partner behind it.
+    fn renewed(self, fits: bool, both: u16, pair: PackagePair) -> Rating
+        requires { (pair.first < pair.second) × (pair.first < 256) × (both ≤ 64) }
+        ensures { (bound row : ℕ) (cs ds : List ℕ) → row < pair.first → pair.second ≤ length ds → length cs ≡ suc (length ds)
+            → ds ≡ joined_curves cs pair.first pair.second → fits ≡ within bound (get_or ds row 0 ∪ get_or ds pair.first 0) → both ≡ shared ds (at row pair.first)
+            → Rated (within bound) cs row self → Rated (within bound) ds row result }
+    {
+        let kept = self.left(pair);
+        if !fits {
+            return kept;
+        }
+        let joined = Rating {
+            score: 1 + both,
+            partner: Some(pair.first as u16),
+        };
+        if kept.score < joined.score {
+            return joined;
+        }
+        if joined.score < kept.score {
+            return kept;
+        }
+        match kept.partner {
+            Some(partner) if pair.first < partner as usize => joined,
+            _ => kept,
+        }
+    }
 }
 
 // The ratings of the packages behind the joined one.
-fn renew_behind(ratings: &mut [u64], first: usize, second: usize)
-    requires { first < length ratings.old }
-    ensures behind { (k : ℕ) → first < k → k < length ratings.old
-        → get_or ratings.new k 0 ≡ moved_up second (get_or ratings.old k 0) }
-    ensures before { (k : ℕ) → k ≤ first → get_or ratings.new k 0 ≡ get_or ratings.old k 0 }
+fn renew_behind(ratings: &mut [Rating], pair: PackagePair)
+    requires { pair.first < length ratings.old }
+    ensures behind { (k : ℕ) → pair.first < k → k < length ratings.old
+        → get_or ratings.new k unrated ≡ moved_up pair.second (get_or ratings.old k unrated) }
+    ensures before { (k : ℕ) → k ≤ pair.first → get_or ratings.new k unrated ≡ get_or ratings.old k unrated }
 {
-    for rating in ratings[first + 1..].iter_mut() {
-        *rating = moved(second, *rating);
-    }
-}
-
-// The rating of a package before the joined one, by what the two have in common. The joined one may be its partner, where it fits: with a higher score than
-// before, or with the same as a partner behind it.
-fn renewed(fits: bool, both: u16, first: usize, second: usize, rating: u64) -> u64
-    requires { (first < second) × (first < 256) }
-    ensures { (bound row : ℕ) (cs ds : List ℕ) → row < first → second ≤ length ds → length cs ≡ suc (length ds)
-        → ds ≡ joined_curves cs first second → fits ≡ within bound (get_or ds row 0 ∪ get_or ds first 0) → both ≡ shared ds (at row first)
-        → Rated (within bound) cs row rating → Rated (within bound) ds row result }
-{
-    let kept = if (rating % 256) as usize == first {
-        rating - rating % 256
-    } else {
-        moved(second, rating)
-    };
-    if !fits {
-        return kept;
-    }
-    let count = 1 + both as u64;
-    let joined = count * 256 + first as u64;
-    if kept / 256 < count {
-        return joined;
-    }
-    if count < kept / 256 {
-        return kept;
-    }
-    if first < (kept % 256) as usize {
-        joined
-    } else {
-        kept
+    for rating in ratings[pair.first + 1..].iter_mut() {
+        *rating = rating.moved(pair.second);
     }
 }
 
@@ -354,23 +383,22 @@ fn renew_before(
     curves: &[u64],
     sizes: &[usize],
     counts: &mut [u16],
-    ratings: &mut [u64],
-    first: usize,
-    second: usize,
+    ratings: &mut [Rating],
+    pair: PackagePair,
 )
-    requires first_lt_second { (first < second) × (second ≤ length curves.now) × (length ratings.old ≡ suc (length curves.now)) }
+    requires first_lt_second { (pair.first < pair.second) × (pair.second ≤ length curves.now) × (length ratings.old ≡ suc (length curves.now)) }
     requires sized { Sized curves.now sizes.now counts.old }
     ensures before { (cs : List ℕ) → length cs ≡ suc (length curves.now)
-        → curves.now ≡ joined_curves cs first second
-        → (k : ℕ) → k < first → Rated (within bound) cs k (get_or ratings.old k 0)
-        → Rated (within bound) curves.now k (get_or ratings.new k 0) }
-    ensures behind { (k : ℕ) → first ≤ k → get_or ratings.new k 0 ≡ get_or ratings.old k 0 }
+        → curves.now ≡ joined_curves cs pair.first pair.second
+        → (k : ℕ) → k < pair.first → Rated (within bound) cs k (get_or ratings.old k unrated)
+        → Rated (within bound) curves.now k (get_or ratings.new k unrated) }
+    ensures behind { (k : ℕ) → pair.first ≤ k → get_or ratings.new k unrated ≡ get_or ratings.old k unrated }
 {
-    write_common(curves[first], &curves[..first], counts);
-    for row in 0..first {
+    write_common(curves[pair.first], &curves[..pair.first], counts);
+    for row in 0..pair.first {
         let both = counts[row];
-        let fits = union_size(sizes[row], sizes[first], both) <= bound;
-        ratings[row] = renewed(fits, both, first, second, ratings[row]);
+        let fits = union_size(sizes[row], sizes[pair.first], both) <= bound;
+        ratings[row] = ratings[row].renewed(fits, both, pair);
     }
 }
 
@@ -380,20 +408,19 @@ fn renew_ratings(
     curves: &[u64],
     sizes: &[usize],
     counts: &mut [u16],
-    ratings: &mut [u64],
-    first: usize,
-    second: usize,
+    ratings: &mut [Rating],
+    pair: PackagePair,
 )
-    requires first_lt_second { (first < second) × (second ≤ length curves.now) × (length ratings.old ≡ suc (length curves.now)) }
+    requires first_lt_second { (pair.first < pair.second) × (pair.second ≤ length curves.now) × (length ratings.old ≡ suc (length curves.now)) }
     requires sized { Sized curves.now sizes.now counts.old }
     ensures { (cs : List ℕ) → length cs ≡ suc (length curves.now)
-        → curves.now ≡ joined_curves cs first second
+        → curves.now ≡ joined_curves cs pair.first pair.second
         → AllRated bound cs ratings.old → AllRated bound curves.now ratings.new }
 {
-    let own = best_partner(bound, curves, sizes, counts, first);
-    join_entry(ratings, first, second, own);
-    renew_before(bound, curves, sizes, counts, ratings, first, second);
-    renew_behind(ratings, first, second);
+    let own = best_partner(bound, curves, sizes, counts, pair.first);
+    join_entry(ratings, pair, own);
+    renew_before(bound, curves, sizes, counts, ratings, pair);
+    renew_behind(ratings, pair);
 }
 
 // Joins the curves of two packages; the sizes and the ratings after it.
@@ -402,29 +429,27 @@ fn join_curves(
     curves: &mut [u64],
     sizes: &mut [usize],
     counts: &mut [u16],
-    ratings: &mut [u64],
-    first: usize,
-    second: usize,
+    ratings: &mut [Rating],
+    pair: PackagePair,
 )
-    requires first_lt_second { (first < second) × (second < length curves.old) × (length ratings.old ≡ length curves.old) }
+    requires first_lt_second { (pair.first < pair.second) × (pair.second < length curves.old) × (length ratings.old ≡ length curves.old) }
     requires sized_2 { Sized curves.old sizes.old counts.old }
     requires all_rated { AllRated bound curves.old ratings.old }
-    ensures sets { take (length curves.old - 1) curves.new ≡ joined_curves curves.old first second }
+    ensures sets { take (length curves.old - 1) curves.new ≡ joined_curves curves.old pair.first pair.second }
     ensures sized { take (length curves.old - 1) sizes.new ≡ map size (take (length curves.old - 1) curves.new) }
     ensures rated { AllRated bound (take (length curves.old - 1) curves.new) ratings.new }
 {
     let left = curves.len() - 1;
-    let joined = bitset::union(curves[first], curves[second]);
-    join_entry(curves, first, second, joined);
-    join_entry(sizes, first, second, bitset::size(joined));
+    let joined = bitset::union(curves[pair.first], curves[pair.second]);
+    join_entry(curves, pair, joined);
+    join_entry(sizes, pair, bitset::size(joined));
     renew_ratings(
         bound,
         &curves[..left],
         &sizes[..left],
         counts,
         ratings,
-        first,
-        second,
+        pair,
     );
 }
 
@@ -480,20 +505,19 @@ fn join_packages(
     places: usize,
     order: &mut [u16],
     lengths: &mut [usize],
-    first: usize,
-    second: usize,
+    pair: PackagePair,
 )
-    requires { (first < second) × (second < length lengths.old) × (sum lengths.old ≤ 256) × (sum lengths.old ≤ length order.old) }
+    requires { (pair.first < pair.second) × (pair.second < length lengths.old) × (sum lengths.old ≤ 256) × (sum lengths.old ≤ length order.old) }
     ensures joined { (ps : List (List ℕ)) (rest : List ℕ) → Laid ps rest order.old lengths.old
-        → Laid (joined (join_by flipping wants.now places) ps (at first second)) rest order.new (take (length lengths.old - 1) lengths.new) }
+        → Laid (joined (join_by flipping wants.now places) ps (at pair.first pair.second)) rest order.new (take (length lengths.old - 1) lengths.new) }
     ensures sum { sum (take (length lengths.old - 1) lengths.new) ≡ sum lengths.old }
 {
-    let a = lengths[first];
-    let b = lengths[second];
-    let from = total(&lengths[..first]);
-    let to = total(&lengths[..second]) + b;
+    let a = lengths[pair.first];
+    let b = lengths[pair.second];
+    let from = total(&lengths[..pair.first]);
+    let to = total(&lengths[..pair.second]) + b;
     join_tests(flipping, wants, places, &mut order[from..to], a, b);
-    join_entry(lengths, first, second, a + b);
+    join_entry(lengths, pair, a + b);
 }
 
 // The bound of a pair's union: in the first round the places, in the second none, as a union of sets of 64 curves is always at most 64.
@@ -523,7 +547,7 @@ fn join_all(
     let mut left = lengths.len();
     let mut sizes = sizes_of(curves);
     let mut counts = [0u16; 256];
-    let mut ratings = [0u64; 256];
+    let mut ratings = [UNRATED; 256];
     best_partners(
         bound,
         curves,
@@ -531,39 +555,25 @@ fn join_all(
         &mut counts,
         &mut ratings[..left],
     );
-    loop {
-        let pair = closest(
-            bound,
-            &curves[..left],
-            &sizes[..left],
-            &mut counts,
-            &mut ratings[..left],
-        );
-        let first = pair.first;
-        let second = pair.second;
-        if second == 0 {
-            return left;
-        }
-        join_packages(
-            flipping,
-            wants,
-            places,
-            order,
-            &mut lengths[..left],
-            first,
-            second,
-        );
+    while let Some(pair) = closest(
+        bound,
+        &curves[..left],
+        &sizes[..left],
+        &mut counts,
+        &mut ratings[..left],
+    ) {
+        join_packages(flipping, wants, places, order, &mut lengths[..left], pair);
         join_curves(
             bound,
             &mut curves[..left],
             &mut sizes[..left],
             &mut counts,
             &mut ratings[..left],
-            first,
-            second,
+            pair,
         );
         left -= 1;
     }
+    left
 }
 
 // Method 3: "Each test begins as a package, in list order", and then the two rounds.

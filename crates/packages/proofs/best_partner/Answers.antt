@@ -1,15 +1,16 @@
 use mathlib.Core.Path.{◌≡◌, sym, ap, ◌∙◌}
 use mathlib.Core.Bool.{true, false}
-use Prim.Native.Nat.{ℕ, ◌≤◌, ◌<◌, ◌+◌, ◌*◌, ◌/◌, ◌%◌}
+use Prim.Native.Nat.{ℕ, ◌≤◌, ◌<◌, ◌+◌}
 use native.Mathlib.Omega.{arith}
+use Rattle.std.proofs.Common.{Some}
 use lib.ListN.{length, get_or}
 use borrow.Author.Tests.{le-leb, lt-leb}
 use Rattle.bitset.specs.Set.{◌∪◌, size}
 use Rattle.packages.specs.Packages.{shared}
 use Rattle.packages.specs.ContractWords.{at, within}
 use Rattle.packages.proofs.Rows as rows
-use Rattle.packages.proofs.Counts.{sizes_long, size_at, union_size_asks}
-use Rattle.packages.proofs.best_partner.Goals.{In-loop-j, then-most-score+then-union_size-bound, then-most-score+else-union_size-bound, else-most-score}
+use Rattle.packages.proofs.Counts.{size_at, union_size_asks}
+use Rattle.packages.proofs.best_partner.Goals.{In-loop-j, then-best-score+then-union_size-bound, then-best-score+else-union_size-bound, else-best-score}
 use Rattle.packages.proofs.best_partner.Goals as goal
 
 pub loop-j-init : goal.loop-j-init
@@ -19,7 +20,7 @@ loop-j-init c =
       row = rows.row_start (within a.bound) a.curves.now a.first;
       count = sym (rows.score_none a.curves.now a.first);
       few = omega arith;
-      low = omega arith;
+      behind = λ j z. cc;
     }
 
 -- what the two have in common, and the sizes
@@ -44,37 +45,34 @@ loop-j-preserved c =
     let fits = within a.bound in
     let i = a.first in
     let j = c.loop-j.j in
+    let q = rows.place c.loop-j.best.partner in
+    let most = c.loop-j.best.score in
     let v = c.loop-j.invariant in
     let e = counted (goal.at.loop-j-preserved c).In-loop-j in
     let h = asks (goal.at.loop-j-preserved c).In-loop-j in
     let ours = size_at cs a.sizes.now c.requires.1.2 in
-    elim c.if-most-score.branch [
-      | then-most-score+then-union_size-bound w ↦
+    elim c.if-best-score.branch [
+      | then-best-score+then-union_size-bound w ↦
           let f : fits (get_or cs i 0 ∪ get_or cs j 0) ≡ true =
           le-leb (size (get_or cs i 0 ∪ get_or cs j 0)) a.bound
           (omega (arith, w.if-union_size-bound.true, w.union_size.ensures (get_or cs i 0) (get_or cs j 0) (ours i) (ours j) e)) in
-          record {
-            row = rw w.second-is (rows.row_take fits cs i j c.loop-j.second c.loop-j.most v.row (omega arith) v.count (omega (arith, e, w.if-most-score.true)) f);
-            count = rw (w.second-is, w.most-is) (ap (λ (n : ℕ). 1 + n) e ∙ sym (rows.score_some cs i j (omega arith)));
-            few = omega (arith, w.most-is, h.0, h.2);
-            low = omega (arith, w.second-is);
+          rw w.best-is record {
+            row = rows.row_take fits cs i j q most v.row (omega arith) v.count (omega (arith, e, w.if-best-score.true)) f;
+            count = ap (λ (n : ℕ). 1 + n) e ∙ sym (rows.score_some cs i j (omega arith));
+            few = omega (arith, h.0, h.2);
+            behind = λ n z. omega (arith, ap rows.place z);
           }
-      | then-most-score+else-union_size-bound w ↦
+      | then-best-score+else-union_size-bound w ↦
           let f : fits (get_or cs i 0 ∪ get_or cs j 0) ≡ false =
           lt-leb (size (get_or cs i 0 ∪ get_or cs j 0)) a.bound
           (omega (arith, w.if-union_size-bound.false, w.union_size.ensures (get_or cs i 0) (get_or cs j 0) (ours i) (ours j) e)) in
-          record {
-            row = rw w.second-is (rows.row_pass fits cs i j c.loop-j.second c.loop-j.most v.row f);
-            count = rw (w.second-is, w.most-is) v.count;
-            few = omega (arith, w.most-is, v.few);
-            low = omega (arith, w.second-is, v.low);
-          }
-      | else-most-score w ↦
-          record {
-            row = rw w.second-is (rows.row_keep fits cs i j c.loop-j.second c.loop-j.most v.row v.count (omega (arith, e, w.if-most-score.false)));
-            count = rw (w.second-is, w.most-is) v.count;
-            few = omega (arith, w.most-is, v.few);
-            low = omega (arith, w.second-is, v.low);
+          rw w.best-is record { row = rows.row_pass fits cs i j q most v.row f; count = v.count; few = v.few; behind = v.behind }
+      | else-best-score w ↦
+          rw w.best-is record {
+            row = rows.row_keep fits cs i j q most v.row v.count (omega (arith, e, w.if-best-score.false));
+            count = v.count;
+            few = v.few;
+            behind = v.behind;
           }
     ]
 
@@ -82,11 +80,10 @@ pub returns : goal.returns
 returns c =
     let a = c.args in
     let v = c.loop-j.invariant in
+    let p = c.loop-j.best.partner in
     let e : length a.curves.now ≡ c.loop-j.j = omega (arith, c.requires.0) in
-    let low : c.loop-j.second < 256 = omega (arith, v.low, c.requires) in
-    let p : (c.loop-j.most * 256 + c.loop-j.second) % 256 ≡ c.loop-j.second = omega (arith, low) in
-    let d : (c.loop-j.most * 256 + c.loop-j.second) / 256 ≡ c.loop-j.most = omega (arith, low) in
+    let pos : (j : ℕ) → p ≡ Some j → 0 < j = λ j z. omega (arith, v.behind j z) in
     record {
-      partner = rw e v.row ∙ ap (rows.chosen a.first) (sym p);
-      score = d ∙ v.count ∙ ap (rows.score a.curves.now a.first) (sym p) ∙ sym (rows.score_as a.curves.now a.first _);
+      partner = rw e v.row ∙ sym (rows.with_place a.first p pos);
+      score = v.count ∙ sym (rows.score_place a.curves.now a.first p pos);
     }

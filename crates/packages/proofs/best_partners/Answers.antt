@@ -1,11 +1,10 @@
-use mathlib.Core.Path.{refl, sym, subst, ◌∙◌}
-use Prim.Native.Nat.{◌<◌, ◌%◌}
+use mathlib.Core.Path.{sym, subst, ◌∙◌}
+use Prim.Native.Nat.{◌<◌}
 use native.Mathlib.Omega.{arith}
 use lib.Seq.{get_or-set_same, get_or-set_other}
 use lib.ListN.{length, length-set}
 use borrow.Author.Count.{below_more}
-use Rattle.packages.specs.ContractWords.{within, Rated}
-use Rattle.packages.proofs.Rows as rows
+use Rattle.packages.specs.ContractWords.{within, unrated, Rated}
 use Rattle.packages.proofs.Renew.{row_rated}
 use Rattle.packages.proofs.best_partners.Goals as goal
 
@@ -21,7 +20,7 @@ loop-k-preserved c =
       room = b.auto.counts ∙ v.room;
       long = simp length-set v.long;
       done = below_more _ i
-          (λ x h. subst (Rated fits cs x) (sym (get_or-set_other c.loop-k.ratings i x _ 0 (λ e. omega arith))) (v.done x h))
-          (subst (Rated fits cs i) (sym (get_or-set_same c.loop-k.ratings i _ 0 long))
-          (row_rated fits cs i b.result (omega arith) b.ensures.partner (b.ensures.score ∙ rows.score_as cs i (b.result % 256))));
+          (λ x h. subst (Rated fits cs x) (sym (get_or-set_other c.loop-k.ratings i x _ unrated (λ e. omega arith))) (v.done x h))
+          (subst (Rated fits cs i) (sym (get_or-set_same c.loop-k.ratings i _ unrated long))
+          (row_rated fits cs i b.result (omega arith) b.ensures.partner b.ensures.score));
     }

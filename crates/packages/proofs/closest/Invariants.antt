@@ -5,12 +5,12 @@ use Rattle.packages.specs.ContractWords.{AllRated}
 use Rattle.packages.proofs.Ratings.{weights}
 use Rattle.packages.proofs.closest.Given as goal
 
-abbrev pub invariant-loop-bound : goal.invariant-loop-bound
-invariant-loop-bound l = record {
+abbrev pub invariant-loop-rating : goal.invariant-loop-rating
+invariant-loop-rating l = record {
   room : length l.counts ≡ length l.initial.counts;
   long : length l.ratings ≡ length l.initial.ratings;
   rated : AllRated l.bound l.curves l.ratings;
 }
 
-abbrev pub decreases-loop-bound : goal.decreases-loop-bound
-decreases-loop-bound l = weights l.ratings
+abbrev pub decreases-loop-rating : goal.decreases-loop-rating
+decreases-loop-rating l = weights l.ratings

@@ -1,5 +1,4 @@
 -- `packages::head` meets its contract: the run over the tests from the front.
-use Rattle.std.proofs.Common.{rules}
 use Rattle.std.proofs.lemmas.Iterator.{YieldsList-from_slice}
 use Rattle.packages.proofs.head.Goals as goal
 

@@ -11,8 +11,8 @@ use Rattle.packages.specs.ContractWords.{Laid, AllRated}
 use Rattle.packages.proofs.State as state
 use Rattle.packages.proofs.join_all.Given as goal
 
-abbrev pub invariant-loop-sizes : goal.invariant-loop-sizes
-invariant-loop-sizes l = record {
+abbrev pub invariant-loop-pair : goal.invariant-loop-pair
+invariant-loop-pair l = record {
   few : l.left ≤ length l.initial.lengths;
   long_order : length l.order ≡ length l.initial.order;
   long_lengths : length l.lengths ≡ length l.initial.lengths;
@@ -27,5 +27,5 @@ invariant-loop-sizes l = record {
       → state.Left l.flipping l.wants l.places ps rest l.order (take l.left l.lengths) (take l.left l.curves);
 }
 
-abbrev pub decreases-loop-sizes : goal.decreases-loop-sizes
-decreases-loop-sizes l = l.left
+abbrev pub decreases-loop-pair : goal.decreases-loop-pair
+decreases-loop-pair l = l.left

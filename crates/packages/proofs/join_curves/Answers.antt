@@ -19,16 +19,16 @@ module _ (c : After-join_entry-2) where
   abbrev sets : List ℕ
   sets = take left c.join_entry.new.xs
 
-  made : let a = c.args in sets ≡ joined_curves a.curves.now a.first a.second
+  made : let a = c.args in sets ≡ joined_curves a.curves.now a.pair.first a.pair.second
   made =
       let a = c.args in
-      c.join_entry.ensures ∙ ap (joined_entry a.curves.now a.first a.second) c.union-joined.ensures
+      c.join_entry.ensures ∙ ap (joined_entry a.curves.now a.pair.first a.pair.second) c.union-joined.ensures
 
   sized : take left c.join_entry-2.new.xs ≡ map size sets
   sized =
       let a = c.args in
       let j = c.join_entry-2 in
-      sizes_joined a.curves.now a.sizes.now c.requires.sized_2.2 a.first a.second _ _ sets j.new.xs
+      sizes_joined a.curves.now a.sizes.now c.requires.sized_2.2 a.pair.first a.pair.second _ _ sets j.new.xs
       c.size.ensures c.join_entry.ensures j.ensures
 
   long : length sets ≡ left

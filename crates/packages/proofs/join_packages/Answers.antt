@@ -13,27 +13,27 @@ use Rattle.packages.proofs.join_packages.Goals as goal
 
 -- the part of the tests that the join changes
 spans : (c : After-total) → let ls =
-    c.args.lengths.now in let b = get_or ls c.args.second 0 in
-    (c.total-from.result + (get_or ls c.args.first 0 + b) ≤ c.total.result + b) × (c.total.result + b ≤ sum ls)
+    c.args.lengths.now in let b = get_or ls c.args.pair.second 0 in
+    (c.total-from.result + (get_or ls c.args.pair.first 0 + b) ≤ c.total.result + b) × (c.total.result + b ≤ sum ls)
 spans c =
-    let p = lists.sum_pair c.args.lengths.now c.args.first c.args.second c.requires.0 c.requires.1 in
+    let p = lists.sum_pair c.args.lengths.now c.args.pair.first c.args.pair.second c.requires.0 c.requires.1 in
     (omega (arith, p.0, c.total-from.ensures, c.total.ensures), omega (arith, p.1, c.total.ensures))
 
 pub slice_bounds-total-end-2 : goal.slice_bounds-total-end-2
 slice_bounds-total-end-2 c =
-    sym (length-take-le c.args.first c.args.lengths.now (omega (arith, c.requires)))
+    sym (length-take-le c.args.pair.first c.args.lengths.now (omega (arith, c.requires)))
 
 pub total-from-requires : goal.total-from-requires
 total-from-requires c =
-    omega (arith, sum_by-take-le (λ x. x) c.args.lengths.now c.args.first, c.requires)
+    omega (arith, sum_by-take-le (λ x. x) c.args.lengths.now c.args.pair.first, c.requires)
 
 pub slice_bounds-total-end-4 : goal.slice_bounds-total-end-4
 slice_bounds-total-end-4 c =
-    sym (length-take-le c.args.second c.args.lengths.now (omega (arith, c.requires)))
+    sym (length-take-le c.args.pair.second c.args.lengths.now (omega (arith, c.requires)))
 
 pub total-requires : goal.total-requires
 total-requires c =
-    omega (arith, sum_by-take-le (λ x. x) c.args.lengths.now c.args.second, c.requires)
+    omega (arith, sum_by-take-le (λ x. x) c.args.lengths.now c.args.pair.second, c.requires)
 
 pub overflow_add-to : goal.overflow_add-to
 overflow_add-to c = omega (arith, spans (goal.at.overflow_add-to c).After-total, c.requires)
@@ -53,7 +53,7 @@ slice_bounds-join_tests-end c = omega (arith, spans (goal.at.slice_bounds-join_t
 pub join_tests-requires : goal.join_tests-requires
 join_tests-requires c =
     let from = c.total-from.result in
-    let to = c.total.result + get_or c.args.lengths.now c.args.second 0 in
+    let to = c.total.result + get_or c.args.lengths.now c.args.pair.second 0 in
     let part = length-take (to - from) (drop from c.args.order.now) in
     omega (arith, spans (goal.at.join_tests-requires c).After-total, part, length-drop from c.args.order.now, c.requires)
 
@@ -63,8 +63,8 @@ overflow_add-a c =
 
 pub returns : goal.returns
 returns c =
-    let i = c.args.first in
-    let j = c.args.second in
+    let i = c.args.pair.first in
+    let j = c.args.pair.second in
     let ls = c.args.lengths.now in
     let one = c.total-from in
     let two = c.total in

@@ -1,7 +1,6 @@
-use mathlib.Core.Path.{refl, subst, sym}
+use mathlib.Core.Path.{refl}
 use native.Mathlib.Omega.{arith}
 use Rattle.std.proofs.Common.{rules}
-use Rattle.std.specs.Iterator.{AlwaysYields}
 use Rattle.packages.proofs.Runs as runs
 use Rattle.packages.proofs.longest_run.Goals as goal
 

@@ -3,13 +3,13 @@ use mathlib.Core.Path.{◌≡◌}
 use mathlib.Core.List.{List}
 use Prim.Native.Nat.{ℕ, suc, ◌≤◌, ◌<◌}
 use lib.ListN.{length, get_or}
-use Rattle.packages.specs.ContractWords.{within, joined_curves, Rated}
+use Rattle.packages.specs.ContractWords.{within, joined_curves, unrated, Rated}
 use Rattle.packages.proofs.renew_before.Given as goal
 
 abbrev pub invariant-loop-row : goal.invariant-loop-row
 invariant-loop-row l = record {
   long : length l.ratings ≡ length l.initial.ratings;
-  rest : (k : ℕ) → l.row ≤ k → get_or l.ratings k 0 ≡ get_or l.initial.ratings k 0;
-  done : (cs : List ℕ) → length cs ≡ suc (length l.curves) → l.curves ≡ joined_curves cs l.first l.second
-      → (k : ℕ) → k < l.row → Rated (within l.bound) cs k (get_or l.initial.ratings k 0) → Rated (within l.bound) l.curves k (get_or l.ratings k 0);
+  rest : (k : ℕ) → l.row ≤ k → get_or l.ratings k unrated ≡ get_or l.initial.ratings k unrated;
+  done : (cs : List ℕ) → length cs ≡ suc (length l.curves) → l.curves ≡ joined_curves cs l.pair.first l.pair.second
+      → (k : ℕ) → k < l.row → Rated (within l.bound) cs k (get_or l.initial.ratings k unrated) → Rated (within l.bound) l.curves k (get_or l.ratings k unrated);
 }
