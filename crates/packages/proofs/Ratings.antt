@@ -1,18 +1,17 @@
 -- The closest pair by the ratings: it is that of the highest score, where its partner is known. A partner that is looked for anew makes the ratings lighter.
-use mathlib.Core.Path.{◌≡◌, refl, sym, ap, ◌∙◌}
+use mathlib.Core.Path.{◌≡◌, sym, ap, ◌∙◌}
 use mathlib.Core.Bool.{Bool}
 use mathlib.Core.List.{List, [], ◌∷◌}
 use Prim.Native.Nat.{ℕ, zero, suc, ◌+◌, ◌-◌, ◌≤◌, ◌<◌}
 use native.Mathlib.Omega.{arith}
-use native.Mathlib.Decide.{dec_lt}
+use native.Mathlib.Decide.{dec_lt, ℕ_discrete}
 use lib.ListN.{length, get_or, set}
-use Rattle.std.proofs.Common.{Option, Some, None}
 use Rattle.lists.specs.Choice.{nobody, found}
 use Rattle.packages.specs.Packages.{best_pair}
 use Rattle.packages.specs.ContractWords.{at, unrated, Rated}
 use Rattle.packages.specs.declared.Rating.{Rating}
 use Rattle.packages.proofs.Rows.{chosen, chosen_none, chosen_some, score, score_none, score_some, row_to, pair_start, pair_take, pair_stay}
-use Rattle.packages.proofs.Renew.{row_found, row_behind, rated_score}
+use Rattle.packages.proofs.Renew.{row_found, rated_score}
 
 none_by_score : (cs : List ℕ) (a b : ℕ) → score cs a b ≡ 0 → chosen a b ≡ nobody
 none_by_score cs a zero e = chosen_none a
@@ -46,42 +45,36 @@ module _ (fits : ℕ → Bool) (cs : List ℕ) (rs : List Rating) (rated : (k : 
   -- f is the first row with the highest score, and its partner is known
   module _ (f : ℕ) (within : f < length cs) (most : (k : ℕ) → (get_or rs k unrated).score ≤ (get_or rs f unrated).score)
       (earliest : (k : ℕ) → k < f → (get_or rs k unrated).score < (get_or rs f unrated).score)
-      (s : ℕ) (known : (get_or rs f unrated).partner ≡ Some s) where
-    pos : 0 < s
-    pos = omega (arith, row_behind fits cs f within s ((rated f within).own s known).0)
+      (known : 0 < (get_or rs f unrated).partner) where
+    row : row_to fits cs f (length cs) ≡ chosen f ((get_or rs f unrated).partner)
+    row = ((rated f within).own known).0 ∙ sym (chosen_some f ((get_or rs f unrated).partner) known)
 
-    row : row_to fits cs f (length cs) ≡ chosen f s
-    row = ((rated f within).own s known).0 ∙ sym (chosen_some f s pos)
+    count : (get_or rs f unrated).score ≡ score cs f ((get_or rs f unrated).partner)
+    count = ((rated f within).own known).1 ∙ sym (score_some cs f ((get_or rs f unrated).partner) known)
 
-    count : (get_or rs f unrated).score ≡ score cs f s
-    count = ((rated f within).own s known).1 ∙ sym (score_some cs f s pos)
+    positive : 0 < (get_or rs f unrated).score
+    positive = omega (arith, count, score_some cs f ((get_or rs f unrated).partner) known)
 
-    rest : (d : ℕ) → f + suc d ≤ length cs → best_pair fits cs (f + suc d) ≡ chosen f s
+    rest : (d : ℕ) → f + suc d ≤ length cs → best_pair fits cs (f + suc d) ≡ chosen f ((get_or rs f unrated).partner)
     rest zero l =
-        let p = low (get_or rs f unrated).score (omega (arith, count, score_some cs f s pos)) f (omega arith) earliest in
+        let p = low ((get_or rs f unrated).score) positive f (omega arith) earliest in
         let e : f + 1 ≡ suc f = omega arith in
-        rw e (pair_take fits cs f s p.0 p.1 p.2 row (omega (arith, p.3, count)))
+        rw e (pair_take fits cs f ((get_or rs f unrated).partner) p.0 p.1 p.2 row (omega (arith, p.3, count)))
     rest (suc d) l =
         let x = f + suc d in
         let e : f + suc (suc d) ≡ suc x = omega arith in
         let q = row_found fits cs x (omega arith) in
         rw e
-        (pair_stay fits cs x q.0 f s (rest d (omega arith)) q.1
+        (pair_stay fits cs x q.0 f ((get_or rs f unrated).partner) (rest d (omega arith)) q.1
         (omega (arith, rated_score fits cs x (get_or rs x unrated) (omega arith) (rated x (omega arith)) q.0 q.1, most x, count)))
 
-    pub rated_pair : best_pair fits cs (length cs) ≡ found (at f s)
-    rated_pair =
-        let e : length cs ≡ f + suc (length cs - suc f) = omega arith in
-        ap (best_pair fits cs) e ∙ rest (length cs - suc f) (omega arith) ∙ chosen_some f s pos
+    pub rated_pair : best_pair fits cs (length cs) ≡ found (at f (get_or rs f unrated).partner)
+    rated_pair = let e : length cs ≡ f + suc (length cs - suc f) = omega arith in ap (best_pair fits cs) e ∙ rest (length cs - suc f) (omega arith) ∙ chosen_some f _ known
 
 -- ---- a measure of the ratings
 
-unknown : Option ℕ → ℕ
-unknown None = 1
-unknown (Some j) = 0
-
 pub weight : Rating → ℕ
-weight r = r.score + unknown r.partner
+weight r = r.score + (1 - r.partner)
 
 pub weights : List Rating → ℕ
 weights [] = 0
@@ -94,10 +87,10 @@ weights_set (r ∷ rs) zero v l h = omega (arith, h)
 weights_set (r ∷ rs) (suc i) v l h = omega (arith, weights_set rs i v (omega arith) h)
 
 -- the new rating is no higher, and without a partner its score is 0
-pub lighter : (r v : Rating) → r.partner ≡ None → 0 < r.score → v.score ≤ r.score → (v.partner ≡ None → v.score ≡ 0) → weight v < weight r
-unfolding weight unknown
-lighter r v p z m n = go v.partner refl
+pub lighter : (r v : Rating) → r.partner ≡ 0 → 0 < r.score → v.score ≤ r.score → (v.partner ≡ 0 → v.score ≡ 0) → weight v < weight r
+unfolding weight
+lighter r v p z m n = go (ℕ_discrete v.partner 0)
   where
-    go : (o : Option ℕ) → v.partner ≡ o → v.score + unknown v.partner < r.score + unknown r.partner
-    go None e = omega (arith, n e, ap unknown e, ap unknown p, z)
-    go (Some j) e = omega (arith, m, ap unknown e, ap unknown p)
+    go : Dec (v.partner ≡ 0) → v.score + (1 - v.partner) < r.score + (1 - r.partner)
+    go (yes e) = omega (arith, n e, e, p, z)
+    go (no e) = omega (arith, m, p)

@@ -8,15 +8,13 @@ use native.Mathlib.Decide.{ℕ_discrete, dec_lt}
 use lib.ListN.{length, get_or, take, drop, set, length-set, get_or-append}
 use lib.Seq.{take-append-le, get_or-take, get_or-drop, get_or-append-add, get_or-set_same, get_or-set_other, length-take-le}
 use borrow.Author.Tests.{lt-ltb, le-ltb, eq-eqb, ne_eqb}
-use Rattle.std.proofs.Common.{Option, Some, None}
 use Rattle.bitset.specs.Set.{◌∪◌}
 use Rattle.lists.specs.Choice.{Found, nobody, found}
 use Rattle.packages.specs.Tests.{common}
 use Rattle.packages.specs.Packages.{Pair}
-use Rattle.packages.specs.ContractWords.{at, with_partner, score_with, unrated, Rated, moved_partner, moved_up, left_partner, left_of}
-use Rattle.packages.specs.declared.PackagePair.{PackagePair}
+use Rattle.packages.specs.ContractWords.{unrated, Rated, lone_of, moved_up}
 use Rattle.packages.specs.declared.Rating.{Rating}
-use Rattle.packages.proofs.Rows.{chosen, chosen_some, chosen_none, score, score_none, score_some, place, with_place, score_place, row_to, row_start, row_take, row_pass, row_keep}
+use Rattle.packages.proofs.Rows.{chosen, chosen_some, chosen_none, score, score_none, score_some, row_to, row_start, row_take, row_pass, row_keep}
 
 -- p is the best second for the first k among those below n: 0 where none fits, else the first of those with most in common
 pub record Best (fits : ℕ → Bool) (cs : List ℕ) (k n p : ℕ) : Type 0 where
@@ -113,16 +111,8 @@ module _ (fits : ℕ → Bool) (cs : List ℕ) (k : ℕ) where
   row_best p h e = let r = row_all h in subst (Best fits cs k (length cs)) (same_second r.0 p (sym r.1 ∙ e)) r.2
 
   -- a second is behind the first
-  pub row_behind : k < length cs → (j : ℕ) → row_to fits cs k (length cs) ≡ found (at k j) → (k < j) × (j < length cs)
-  unfolding second_of
-  row_behind h j e = let r = row_all h in go r.0 r.1 r.2
-    where
-      go : (q : ℕ) → row_to fits cs k (length cs) ≡ chosen k q → Best fits cs k (length cs) q → (k < j) × (j < length cs)
-      go zero p b = let z : nobody ≡ found (at k j) = sym (chosen_none k) ∙ sym p ∙ e in cc
-      go (suc q) p b =
-          let same : suc q ≡ j = ap second_of (sym (chosen_some k (suc q) (omega arith)) ∙ sym p ∙ e) in
-          let o = b.own (omega arith) in
-          (omega (arith, o.0, same), omega (arith, o.1, same))
+  pub row_behind : (p : ℕ) → k < length cs → row_to fits cs k (length cs) ≡ chosen k p → 0 < p → (k < p) × (p < length cs)
+  row_behind p h e z = let o = (row_best p h e).own z in (o.0, o.1)
 
   pub best_row : (p : ℕ) → k < length cs → Best fits cs k (length cs) p → row_to fits cs k (length cs) ≡ chosen k p
   best_row p h b = let r = row_all h in r.1 ∙ ap (chosen k) (only (length cs) r.0 p r.2 b)
@@ -283,28 +273,23 @@ module _ (fits : ℕ → Bool) (cs ds : List ℕ) (i j : ℕ) (before : i < j) (
 
 module _ (fits : ℕ → Bool) (cs : List ℕ) (k : ℕ) (r : Rating) (row : k < length cs) where
   -- what a scan of the row finds is a rating
-  pub row_rated : row_to fits cs k (length cs) ≡ with_partner k r.partner → r.score ≡ score_with cs k r.partner → Rated fits cs k r
+  pub row_rated : row_to fits cs k (length cs) ≡ chosen k (r.partner) → r.score ≡ score cs k (r.partner) → Rated fits cs k r
   row_rated e s =
-      let pos : (j : ℕ) → r.partner ≡ Some j → 0 < j =
-      λ j z. omega (arith, row_behind fits cs k row j (e ∙ ap (with_partner k) z)) in
-      let b = row_best fits cs k (place r.partner) row (e ∙ with_place k r.partner pos) in
+      let b = row_best fits cs k (r.partner) row e in
       record {
-        most = λ j l m f. omega (arith, b.most j l m f, s, score_place cs k r.partner pos, score_some cs k j (omega arith));
-        own = λ j z. (e ∙ ap (with_partner k) z, s ∙ ap (score_with cs k) z);
+        most = λ j l m f. omega (arith, b.most j l m f, s, score_some cs k j (omega arith));
+        own = λ z. (e ∙ chosen_some k (r.partner) z, s ∙ score_some cs k (r.partner) z);
       }
 
-  rated_pos : Rated fits cs k r → (j : ℕ) → r.partner ≡ Some j → 0 < j
-  rated_pos q j z = omega (arith, row_behind fits cs k row j (q.own j z).0)
-
-  rated_best : Rated fits cs k r → (j : ℕ) → r.partner ≡ Some j → Best fits cs k (length cs) j
-  rated_best q j z = row_best fits cs k j row ((q.own j z).0 ∙ sym (chosen_some k j (rated_pos q j z)))
+  rated_best : Rated fits cs k r → 0 < r.partner → Best fits cs k (length cs) (r.partner)
+  rated_best q z = row_best fits cs k (r.partner) row ((q.own z).0 ∙ sym (chosen_some k (r.partner) z))
 
   best_rated : ((j : ℕ) → k < j → j < length cs → fits (get_or cs k 0 ∪ get_or cs j 0) ≡ true → score cs k j ≤ r.score)
-      → ((j : ℕ) → r.partner ≡ Some j → (0 < j) × Best fits cs k (length cs) j × (r.score ≡ score cs k j)) → Rated fits cs k r
+      → (0 < r.partner → Best fits cs k (length cs) (r.partner) × (r.score ≡ score cs k (r.partner))) → Rated fits cs k r
   best_rated m o =
       record {
         most = λ j l n f. omega (arith, m j l n f, score_some cs k j (omega arith));
-        own = λ j z. let b = o j z in (best_row fits cs k j row b.1 ∙ chosen_some k j b.0, b.2 ∙ score_some cs k j b.0);
+        own = λ z. (best_row fits cs k (r.partner) row (o z).0 ∙ chosen_some k (r.partner) z, (o z).1 ∙ score_some cs k (r.partner) z);
       }
 
   -- no package of the row has a higher score
@@ -317,62 +302,31 @@ module _ (fits : ℕ → Bool) (cs : List ℕ) (k : ℕ) (r : Rating) (row : k <
           let o = (row_best fits cs k q row e).own (omega arith) in
           omega (arith, w.most q o.0 o.1 o.2, score_some cs k q (omega arith))
 
--- what a scan of the row finds has no higher score than a rating
-pub no_higher : (fits : ℕ → Bool) (cs : List ℕ) (k : ℕ) (r w : Rating) → k < length cs → Rated fits cs k w
-    → row_to fits cs k (length cs) ≡ with_partner k r.partner → r.score ≡ score_with cs k r.partner → r.score ≤ w.score
-no_higher fits cs k r w row rated e s =
-    let pos = rated_pos fits cs k r row (row_rated fits cs k r row e s) in
-    omega (arith, s, score_place cs k r.partner pos, rated_score fits cs k w row rated (place r.partner) (e ∙ with_place k r.partner pos))
-
 -- t is what is left of the rating r when the packages i and j are joined: the score, and the partner if that is another one
 pub record Kept (i j : ℕ) (r t : Rating) : Type 0 where
   pub same : t.score ≡ r.score
-  pub partner : (q : ℕ) → t.partner ≡ Some q → (p : ℕ) × (r.partner ≡ Some p) × (q ≡ new_place j p) × (p ≡ i → ⊥) × (p ≡ j → ⊥)
+  pub partner : 0 < t.partner → (0 < r.partner) × (t.partner ≡ new_place j (r.partner)) × (r.partner ≡ i → ⊥) × (r.partner ≡ j → ⊥)
 
-pub kept_none : (i j : ℕ) (r t : Rating) → t.score ≡ r.score → t.partner ≡ None → Kept i j r t
-kept_none i j r t e n = record { same = e; partner = λ q z. let w : None ≡ Some q = sym n ∙ z in cc }
+pub kept_none : (i j : ℕ) (r t : Rating) → t ≡ lone_of r → Kept i j r t
+kept_none i j r t e = record { same = ap (λ (x : Rating). x.score) e; partner = λ z. absurd (omega (arith, ap (λ (x : Rating). x.partner) e)) }
 
-pub kept_moved : (i j : ℕ) (r t : Rating) → i < j → ((p : ℕ) → r.partner ≡ Some p → p ≡ i → ⊥) → t ≡ moved_up j r → Kept i j r t
-kept_moved i j r t l h e = go r.partner refl
+pub kept_moved : (i j : ℕ) (r t : Rating) → i < j → (0 < r.partner → r.partner ≡ i → ⊥) → t ≡ moved_up j r → Kept i j r t
+kept_moved i j r t l h e = go (ℕ_discrete (r.partner) j) (dec_lt j (r.partner))
   where
-    at : (p : ℕ) → r.partner ≡ Some p → Dec (p ≡ j) → Dec (j < p) → Kept i j r t
-    at p w (yes a) d =
-        kept_none i j r t (ap (λ (x : Rating). x.score) e)
-        (ap (λ (x : Rating). x.partner) e ∙ ap (moved_partner j) w ∙ rw (eq-eqb p j a) refl)
-    at p w (no a) (yes d) =
-        let f : t.partner ≡ Some (p - 1) = ap (λ (x : Rating). x.partner) e ∙ ap (moved_partner j) w ∙ rw (ne_eqb p j a, lt-ltb j p d) refl in
+    go : Dec (r.partner ≡ j) → Dec (j < r.partner) → Kept i j r t
+    go (yes a) d = kept_none i j r t (e ∙ rw (eq-eqb (r.partner) j a) refl)
+    go (no a) (yes d) =
+        let f : t ≡ record { score = r.score; partner = r.partner - 1 } = e ∙ rw (ne_eqb (r.partner) j a, lt-ltb j (r.partner) d) refl in
+        let m = new_high j (r.partner) d in
         record {
-          same = ap (λ (x : Rating). x.score) e;
-          partner = λ q z. (p, w, sym (ap place (sym f ∙ z)) ∙ sym (new_high j p d), h p w, a);
+          same = ap (λ (x : Rating). x.score) f;
+          partner = λ z. (omega arith, omega (arith, ap (λ (x : Rating). x.partner) f, m), h (omega arith), a);
         }
-    at p w (no a) (no d) =
-        let f : t.partner ≡ Some p = ap (λ (x : Rating). x.partner) e ∙ ap (moved_partner j) w ∙ rw (ne_eqb p j a, le-ltb j p (omega arith)) refl in
-        record {
-          same = ap (λ (x : Rating). x.score) e;
-          partner = λ q z. (p, w, sym (ap place (sym f ∙ z)) ∙ sym (new_low j p (omega arith)), h p w, a);
-        }
-
-    go : (o : Option ℕ) → r.partner ≡ o → Kept i j r t
-    go None w = kept_none i j r t (ap (λ (x : Rating). x.score) e) (ap (λ (x : Rating). x.partner) e ∙ ap (moved_partner j) w)
-    go (Some p) w = at p w (ℕ_discrete p j) (dec_lt j p)
-
--- the same of a package before the joined one
-pub kept_left : (pair : PackagePair) (r t : Rating) → pair.first < pair.second → t ≡ left_of pair r → Kept pair.first pair.second r t
-kept_left pair r t l e = go r.partner refl
-  where
-    at : (p : ℕ) → r.partner ≡ Some p → Dec (p ≡ pair.first) → Kept pair.first pair.second r t
-    at p w (yes a) =
-        kept_none pair.first pair.second r t (ap (λ (x : Rating). x.score) e)
-        (ap (λ (x : Rating). x.partner) e ∙ ap (left_partner pair) w ∙ rw (eq-eqb p pair.first a) refl)
-    at p w (no a) =
-        let f : left_partner pair r.partner ≡ moved_partner pair.second r.partner =
-        ap (left_partner pair) w ∙ rw (ne_eqb p pair.first a) refl ∙ sym (ap (moved_partner pair.second) w) in
-        kept_moved pair.first pair.second r t l (λ q z b. a (ap place (sym w ∙ z) ∙ b))
-        (e ∙ ap (λ (o : Option ℕ). record { score = r.score; partner = o }) f)
-
-    go : (o : Option ℕ) → r.partner ≡ o → Kept pair.first pair.second r t
-    go None w = kept_none pair.first pair.second r t (ap (λ (x : Rating). x.score) e) (ap (λ (x : Rating). x.partner) e ∙ ap (left_partner pair) w)
-    go (Some p) w = at p w (ℕ_discrete p pair.first)
+    go (no a) (no d) =
+        let f : t ≡ r = e ∙ rw (ne_eqb (r.partner) j a, le-ltb j (r.partner) (omega arith)) refl in
+        let m = new_low j (r.partner) (omega arith) in
+        let p = ap (λ (x : Rating). x.partner) f in
+        record { same = ap (λ (x : Rating). x.score) f; partner = λ z. (omega (arith, p), omega (arith, p, m), h (omega (arith, p)), a) }
 
 -- row k after the join, whose rating before it was r
 module _ (fits : ℕ → Bool) (cs ds : List ℕ) (i j : ℕ) (before : i < j) (long : length cs ≡ suc (length ds)) (within : j ≤ length ds)
@@ -381,11 +335,11 @@ module _ (fits : ℕ → Bool) (cs ds : List ℕ) (i j : ℕ) (before : i < j) (
   old_row : old_place j k < length cs
   old_row = omega (arith, old_within j k (length ds) row within)
 
-  old_best : (p : ℕ) → r.partner ≡ Some p → Best fits cs (old_place j k) (length cs) p
+  old_best : 0 < r.partner → Best fits cs (old_place j k) (length cs) (r.partner)
   old_best = rated_best fits cs (old_place j k) r old_row was
 
-  old_score : (p : ℕ) → r.partner ≡ Some p → r.score ≡ score cs (old_place j k) p
-  old_score p z = (was.own p z).1 ∙ sym (score_some cs (old_place j k) p (rated_pos fits cs (old_place j k) r old_row was p z))
+  old_score : 0 < r.partner → r.score ≡ score cs (old_place j k) (r.partner)
+  old_score z = (was.own z).1 ∙ sym (score_some cs (old_place j k) (r.partner) z)
 
   -- no other package has a higher score than before
   most_kept : (x : ℕ) → (x ≡ i → ⊥) → k < x → x < length ds → fits (get_or ds k 0 ∪ get_or ds x 0) ≡ true → score ds k x ≤ r.score
@@ -399,30 +353,23 @@ module _ (fits : ℕ → Bool) (cs ds : List ℕ) (i j : ℕ) (before : i < j) (
       )
 
   module _ (kept : Kept i j r t) where
-    -- the place now of a partner that is left
-    partner_pos : (q : ℕ) → t.partner ≡ Some q → 0 < q
-    partner_pos q z =
-        let w = kept.partner q z in
-        let o = (old_best w.0 w.1).own (rated_pos fits cs (old_place j k) r old_row was w.0 w.1) in
-        omega (arith, new_above j k w.0 w.4 o.0, w.2)
-
-    new_score : (q : ℕ) (z : t.partner ≡ Some q) → t.score ≡ score ds k (new_place j (kept.partner q z).0)
-    new_score q z =
-        let w = kept.partner q z in
-        kept.same ∙ old_score w.0 w.1 ∙ sym (score_new fits cs ds i j before long within made k other w.0 (old_best w.0 w.1) w.4 (λ _. w.3))
+    new_score : (z : 0 < t.partner) → t.score ≡ score ds k (new_place j (r.partner))
+    new_score z =
+        let q = kept.partner z in
+        kept.same ∙ old_score q.0 ∙ sym (score_new fits cs ds i j before long within made k other (r.partner) (old_best q.0) q.3 (λ _. q.2))
 
     -- the joined package does not come in question, or is no better
-    pub rated_stays : (k < i → fits (get_or ds k 0 ∪ get_or ds i 0) ≡ true
-        → (score ds k i ≤ t.score) × ((q : ℕ) → t.partner ≡ Some q → i < q → score ds k i < t.score)) → Rated fits ds k t
+    pub rated_stays : (k < i → fits (get_or ds k 0 ∪ get_or ds i 0) ≡ true → (score ds k i ≤ t.score) × (i < t.partner → score ds k i < t.score))
+        → Rated fits ds k t
     rated_stays worse =
         best_rated fits ds k t row (λ x l m f. at_most x (ℕ_discrete x i) l m f)
-        (λ q z.
-        let w = kept.partner q z in (
-          partner_pos q z,
-          subst (Best fits ds k (length ds)) (sym w.2)
-              (stay fits cs ds i j before long within made k other w.0 (old_best w.0 w.1) w.4 (λ _. w.3)
-              (λ l f. (omega (arith, (worse l f).0, new_score q z), λ n. omega (arith, (worse l f).1 q z (omega (arith, w.2)), new_score q z)))),
-          new_score q z ∙ ap (score ds k) (sym w.2),
+        (λ z.
+        let q = kept.partner z in
+        let p = new_place j (r.partner) in (
+          subst (Best fits ds k (length ds)) (sym q.1)
+              (stay fits cs ds i j before long within made k other (r.partner) (old_best q.0) q.3 (λ _. q.2)
+              (λ l f. (omega (arith, (worse l f).0, new_score z), λ n. omega (arith, (worse l f).1 (omega (arith, q.1)), new_score z)))),
+          new_score z ∙ ap (score ds k) (sym q.1),
         ))
       where
         at_most : (x : ℕ) → Dec (x ≡ i) → k < x → x < length ds → fits (get_or ds k 0 ∪ get_or ds x 0) ≡ true → score ds k x ≤ t.score
@@ -430,13 +377,11 @@ module _ (fits : ℕ → Bool) (cs ds : List ℕ) (i j : ℕ) (before : i < j) (
         at_most x (no e) l m f = omega (arith, most_kept x e l m f, kept.same)
 
     -- the joined package fits and is better, or as good and earlier
-    pub rated_beaten : (u : Rating) → u.score ≡ score ds k i → u.partner ≡ Some i → k < i → fits (get_or ds k 0 ∪ get_or ds i 0) ≡ true
-        → t.score ≤ score ds k i → (score ds k i ≤ t.score → (q : ℕ) × (t.partner ≡ Some q) × (i < q)) → Rated fits ds k u
+    pub rated_beaten : (u : Rating) → u.score ≡ score ds k i → u.partner ≡ i → k < i → fits (get_or ds k 0 ∪ get_or ds i 0) ≡ true
+        → t.score ≤ score ds k i → (score ds k i ≤ t.score → i < t.partner) → Rated fits ds k u
     rated_beaten u us up l f a b =
         best_rated fits ds k u row (λ x m n g. omega (arith, at_most x (ℕ_discrete x i) m n g, us))
-        (λ q z.
-        let e : i ≡ q = ap place (sym up ∙ z) in
-        (omega (arith, e), subst (Best fits ds k (length ds)) e best, us ∙ ap (score ds k) e))
+        (λ z. (subst (Best fits ds k (length ds)) (sym up) best, us ∙ ap (score ds k) (sym up)))
       where
         at_most : (x : ℕ) → Dec (x ≡ i) → k < x → x < length ds → fits (get_or ds k 0 ∪ get_or ds x 0) ≡ true → score ds k x ≤ score ds k i
         at_most x (yes e) m n g = omega (arith, ap (score ds k) e)
@@ -446,12 +391,13 @@ module _ (fits : ℕ → Bool) (cs ds : List ℕ) (i j : ℕ) (before : i < j) (
         below x (yes d) m n g = omega (arith, most_kept x (λ e. omega arith) m (omega arith) g, kept.same)
         below x (no d) m n g =
             let later = b (omega arith) in
-            let w = kept.partner later.0 later.1 in
+            let z : 0 < t.partner = omega (arith, later) in
+            let q = kept.partner z in
             omega (
               arith,
-              first_new fits cs ds i j before long within made k other w.0 (old_best w.0 w.1) w.4 (λ _. w.3) x (λ e. omega arith) m
-                  (omega (arith, later.2, w.2)) g,
-              new_score later.0 later.1,
+              first_new fits cs ds i j before long within made k other (r.partner) (old_best q.0) q.3 (λ _. q.2) x (λ e. omega arith) m
+                  (omega (arith, later, q.1)) g,
+              new_score z,
               a,
             )
 
@@ -490,9 +436,7 @@ module _ (fits : ℕ → Bool) (cs ds : List ℕ) (rs xs ys zs : List Rating) (i
       let w = was (old_place j k) (omega (arith, there)) in
       rated_stays fits cs ds i j before long within made k h (λ e. omega arith) r (get_or zs k unrated) w
       (kept_moved i j r (get_or zs k unrated) before
-      (λ p z e.
-      let row : old_place j k < length cs = omega (arith, there) in
-      omega (arith, e, there, ((rated_best fits cs (old_place j k) r row w p z).own (rated_pos fits cs (old_place j k) r row w p z)).0))
+      (λ z e. omega (arith, e, there, ((rated_best fits cs (old_place j k) r (omega (arith, there)) w z).own z).0))
       (back k l (omega (arith, still, as_long)) ∙ ap (moved_up j) (rest k (omega arith) ∙ other_at k h (λ e. omega (arith, e, there)))))
       (λ m f. absurd (omega arith))
 

@@ -7,13 +7,12 @@ use native.Mathlib.Omega.{arith}
 use native.Mathlib.Numerals.{add-one}
 use lib.ListN.{length, get_or}
 use lib.Dec.{ltb}
-use Rattle.std.proofs.Common.{Option, Some, None}
 use borrow.Author.Tests.{lt-ltb, le-ltb, ltb-true, ltb-false}
 use Rattle.bitset.specs.Set.{◌∪◌, ◌∩◌, size}
 use Rattle.bitset.proofs.Laws.{size_le, size-∩-le}
 use Rattle.lists.specs.Choice.{Found, nobody, found, keep, choose, best_of}
 use Rattle.lists.proofs.Chosen.{passed, best_skip}
-use Rattle.packages.specs.ContractWords.{at, with_partner, score_with}
+use Rattle.packages.specs.ContractWords.{at, score_with}
 use Rattle.packages.specs.Packages.{Pair, shared, eligible, closer, best_pair}
 
 -- ---- what is found after b, from what is found after nobody
@@ -82,6 +81,10 @@ unfolding score
 score_some cs i zero h = absurd (omega arith)
 score_some cs i (suc j) h = refl
 
+pub score_as : (cs : List ℕ) (i j : ℕ) → score_with cs i j ≡ score cs i j
+score_as cs i zero = sym (score_none cs i)
+score_as cs i (suc j) = rw (lt-ltb 0 (suc j) (omega arith)) (sym (score_some cs i (suc j) (omega arith)))
+
 pub chosen_none : (i : ℕ) → chosen i 0 ≡ nobody
 unfolding keep
 chosen_none i = refl
@@ -89,19 +92,6 @@ chosen_none i = refl
 pub chosen_some : (i j : ℕ) → 0 < j → chosen i j ≡ found (at i j)
 unfolding keep
 chosen_some i j h = rw (lt-ltb 0 j h) refl
-
--- the place of a partner, 0 of none
-abbrev pub place : Option ℕ → ℕ
-place None = 0
-place (Some j) = j
-
-pub with_place : (i : ℕ) (o : Option ℕ) → ((j : ℕ) → o ≡ Some j → 0 < j) → with_partner i o ≡ chosen i (place o)
-with_place i None h = sym (chosen_none i)
-with_place i (Some j) h = sym (chosen_some i j (h j refl))
-
-pub score_place : (cs : List ℕ) (i : ℕ) (o : Option ℕ) → ((j : ℕ) → o ≡ Some j → 0 < j) → score_with cs i o ≡ score cs i (place o)
-score_place cs i None h = sym (score_none cs i)
-score_place cs i (Some j) h = sym (score_some cs i j (h j refl))
 
 taken : (b c : Bool) (x y : Pair) → b ≡ true → c ≡ true → keep (b && c) x (found y) ≡ found x
 unfolding keep

@@ -1,7 +1,7 @@
 -- Words that only the contracts of private functions cite: a reader of the public contracts need not believe them.
 use Rattle.std.specs.Prelude.{◌≡◌, Bool, true, cond, List, ◌++◌, map, reverse, ℕ, suc, ◌+◌, ◌-◌, ◌≤◌, ◌<◌, length, get_or, take, drop, set, leb, ltb, eqb, Option, Some, None}
 use Rattle.bitset.specs.Set.{◌∪◌, size}
-use Rattle.lists.specs.Choice.{Found, nobody, found, best_of}
+use Rattle.lists.specs.Choice.{Found, nobody, found, keep, best_of}
 use Rattle.packages.specs.declared.PackagePair.{PackagePair}
 use Rattle.packages.specs.declared.Rating.{Rating}
 use Rattle.packages.specs.Packages.{Pair, shared, eligible, closer, flat, join_all, flipped}
@@ -50,49 +50,39 @@ abbrev pub named : Option PackagePair → Found Pair
 named None = nobody
 named (Some p) = found (at p.first p.second)
 
--- a package and its partner
-abbrev pub with_partner : ℕ → Option ℕ → Found Pair
-with_partner i None = nobody
-with_partner i (Some j) = found (at i j)
+-- a package and its partner, where that is not 0
+abbrev pub with_partner : ℕ → ℕ → Found Pair
+with_partner i j = keep (ltb 0 j) (at i j) nobody
 
 -- one more than what the two have in common; 0 with no partner
-abbrev pub score_with : List ℕ → ℕ → Option ℕ → ℕ
-score_with cs i None = 0
-score_with cs i (Some j) = 1 + shared cs (at i j)
+abbrev pub score_with : List ℕ → ℕ → ℕ → ℕ
+score_with cs i j = cond (ltb 0 j) (1 + shared cs (at i j)) 0
 
 -- whether a set has at most so many curves
 abbrev pub within : ℕ → ℕ → Bool
 within bound u = leb (size u) bound
 
 -- With the curves cs of the packages: what the rating r says of the package k. No pair of it and a package behind it that fits has as many common curves as
--- the score. Its partner is the best second package of such a pair, and the score is one more than what the two have in common.
+-- the score. A partner other than 0 is the best second package of such a pair, and the score is one more than what the two have in common.
 pub record Rated (fits : ℕ → Bool) (cs : List ℕ) (k : ℕ) (r : Rating) : Type 0 where
   pub most : (j : ℕ) → k < j → j < length cs → fits (get_or cs k 0 ∪ get_or cs j 0) ≡ true → 1 + shared cs (at k j) ≤ r.score
-  pub own : (j : ℕ) → r.partner ≡ Some j
-      → (best_of (eligible fits cs) (closer cs) (at k) (length cs) nobody ≡ found (at k j)) × (r.score ≡ 1 + shared cs (at k j))
+  pub own : 0 < r.partner
+      → (best_of (eligible fits cs) (closer cs) (at k) (length cs) nobody ≡ found (at k r.partner)) × (r.score ≡ 1 + shared cs (at k r.partner))
 
 abbrev pub unrated : Rating
-unrated = record { score = 0; partner = None }
+unrated = record { score = 0; partner = 0 }
 
 -- the ratings rs of all packages
 abbrev pub AllRated : ℕ → List ℕ → List Rating → Type 0
 AllRated bound cs rs = (k : ℕ) → k < length cs → Rated (within bound) cs k (get_or rs k unrated)
 
+-- the rating r, but no partner
+abbrev pub lone_of : Rating → Rating
+lone_of r = record { score = r.score; partner = 0 }
+
 -- The rating of another package after a join with the second package j, which is no partner any more; those behind it move up by one.
-abbrev pub moved_partner : ℕ → Option ℕ → Option ℕ
-moved_partner j None = None
-moved_partner j (Some p) = cond (eqb p j) None (cond (ltb j p) (Some (p - 1)) (Some p))
-
 abbrev pub moved_up : ℕ → Rating → Rating
-moved_up j r = record { score = r.score; partner = moved_partner j r.partner }
-
--- The same of a package before the joined one, which is no partner any more either.
-abbrev pub left_partner : PackagePair → Option ℕ → Option ℕ
-left_partner q None = None
-left_partner q (Some p) = cond (eqb p q.first) None (moved_partner q.second (Some p))
-
-abbrev pub left_of : PackagePair → Rating → Rating
-left_of q r = record { score = r.score; partner = left_partner q r.partner }
+moved_up j r = cond (eqb r.partner j) (lone_of r) (cond (ltb j r.partner) (record { score = r.score; partner = r.partner - 1 }) r)
 
 -- beside the curves cs of at most 256 packages, their sizes, and a list that takes a count for each
 abbrev pub Sized : List ℕ → List ℕ → List ℕ → Type 0

@@ -9,7 +9,7 @@ ghost use Rattle.lists.specs.Choice.{nobody, best_of};
 ghost use Rattle.packages.specs.Tests.{common, up_to, entered};
 ghost use Rattle.packages.specs.Packages.{shared, eligible, closer, best_pair, curves_of, joined, run_from, head, tail, flipped, packages};
 ghost use Rattle.packages.specs.ContractWords.{at, turned, joined_entry, joined_curves, join_by, round_of, Laid};
-ghost use Rattle.packages.specs.ContractWords.{within, with_partner, score_with, named, unrated, Rated, AllRated, moved_up, left_of, Sized};
+ghost use Rattle.packages.specs.ContractWords.{within, with_partner, score_with, named, unrated, Rated, AllRated, lone_of, moved_up, Sized};
 
 // Two places in the list of packages.
 #[derive(Clone, Copy)]
@@ -20,10 +20,11 @@ pub struct PackagePair {
 
 // What is known of a package: its partner, the package behind it that would be the best second one of a pair with it, and its score, one more than the number
 // of curves that the two have in common. With no partner, or where it is not known yet, no package behind it gives a higher score.
+// Kept: the partner is 0 where there is none. Tried, slower: with an Option the order of 256 tests takes a fifth longer (`renew_behind` is no vector code).
 #[derive(Clone, Copy)]
 pub struct Rating {
     pub score: u16,
-    pub partner: Option<u16>,
+    pub partner: u16,
 }
 
 // A way to join two packages: how many curves the parts that meet have in common, and which of the two packages are reversed.
@@ -37,7 +38,7 @@ pub struct Meeting {
 // No partner, and no score.
 const UNRATED: Rating = Rating {
     score: 0,
-    partner: None,
+    partner: 0,
 };
 
 // How many curves two sets have in common.
@@ -237,7 +238,7 @@ fn best_partner(
             if union_size(sizes[first], sizes[j], counts[j]) <= bound {
                 best = Rating {
                     score,
-                    partner: Some(j as u16),
+                    partner: j as u16,
                 };
             }
         }
@@ -294,10 +295,10 @@ fn closest(
     loop {
         let first = highest(ratings);
         let rating = *ratings.get(first)?;
-        if let Some(second) = rating.partner {
+        if 0 < rating.partner {
             return Some(PackagePair {
                 first,
-                second: second as usize,
+                second: rating.partner as usize,
             });
         }
         if rating.score == 0 {
@@ -308,31 +309,31 @@ fn closest(
 }
 
 impl Rating {
+    // The rating where the partner is none any more.
+    fn lone(self) -> Rating
+        ensures { result ≡ lone_of self }
+    {
+        Rating {
+            score: self.score,
+            partner: 0,
+        }
+    }
+
     // The rating of another package after a join: the second package is no partner any more, and those behind it move up by one.
     fn moved(self, second: usize) -> Rating
         ensures { result ≡ moved_up second self }
     {
-        let partner = match self.partner {
-            Some(partner) if partner as usize == second => None,
-            Some(partner) if second < partner as usize => Some(partner - 1),
-            kept => kept,
-        };
-        Rating {
-            score: self.score,
-            partner,
+        let partner = self.partner as usize;
+        if partner == second {
+            return self.lone();
         }
-    }
-
-    // The rating of a package before the joined one. The joined one is no partner any more.
-    fn left(self, pair: PackagePair) -> Rating
-        ensures { result ≡ left_of pair self }
-    {
-        match self.partner {
-            Some(partner) if partner as usize == pair.first => Rating {
+        if second < partner {
+            Rating {
                 score: self.score,
-                partner: None,
-            },
-            _ => self.moved(pair.second),
+                partner: self.partner - 1,
+            }
+        } else {
+            self
         }
     }
 
@@ -344,13 +345,17 @@ impl Rating {
             → ds ≡ joined_curves cs pair.first pair.second → fits ≡ within bound (get_or ds row 0 ∪ get_or ds pair.first 0) → both ≡ shared ds (at row pair.first)
             → Rated (within bound) cs row self → Rated (within bound) ds row result }
     {
-        let kept = self.left(pair);
+        let kept = if self.partner as usize == pair.first {
+            self.lone()
+        } else {
+            self.moved(pair.second)
+        };
         if !fits {
             return kept;
         }
         let joined = Rating {
             score: 1 + both,
-            partner: Some(pair.first as u16),
+            partner: pair.first as u16,
         };
         if kept.score < joined.score {
             return joined;
@@ -358,9 +363,10 @@ impl Rating {
         if joined.score < kept.score {
             return kept;
         }
-        match kept.partner {
-            Some(partner) if pair.first < partner as usize => joined,
-            _ => kept,
+        if pair.first < kept.partner as usize {
+            joined
+        } else {
+            kept
         }
     }
 }

@@ -1,8 +1,7 @@
 use mathlib.Core.Path.{◌≡◌, sym, ap, ◌∙◌}
 use mathlib.Core.Bool.{true, false}
-use Prim.Native.Nat.{ℕ, ◌≤◌, ◌<◌, ◌+◌}
+use Prim.Native.Nat.{ℕ, ◌≤◌, ◌+◌}
 use native.Mathlib.Omega.{arith}
-use Rattle.std.proofs.Common.{Some}
 use lib.ListN.{length, get_or}
 use borrow.Author.Tests.{le-leb, lt-leb}
 use Rattle.bitset.specs.Set.{◌∪◌, size}
@@ -20,7 +19,7 @@ loop-j-init c =
       row = rows.row_start (within a.bound) a.curves.now a.first;
       count = sym (rows.score_none a.curves.now a.first);
       few = omega arith;
-      behind = λ j z. cc;
+      low = omega arith;
     }
 
 -- what the two have in common, and the sizes
@@ -45,7 +44,7 @@ loop-j-preserved c =
     let fits = within a.bound in
     let i = a.first in
     let j = c.loop-j.j in
-    let q = rows.place c.loop-j.best.partner in
+    let q = c.loop-j.best.partner in
     let most = c.loop-j.best.score in
     let v = c.loop-j.invariant in
     let e = counted (goal.at.loop-j-preserved c).In-loop-j in
@@ -60,30 +59,24 @@ loop-j-preserved c =
             row = rows.row_take fits cs i j q most v.row (omega arith) v.count (omega (arith, e, w.if-best-score.true)) f;
             count = ap (λ (n : ℕ). 1 + n) e ∙ sym (rows.score_some cs i j (omega arith));
             few = omega (arith, h.0, h.2);
-            behind = λ n z. omega (arith, ap rows.place z);
+            low = omega arith;
           }
       | then-best-score+else-union_size-bound w ↦
           let f : fits (get_or cs i 0 ∪ get_or cs j 0) ≡ false =
           lt-leb (size (get_or cs i 0 ∪ get_or cs j 0)) a.bound
           (omega (arith, w.if-union_size-bound.false, w.union_size.ensures (get_or cs i 0) (get_or cs j 0) (ours i) (ours j) e)) in
-          rw w.best-is record { row = rows.row_pass fits cs i j q most v.row f; count = v.count; few = v.few; behind = v.behind }
+          rw w.best-is record { row = rows.row_pass fits cs i j q most v.row f; count = v.count; few = v.few; low = omega (arith, v.low) }
       | else-best-score w ↦
           rw w.best-is record {
             row = rows.row_keep fits cs i j q most v.row v.count (omega (arith, e, w.if-best-score.false));
             count = v.count;
             few = v.few;
-            behind = v.behind;
+            low = omega (arith, v.low);
           }
     ]
 
 pub returns : goal.returns
 returns c =
-    let a = c.args in
     let v = c.loop-j.invariant in
-    let p = c.loop-j.best.partner in
-    let e : length a.curves.now ≡ c.loop-j.j = omega (arith, c.requires.0) in
-    let pos : (j : ℕ) → p ≡ Some j → 0 < j = λ j z. omega (arith, v.behind j z) in
-    record {
-      partner = rw e v.row ∙ sym (rows.with_place a.first p pos);
-      score = v.count ∙ sym (rows.score_place a.curves.now a.first p pos);
-    }
+    let e : length c.args.curves.now ≡ c.loop-j.j = omega (arith, c.requires.0) in
+    record { partner = rw e v.row; score = v.count ∙ sym (rows.score_as c.args.curves.now c.args.first c.loop-j.best.partner) }

@@ -1,16 +1,15 @@
 -- `packages::best_partner` meets its contract. Invariant: the second is the best of those before j, 0 for none, and most is one more than what it has in common
 -- with the first.
 use mathlib.Core.Path.{◌≡◌}
-use Prim.Native.Nat.{ℕ, ◌≤◌, ◌<◌}
-use Rattle.std.proofs.Common.{Some}
+use Prim.Native.Nat.{◌≤◌, ◌<◌}
 use Rattle.packages.specs.ContractWords.{within}
 use Rattle.packages.proofs.Rows as rows
 use Rattle.packages.proofs.best_partner.Given as goal
 
 abbrev pub invariant-loop-j : goal.invariant-loop-j
 invariant-loop-j l = record {
-  row : rows.row_to (within l.bound) l.curves l.first l.j ≡ rows.chosen l.first (rows.place l.best.partner);
-  count : l.best.score ≡ rows.score l.curves l.first (rows.place l.best.partner);
+  row : rows.row_to (within l.bound) l.curves l.first l.j ≡ rows.chosen l.first l.best.partner;
+  count : l.best.score ≡ rows.score l.curves l.first l.best.partner;
   few : l.best.score ≤ 65;
-  behind : (j : ℕ) → l.best.partner ≡ Some j → l.first < j;
+  low : l.best.partner < l.j;
 }

@@ -5,6 +5,7 @@ use lib.Seq.{get_or-set_same, get_or-set_other}
 use lib.ListN.{length, length-set}
 use borrow.Author.Count.{below_more}
 use Rattle.packages.specs.ContractWords.{within, unrated, Rated}
+use Rattle.packages.proofs.Rows as rows
 use Rattle.packages.proofs.Renew.{row_rated}
 use Rattle.packages.proofs.best_partners.Goals as goal
 
@@ -22,5 +23,5 @@ loop-k-preserved c =
       done = below_more _ i
           (λ x h. subst (Rated fits cs x) (sym (get_or-set_other c.loop-k.ratings i x _ unrated (λ e. omega arith))) (v.done x h))
           (subst (Rated fits cs i) (sym (get_or-set_same c.loop-k.ratings i _ unrated long))
-          (row_rated fits cs i b.result (omega arith) b.ensures.partner b.ensures.score));
+          (row_rated fits cs i b.result (omega arith) b.ensures.partner (b.ensures.score ∙ rows.score_as cs i b.result.partner)));
     }

@@ -6,9 +6,10 @@ use native.Mathlib.Omega.{arith}
 use native.Mathlib.Decide.{ℕ_discrete}
 use lib.Seq.{get_or-set_same, get_or-set_other}
 use lib.ListN.{length, get_or, set, length-set, get_or-eq_default}
-use Rattle.packages.specs.ContractWords.{within, score_with, unrated, Rated}
+use Rattle.packages.specs.ContractWords.{within, unrated, Rated}
 use Rattle.packages.specs.declared.Rating.{Rating}
-use Rattle.packages.proofs.Renew.{row_rated, row_behind, no_higher}
+use Rattle.packages.proofs.Rows as rows
+use Rattle.packages.proofs.Renew.{row_rated, row_behind, rated_score}
 use Rattle.packages.proofs.Ratings.{rated_none, rated_pair, weights_set, lighter}
 use Rattle.packages.proofs.closest.Goals.{In_ok-rating}
 use Rattle.packages.proofs.closest.Goals as goal
@@ -41,17 +42,20 @@ returns-in_err-rating-clause-pair c =
 pub overflow_cast-result : goal.overflow_cast-result
 overflow_cast-result c =
     let k = (goal.at.overflow_cast-result c).In_ok-rating in
+    let cs = c.args.curves.now in
     let f = c.highest-first.result in
-    let own = c.loop-rating.invariant.rated f (place k).0 in
-    let o = row_behind (within c.args.bound) c.args.curves.now f (place k).0 c.in-Some.second
-    (own.own c.in-Some.second (ap (λ (r : Rating). r.partner) (sym (rating_is k)) ∙ c.in-Some.is)).0 in
-    record { fits = omega (arith, o.1, c.requires.ratings_len.1.0) }
+    let r = get_or c.loop-rating.ratings f unrated in
+    let e = ap (λ (r : Rating). r.partner) (rating_is k) in
+    let z : 0 < r.partner = omega (arith, e, c.if-rating-gt0.true) in
+    let o = row_behind (within c.args.bound) cs f r.partner (place k).0
+    (((c.loop-rating.invariant.rated f (place k).0).own z).0 ∙ sym (rows.chosen_some f r.partner z)) z in
+    record { fits = omega (arith, e, o, c.requires.ratings_len.1.0) }
 
-pub returns-in-Some-clause-pair : goal.returns-in-Some-clause-pair
-returns-in-Some-clause-pair c =
-    let k = (goal.at.returns-in-Some-clause-pair c).In_ok-rating in
-    rated_pair (within c.args.bound) c.args.curves.now c.loop-rating.ratings c.loop-rating.invariant.rated c.highest-first.result (place k).0
-    c.highest-first.ensures.most c.highest-first.ensures.earliest c.in-Some.second (ap (λ (r : Rating). r.partner) (sym (rating_is k)) ∙ c.in-Some.is)
+pub returns-then-rating-gt0-clause-pair : goal.returns-then-rating-gt0-clause-pair
+returns-then-rating-gt0-clause-pair c =
+    let k = (goal.at.returns-then-rating-gt0-clause-pair c).In_ok-rating in
+    rw (rating_is k) (rated_pair (within c.args.bound) c.args.curves.now c.loop-rating.ratings c.loop-rating.invariant.rated c.highest-first.result (place k).0
+    c.highest-first.ensures.most c.highest-first.ensures.earliest (omega (arith, ap (λ (r : Rating). r.partner) (rating_is k), c.if-rating-gt0.true)))
 
 pub returns-then-rating-eq0-clause-pair : goal.returns-then-rating-eq0-clause-pair
 returns-then-rating-eq0-clause-pair c =
@@ -67,12 +71,16 @@ loop-rating-smaller c =
     let f = c.highest-first.result in
     let e = rating_is k in
     let b = c.best_partner in
+    let n : b.result.score ≡ rows.score cs f b.result.partner = b.ensures.score ∙ rows.score_as cs f b.result.partner in
     weights_set rs f b.result (place k).1
-    (lighter (get_or rs f unrated) b.result (ap (λ (r : Rating). r.partner) (sym e) ∙ c.in_default.is)
+    (lighter (get_or rs f unrated) b.result (omega (arith, ap (λ (r : Rating). r.partner) e, c.if-rating-gt0.false))
     (omega (arith, ap (λ (r : Rating). r.score) e, c.if-rating-eq0.false))
-    (no_higher (within c.args.bound) cs f b.result (get_or rs f unrated) (place k).0 (c.loop-rating.invariant.rated f (place k).0) b.ensures.partner
-    b.ensures.score)
-    (λ z. b.ensures.score ∙ ap (score_with cs f) z))
+    (omega (
+      arith,
+      n,
+      rated_score (within c.args.bound) cs f (get_or rs f unrated) (place k).0 (c.loop-rating.invariant.rated f (place k).0) b.result.partner b.ensures.partner,
+    ))
+    (λ z. n ∙ ap (rows.score cs f) z ∙ rows.score_none cs f))
 
 pub loop-rating-preserved : goal.loop-rating-preserved
 loop-rating-preserved c =
@@ -86,5 +94,5 @@ loop-rating-preserved c =
       long = simp length-set c.loop-rating.invariant.long;
       rated = λ n l.
           turned fits cs c.loop-rating.ratings f n b.result (place k).1
-          (row_rated fits cs f b.result (place k).0 b.ensures.partner b.ensures.score) (c.loop-rating.invariant.rated n l) (ℕ_discrete n f);
+          (row_rated fits cs f b.result (place k).0 b.ensures.partner (b.ensures.score ∙ rows.score_as cs f b.result.partner)) (c.loop-rating.invariant.rated n l) (ℕ_discrete n f);
     }

@@ -2,6 +2,7 @@
 use mathlib.Core.Path.{◌∙◌}
 use native.Mathlib.Omega.{arith}
 use Rattle.packages.specs.ContractWords.{within}
+use Rattle.packages.proofs.Rows as rows
 use Rattle.packages.proofs.Renew as renew
 use Rattle.packages.proofs.renew_ratings.Goals as goal
 
@@ -25,5 +26,6 @@ returns c =
     λ cs n e w.
     renew.all_rated fits cs ds a.ratings.now moved.new.xs front.new.ratings back.new.ratings a.pair.first a.pair.second own.result
     c.requires.first_lt_second.0 n c.requires.first_lt_second.1 e c.requires.first_lt_second.2 (front.auto.ratings ∙ moved.auto.xs)
-    moved.ensures (renew.row_rated fits ds a.pair.first own.result (omega (arith, c.requires.first_lt_second)) own.ensures.partner own.ensures.score)
+    moved.ensures (renew.row_rated fits ds a.pair.first own.result (omega (arith, c.requires.first_lt_second)) own.ensures.partner
+    (own.ensures.score ∙ rows.score_as ds a.pair.first own.result.partner))
     (front.ensures.before cs n e) front.ensures.behind back.ensures.behind back.ensures.before w
