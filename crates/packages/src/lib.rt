@@ -1,7 +1,7 @@
 #![tactic(auto)]
 // Method 3 of "Orders": packages with both rounds, heads, tails and flipping. The packages lie one behind the other in a list of tests. Beside it stand the
 // length of each package, its curves, how many these are, and its rating. What a package has in common with others is counted for all of them at once.
-ghost use Rattle.std.specs.Prelude.{◌≡◌, cond, List, ◌++◌, map, sum, reverse, ℕ, suc, ◌+◌, ◌-◌, ◌/◌, ◌%◌, ◌≤◌, ◌<◌, length, get_or, take, drop, ltb};
+ghost use Rattle.std.specs.Prelude.{◌≡◌, cond, List, ◌++◌, map, sum, reverse, ℕ, suc, ◌+◌, ◌-◌, ◌^◌, ◌≤◌, ◌<◌, length, get_or, take, drop, ltb};
 ghost use Rattle.std.specs.Iterator.{AlwaysYields, IsFinite};
 ghost use Rattle.bitset.specs.Set.{◌∪◌, size};
 ghost use Rattle.job.specs.Refusal.{overwritten};
@@ -35,6 +35,16 @@ pub struct Meeting {
     pub second: bool,
 }
 
+// A round: whether packages are joined with flipping, the wants of the tests, and the places.
+#[derive(Clone, Copy)]
+struct Round<'a> {
+    flipping: bool,
+    wants: &'a [u64],
+    places: usize,
+    // each want is a set of curves below 64
+    ghost small: { (t : ℕ) → get_or wants.now t 0 < 2 ^ 64 },
+}
+
 // No partner, and no score.
 const UNRATED: Rating = Rating {
     score: 0,
@@ -46,41 +56,6 @@ fn shared(a: u64, b: u64) -> usize
     ensures { result ≡ common a b }
 {
     bitset::size(a & b)
-}
-
-// The curves of the "longest opening run of tests whose union is at most the places".
-fn longest_run<'a, I: Iterator<Item = &'a u16> + Drop>(
-    wants: &[u64],
-    places: usize,
-    tests: I,
-) -> u64
-    requires can { I.can_next tests }
-    requires ends { IsFinite (I.remaining tests) }
-    ensures { (ts : List ℕ) → AlwaysYields I.next_gives (λ t. t.now) tests ts → result ≡ run_from wants.now places 0 ts }
-{
-    let mut run: u64 = 0;
-    for test in tests {
-        let wider = bitset::union(run, lists::entry(wants, *test as usize));
-        if places < bitset::size(wider) {
-            return run;
-        }
-        run = wider;
-    }
-    run
-}
-
-// The curves of a package's head.
-fn head(wants: &[u64], places: usize, tests: &[u16]) -> u64
-    ensures { result ≡ head wants.now places tests.now }
-{
-    longest_run(wants, places, tests.iter())
-}
-
-// The curves of its tail, "likewise from the end".
-fn tail(wants: &[u64], places: usize, tests: &[u16]) -> u64
-    ensures { result ≡ tail wants.now places tests.now }
-{
-    longest_run(wants, places, tests.iter().rev())
 }
 
 impl Meeting {
@@ -107,45 +82,6 @@ impl Meeting {
     }
 }
 
-// "Compare tail-head, tail-tail, head-head, head-tail (first package named first)": which of the packages a and b are reversed.
-fn flips(wants: &[u64], places: usize, a: &[u16], b: &[u16]) -> Meeting
-    ensures { flipped wants.now places a.now b.now
-        ≡ turned result.first a.now ++ turned result.second b.now }
-{
-    let a_head = head(wants, places, a);
-    let a_tail = tail(wants, places, a);
-    let b_head = head(wants, places, b);
-    let b_tail = tail(wants, places, b);
-    Meeting::of(a_tail, b_head, false, false)
-        .or_more(Meeting::of(a_tail, b_tail, false, true))
-        .or_more(Meeting::of(a_head, b_head, true, false))
-        .or_more(Meeting::of(a_head, b_tail, true, true))
-}
-
-// How the packages `part[..a]` and `part[from..]` are joined: in the second round with flipping, in the first as they are.
-fn ways(
-    flipping: bool,
-    wants: &[u64],
-    places: usize,
-    part: &[u16],
-    a: usize,
-    from: usize,
-) -> Meeting
-    requires { (a ≤ length part.now) × (from ≤ length part.now) }
-    ensures { join_by flipping wants.now places (take a part.now) (drop from part.now)
-        ≡ turned result.first (take a part.now) ++ turned result.second (drop from part.now) }
-{
-    if flipping {
-        flips(wants, places, &part[..a], &part[from..])
-    } else {
-        Meeting {
-            common: 0,
-            first: false,
-            second: false,
-        }
-    }
-}
-
 // Reverses a list in place.
 pub fn reverse(xs: &mut [u16])
     ensures { xs.new ≡ reverse xs.old }
@@ -159,19 +95,6 @@ fn reverse_if(turn: bool, xs: &mut [u16])
     if turn {
         reverse(xs);
     }
-}
-
-// "The second's tests go behind the first's": the first has a tests at the start of the part, the second b at its end.
-fn join_tests(flipping: bool, wants: &[u64], places: usize, part: &mut [u16], a: usize, b: usize)
-    requires { a + b ≤ length part.old }
-    ensures { (x y z : List ℕ) → part.old ≡ x ++ (y ++ z) → length x ≡ a → length z ≡ b
-        → part.new ≡ join_by flipping wants.now places x z ++ y }
-{
-    let from = part.len() - b;
-    let way = ways(flipping, wants, places, part, a, from);
-    reverse_if(way.first, &mut part[..a]);
-    reverse_if(way.second, &mut part[from..]);
-    part[a..].rotate_left(from - a);
 }
 
 // The number of tests in packages of these lengths.
@@ -504,82 +427,147 @@ pub fn listed_order(tests: usize, order: &mut [u16])
     as_listed(tests, order);
 }
 
-// Joins the tests and the lengths of two packages. The packages lie in the order, one behind the other.
-fn join_packages(
-    flipping: bool,
-    wants: &[u64],
-    places: usize,
-    order: &mut [u16],
-    lengths: &mut [usize],
-    pair: PackagePair,
-)
-    requires { (pair.first < pair.second) × (pair.second < length lengths.old) × (sum lengths.old ≤ 256) × (sum lengths.old ≤ length order.old) }
-    ensures joined { (ps : List (List ℕ)) (rest : List ℕ) → Laid ps rest order.old lengths.old
-        → Laid (joined (join_by flipping wants.now places) ps (at pair.first pair.second)) rest order.new (take (length lengths.old - 1) lengths.new) }
-    ensures sum { sum (take (length lengths.old - 1) lengths.new) ≡ sum lengths.old }
-{
-    let a = lengths[pair.first];
-    let b = lengths[pair.second];
-    let from = total(&lengths[..pair.first]);
-    let to = total(&lengths[..pair.second]) + b;
-    join_tests(flipping, wants, places, &mut order[from..to], a, b);
-    join_entry(lengths, pair, a + b);
-}
+impl Round<'_> {
+    // The curves of the "longest opening run of tests whose union is at most the places".
+    fn longest_run<'t, I: Iterator<Item = &'t u16> + Drop>(&self, tests: I) -> u64
+        requires can { I.can_next tests }
+        requires ends { IsFinite (I.remaining tests) }
+        ensures { (ts : List ℕ) → AlwaysYields I.next_gives (λ t. t.now) tests ts → result ≡ run_from self.now.wants.now self.now.places 0 ts }
+    {
+        let mut run: u64 = 0;
+        for test in tests {
+            let wider = bitset::union(run, lists::entry(self.wants, *test as usize));
+            if self.places < bitset::size(wider) {
+                return run;
+            }
+            run = wider;
+        }
+        run
+    }
 
-// The bound of a pair's union: in the first round the places, in the second none, as a union of sets of 64 curves is always at most 64.
-fn round_bound(flipping: bool, places: usize) -> usize
-    ensures { result ≡ cond flipping 64 places }
-{
-    if flipping { 64 } else { places }
-}
+    // The curves of a package's head.
+    fn head(&self, tests: &[u16]) -> u64
+        ensures { result ≡ head self.now.wants.now self.now.places tests.now }
+    {
+        self.longest_run(tests.iter())
+    }
 
-// One round: joins the closest pair as long as there is one, and says how many packages are left.
-fn join_all(
-    flipping: bool,
-    wants: &[u64],
-    places: usize,
-    order: &mut [u16],
-    lengths: &mut [usize],
-    curves: &mut [u64],
-) -> usize
-    requires { (length lengths.old ≤ 256) × (length curves.old ≡ length lengths.old) × (sum lengths.old ≤ 256)
-        × (sum lengths.old ≤ length order.old) }
-    ensures left { (result ≤ length lengths.old) × (sum (take result lengths.new) ≡ sum lengths.old) }
-    ensures round { (ps : List (List ℕ)) (rest : List ℕ) → Laid ps rest order.old lengths.old → curves.old ≡ map (curves_of wants.now) ps
-        → Laid (round_of flipping wants.now places ps) rest order.new (take result lengths.new)
-        × (take result curves.new ≡ map (curves_of wants.now) (round_of flipping wants.now places ps)) }
-{
-    let bound = round_bound(flipping, places);
-    let mut left = lengths.len();
-    let mut sizes = sizes_of(curves);
-    let mut counts = [0u16; 256];
-    let mut ratings = [UNRATED; 256];
-    best_partners(
-        bound,
-        curves,
-        &sizes[..left],
-        &mut counts,
-        &mut ratings[..left],
-    );
-    while let Some(pair) = closest(
-        bound,
-        &curves[..left],
-        &sizes[..left],
-        &mut counts,
-        &mut ratings[..left],
-    ) {
-        join_packages(flipping, wants, places, order, &mut lengths[..left], pair);
-        join_curves(
+    // The curves of its tail, "likewise from the end".
+    fn tail(&self, tests: &[u16]) -> u64
+        ensures { result ≡ tail self.now.wants.now self.now.places tests.now }
+    {
+        self.longest_run(tests.iter().rev())
+    }
+
+    // "Compare tail-head, tail-tail, head-head, head-tail (first package named first)": which of the packages a and b are reversed.
+    fn flips(&self, a: &[u16], b: &[u16]) -> Meeting
+        ensures { flipped self.now.wants.now self.now.places a.now b.now
+            ≡ turned result.first a.now ++ turned result.second b.now }
+    {
+        let a_head = self.head(a);
+        let a_tail = self.tail(a);
+        let b_head = self.head(b);
+        let b_tail = self.tail(b);
+        Meeting::of(a_tail, b_head, false, false)
+            .or_more(Meeting::of(a_tail, b_tail, false, true))
+            .or_more(Meeting::of(a_head, b_head, true, false))
+            .or_more(Meeting::of(a_head, b_tail, true, true))
+    }
+
+    // How the packages `part[..a]` and `part[from..]` are joined: in the second round with flipping, in the first as they are.
+    fn ways(&self, part: &[u16], a: usize, from: usize) -> Meeting
+        requires { (a ≤ length part.now) × (from ≤ length part.now) }
+        ensures { join_by self.now.flipping self.now.wants.now self.now.places (take a part.now) (drop from part.now)
+            ≡ turned result.first (take a part.now) ++ turned result.second (drop from part.now) }
+    {
+        if self.flipping {
+            self.flips(&part[..a], &part[from..])
+        } else {
+            Meeting {
+                common: 0,
+                first: false,
+                second: false,
+            }
+        }
+    }
+
+    // "The second's tests go behind the first's": the first has a tests at the start of the part, the second b at its end.
+    fn join_tests(&self, part: &mut [u16], a: usize, b: usize)
+        requires { a + b ≤ length part.old }
+        ensures { (x y z : List ℕ) → part.old ≡ x ++ (y ++ z) → length x ≡ a → length z ≡ b
+            → part.new ≡ join_by self.now.flipping self.now.wants.now self.now.places x z ++ y }
+    {
+        let from = part.len() - b;
+        let way = self.ways(part, a, from);
+        reverse_if(way.first, &mut part[..a]);
+        reverse_if(way.second, &mut part[from..]);
+        part[a..].rotate_left(from - a);
+    }
+
+    // Joins the tests and the lengths of two packages. The packages lie in the order, one behind the other.
+    fn join_packages(&self, order: &mut [u16], lengths: &mut [usize], pair: PackagePair)
+        requires { (pair.first < pair.second) × (pair.second < length lengths.old) × (sum lengths.old ≤ 256) × (sum lengths.old ≤ length order.old) }
+        ensures joined { (ps : List (List ℕ)) (rest : List ℕ) → Laid ps rest order.old lengths.old
+            → Laid (joined (join_by self.now.flipping self.now.wants.now self.now.places) ps (at pair.first pair.second)) rest order.new
+            (take (length lengths.old - 1) lengths.new) }
+        ensures sum { sum (take (length lengths.old - 1) lengths.new) ≡ sum lengths.old }
+    {
+        let a = lengths[pair.first];
+        let b = lengths[pair.second];
+        let from = total(&lengths[..pair.first]);
+        let to = total(&lengths[..pair.second]) + b;
+        self.join_tests(&mut order[from..to], a, b);
+        join_entry(lengths, pair, a + b);
+    }
+
+    // The bound of a pair's union: in the first round the places, in the second none, as a union of sets of 64 curves is always at most 64.
+    fn bound(&self) -> usize
+        ensures { result ≡ cond self.now.flipping 64 self.now.places }
+    {
+        if self.flipping { 64 } else { self.places }
+    }
+
+    // One round: joins the closest pair as long as there is one, and says how many packages are left.
+    fn join_all(&self, order: &mut [u16], lengths: &mut [usize], curves: &mut [u64]) -> usize
+        requires { (length lengths.old ≤ 256) × (length curves.old ≡ length lengths.old) × (sum lengths.old ≤ 256)
+            × (sum lengths.old ≤ length order.old) }
+        ensures left { (result ≤ length lengths.old) × (sum (take result lengths.new) ≡ sum lengths.old) }
+        ensures round { (ps : List (List ℕ)) (rest : List ℕ) → Laid ps rest order.old lengths.old → curves.old ≡ map (curves_of self.now.wants.now) ps
+            → Laid (round_of self.now.flipping self.now.wants.now self.now.places ps) rest order.new (take result lengths.new)
+            × (take result curves.new ≡ map (curves_of self.now.wants.now) (round_of self.now.flipping self.now.wants.now self.now.places ps)) }
+    {
+        let bound = self.bound();
+        let mut left = lengths.len();
+        let mut sizes = sizes_of(curves);
+        let mut counts = [0u16; 256];
+        let mut ratings = [UNRATED; 256];
+        best_partners(
             bound,
-            &mut curves[..left],
-            &mut sizes[..left],
+            curves,
+            &sizes[..left],
             &mut counts,
             &mut ratings[..left],
-            pair,
         );
-        left -= 1;
+        while let Some(pair) = closest(
+            bound,
+            &curves[..left],
+            &sizes[..left],
+            &mut counts,
+            &mut ratings[..left],
+        ) {
+            self.join_packages(order, &mut lengths[..left], pair);
+            join_curves(
+                bound,
+                &mut curves[..left],
+                &mut sizes[..left],
+                &mut counts,
+                &mut ratings[..left],
+                pair,
+            );
+            left -= 1;
+        }
+        left
     }
-    left
 }
 
 // Method 3: "Each test begins as a package, in list order", and then the two rounds.
@@ -591,22 +579,18 @@ fn order_by_packages(places: usize, wants: &[u64], order: &mut [u16])
     as_listed(tests, order);
     let mut lengths = [1; 256];
     let mut curves = first_curves(wants);
-    let left = join_all(
-        false,
+    let first = Round {
+        flipping: false,
         wants,
         places,
-        order,
-        &mut lengths[..tests],
-        &mut curves[..tests],
-    );
-    join_all(
-        true,
+    };
+    let left = first.join_all(order, &mut lengths[..tests], &mut curves[..tests]);
+    let second = Round {
+        flipping: true,
         wants,
         places,
-        order,
-        &mut lengths[..left],
-        &mut curves[..left],
-    );
+    };
+    second.join_all(order, &mut lengths[..left], &mut curves[..left]);
 }
 
 // "3, packages", of at most 256 tests: writes the tests to the beginning of `order`, where they fit.

@@ -1,4 +1,4 @@
--- `packages::join_tests` meets its contract.
+-- `Round::join_tests` meets its contract.
 use mathlib.Core.List.{append_assoc, List, ◌++◌}
 use mathlib.Core.Path.{◌≡◌, refl, sym, ap, ◌∙◌}
 use Prim.Native.Nat.{ℕ, ◌-◌}
@@ -6,7 +6,7 @@ use native.Mathlib.Omega.{arith}
 use lib.ListN.{length-append, length, take, drop}
 use lib.Seq.{take_at, drop_at, length-take-le}
 use Rattle.packages.proofs.Runs as runs
-use Rattle.packages.proofs.join_tests.Goals as goal
+use Rattle.packages.proofs.Round.join_tests.Goals as goal
 
 pub slice_bounds-reverse_if-end-2 : goal.slice_bounds-reverse_if-end-2
 slice_bounds-reverse_if-end-2 c =

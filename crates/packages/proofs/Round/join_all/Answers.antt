@@ -10,8 +10,8 @@ use Rattle.packages.specs.ContractWords.{Laid, AllRated}
 use Rattle.packages.specs.declared.Rating.{Rating}
 use Rattle.packages.proofs.Renew as renew
 use Rattle.packages.proofs.State as state
-use Rattle.packages.proofs.join_all.Goals.{At-loop-pair, In-Some}
-use Rattle.packages.proofs.join_all.Goals as goal
+use Rattle.packages.proofs.Round.join_all.Goals.{At-loop-pair, In-Some}
+use Rattle.packages.proofs.Round.join_all.Goals as goal
 
 module _ (c : At-loop-pair) where
   few : c.loop-pair.left ≤ 256
@@ -49,7 +49,7 @@ module _ (c : In-Some) where
 
 pub returns-clause-round : goal.returns-clause-round
 returns-clause-round c = λ ps rest laid sets.
-    state.left_end (c.loop-pair.invariant.goes ps rest laid sets) (λ t. (c.type_inv.wants t).fits) _ c.round_bound-bound.ensures c.in_default.ensures.pair
+    state.left_end (c.loop-pair.invariant.goes ps rest laid sets) c.args.self.now.small _ c.bound-bound.ensures c.in_default.ensures.pair
 
 pub join_packages-requires : goal.join_packages-requires
 join_packages-requires c =
@@ -91,11 +91,11 @@ loop-pair-preserved c =
       long_ratings = length_front (back k) rs n jc.auto.ratings ∙ back_all k;
       sums = ap sum lens ∙ jp.ensures.sum ∙ v.sums;
       sized = some ∙ jc.ensures.sized ∙ ap (map size) (sym sets);
-      best = subst (λ (l : List ℕ). AllRated c.round_bound-bound.result l (take (n - 1) (rs ++ drop n (back k)))) (sym sets)
+      best = subst (λ (l : List ℕ). AllRated c.bound-bound.result l (take (n - 1) (rs ++ drop n (back k)))) (sym sets)
           (renew.front_rated _ (take (m - 1) cs) rs (drop n (back k)) (n - 1) (omega (arith, jc.auto.ratings, back_long k))
           (omega (arith, e, length-take (m - 1) cs)) jc.ensures.rated);
       goes = λ ps rest laid first.
-          state.left_join (v.goes ps rest laid first) (λ t. (c.type_inv.wants t).fits) _ c.round_bound-bound.ensures r.first r.second c.in-Some.ensures.pair
+          state.left_join (v.goes ps rest laid first) c.args.self.now.small _ c.bound-bound.ensures r.first r.second c.in-Some.ensures.pair
           _ _ _ (λ qs more l. subst (Laid _ more _) (sym lens) (jp.ensures.joined qs more l)) (sets ∙ jc.ensures.sets);
     }
 

@@ -1,4 +1,4 @@
--- `packages::join_packages` meets its contract.
+-- `Round::join_packages` meets its contract.
 use mathlib.Core.Path.{refl, sym, ap, ◌∙◌}
 use Prim.Native.Nat.{ℕ, ◌+◌, ◌-◌, ◌≤◌}
 use native.Mathlib.Omega.{arith}
@@ -8,8 +8,8 @@ use Rattle.std.specs.List.{sum}
 use Rattle.std.proofs.lemmas.List.Sums.{sum_by-take-le}
 use Rattle.packages.proofs.Lists as lists
 use Rattle.packages.proofs.State as state
-use Rattle.packages.proofs.join_packages.Goals.{After-total}
-use Rattle.packages.proofs.join_packages.Goals as goal
+use Rattle.packages.proofs.Round.join_packages.Goals.{After-total}
+use Rattle.packages.proofs.Round.join_packages.Goals as goal
 
 -- the part of the tests that the join changes
 spans : (c : After-total) → let ls =
@@ -73,6 +73,6 @@ returns c =
       joined = λ ps rest laid.
           state.laid_join laid i j c.requires.0 c.requires.1 (get_or ls i 0) b one.result (two.result + b) refl refl one.ensures
           (ap (λ (n : ℕ). n + b) two.ensures)
-          c.args.flipping c.args.wants.now c.args.places jt.new.part _ _ jt.ensures refl c.join_entry.ensures;
+          c.args.self.now.flipping c.args.self.now.wants.now c.args.self.now.places jt.new.part _ _ jt.ensures refl c.join_entry.ensures;
       sum = ap sum c.join_entry.ensures ∙ lists.sum_joined ls i j c.requires.0 c.requires.1;
     }
