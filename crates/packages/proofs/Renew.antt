@@ -2,17 +2,17 @@
 use mathlib.Core.Path.{◌≡◌, refl, sym, ap, ◌∙◌, subst}
 use mathlib.Core.Bool.{Bool, true, false, false≢true}
 use mathlib.Core.List.{List, ◌++◌}
-use Prim.Native.Nat.{ℕ, zero, suc, ◌+◌, ◌-◌, ◌≤◌, ◌<◌}
+use Prim.Native.Nat.{ℕ, zero, suc, ◌+◌, ◌-◌, ◌^◌, ◌≤◌, ◌<◌}
 use native.Mathlib.Omega.{arith}
 use native.Mathlib.Decide.{ℕ_discrete, dec_lt}
-use lib.ListN.{length, get_or, take, drop, set, length-set, get_or-append}
+use lib.ListN.{length, get_or, take, drop, set, length-set, length-take, get_or-append, get_or-eq_default}
 use lib.Seq.{take-append-le, get_or-take, get_or-drop, get_or-append-add, get_or-set_same, get_or-set_other, length-take-le}
 use borrow.Author.Tests.{lt-ltb, le-ltb, eq-eqb, ne_eqb}
 use Rattle.bitset.specs.Set.{◌∪◌}
 use Rattle.lists.specs.Choice.{Found, nobody, found}
 use Rattle.packages.specs.Tests.{common}
 use Rattle.packages.specs.Packages.{Pair}
-use Rattle.packages.specs.ContractWords.{unrated, Rated, lone_of, moved_up}
+use Rattle.packages.specs.ContractWords.{joined_entry, unrated, Rated, lone_of, moved_up}
 use Rattle.packages.specs.declared.Rating.{Rating}
 use Rattle.packages.proofs.Rows.{chosen, chosen_some, chosen_none, score, score_none, score_some, row_to, row_start, row_take, row_pass, row_keep}
 
@@ -196,6 +196,26 @@ entry_out {A} d ds ls j within made x = go (dec_lt x j)
         ap (λ (m : List A). get_or m x d) made ∙ ap (λ (m : ℕ). get_or (take j ls ++ drop (suc j) ls) m d) e
         ∙ get_or-append-add (take j ls) (drop (suc j) ls) (x - j) d
         ∙ get_or-drop (suc j) ls (x - j) d ∙ ap (λ (m : ℕ). get_or ls m d) f
+
+-- what holds of each set of a list of curves holds of the first ones
+pub small_front : (xs : List ℕ) (n : ℕ) → ((k : ℕ) → get_or xs k 0 < 2 ^ 64) → (k : ℕ) → get_or (take n xs) k 0 < 2 ^ 64
+small_front xs n h k = go (dec_lt k n)
+  where
+    go : Dec (k < n) → get_or (take n xs) k 0 < 2 ^ 64
+    go (yes l) = omega (arith, get_or-take n xs k 0 l, h k)
+    go (no l) = omega (arith, get_or-eq_default (take n xs) 0 {n = k} (omega (arith, length-take n xs)))
+
+-- sets of curves below 64 stay such
+pub joined_small : (cs : List ℕ) (i j v : ℕ) → i < length cs → j ≤ length cs → ((k : ℕ) → get_or cs k 0 < 2 ^ 64) → v < 2 ^ 64 → (k : ℕ)
+    → get_or (joined_entry cs i j v) k 0 < 2 ^ 64
+joined_small cs i j v l m h w k = go (ℕ_discrete (old_place j k) i)
+  where
+    at : get_or (joined_entry cs i j v) k 0 ≡ get_or (set cs i v) (old_place j k) 0
+    at = entry_out 0 (joined_entry cs i j v) (set cs i v) j (omega (arith, length-set cs i v)) refl k
+
+    go : Dec (old_place j k ≡ i) → get_or (joined_entry cs i j v) k 0 < 2 ^ 64
+    go (yes d) = omega (arith, at, ap (λ (n : ℕ). get_or (set cs i v) n 0) d, get_or-set_same cs i v 0 l, w)
+    go (no d) = omega (arith, at, get_or-set_other cs i (old_place j k) v 0 d, h (old_place j k))
 
 module _ (fits : ℕ → Bool) (cs ds : List ℕ) (i j : ℕ) (before : i < j) (long : length cs ≡ suc (length ds)) (within : j ≤ length ds)
     (made : ds ≡ take j (set cs i (get_or cs i 0 ∪ get_or cs j 0)) ++ drop (suc j) (set cs i (get_or cs i 0 ∪ get_or cs j 0))) where

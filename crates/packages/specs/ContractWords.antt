@@ -83,7 +83,3 @@ lone_of r = record { score = r.score; partner = 0 }
 -- The rating of another package after a join with the second package j, which is no partner any more; those behind it move up by one.
 abbrev pub moved_up : ℕ → Rating → Rating
 moved_up j r = cond (eqb r.partner j) (lone_of r) (cond (ltb j r.partner) (record { score = r.score; partner = r.partner - 1 }) r)
-
--- beside the curves cs of at most 256 packages, their sizes, and a list that takes a count for each
-abbrev pub Sized : List ℕ → List ℕ → List ℕ → Type 0
-Sized cs sizes counts = (length cs ≤ 256) × (length cs ≤ length counts) × (sizes ≡ map size cs)

@@ -9,7 +9,7 @@ ghost use Rattle.lists.specs.Choice.{nobody, best_of};
 ghost use Rattle.packages.specs.Tests.{common, up_to, entered};
 ghost use Rattle.packages.specs.Packages.{shared, eligible, closer, best_pair, curves_of, joined, run_from, head, tail, flipped, packages};
 ghost use Rattle.packages.specs.ContractWords.{at, turned, joined_entry, joined_curves, join_by, round_of, Laid};
-ghost use Rattle.packages.specs.ContractWords.{within, with_partner, score_with, named, unrated, Rated, AllRated, lone_of, moved_up, Sized};
+ghost use Rattle.packages.specs.ContractWords.{within, with_partner, score_with, named, unrated, Rated, AllRated, lone_of, moved_up};
 
 // Two places in the list of packages.
 #[derive(Clone, Copy)]
@@ -33,6 +33,17 @@ pub struct Meeting {
     pub common: usize,
     pub first: bool,
     pub second: bool,
+}
+
+// What packages are chosen by: their curves, how many these are, and the bound of a pair's union.
+#[derive(Clone, Copy)]
+struct Table<'a> {
+    bound: usize,
+    curves: &'a [u64],
+    sizes: &'a [usize],
+    ghost few: { length curves.now ≤ 256 },
+    ghost small: { (k : ℕ) → get_or curves.now k 0 < 2 ^ 64 },
+    ghost sized: { sizes.now ≡ map size curves.now },
 }
 
 // A round: whether packages are joined with flipping, the wants of the tests, and the places.
@@ -132,59 +143,6 @@ fn count_behind(curves: &[u64], counts: &mut [u16], k: usize)
     write_common(curves[k], &curves[k..], &mut counts[k..]);
 }
 
-// The size of a union, by the sizes of the two sets and of what they have in common.
-fn union_size(a: usize, b: usize, both: u16) -> usize
-    requires { (a ≤ 64) × (b ≤ 64) × (both ≤ a) }
-    ensures { (x y : ℕ) → a ≡ size x → b ≡ size y → both ≡ common x y → result ≡ size (x ∪ y) }
-{
-    a + b - both as usize
-}
-
-// The rating of a package, whose partner gives "the pair with most common curves; ties to .. the earlier second package". It has none where no union is at
-// most the bound.
-fn best_partner(
-    bound: usize,
-    curves: &[u64],
-    sizes: &[usize],
-    counts: &mut [u16],
-    first: usize,
-) -> Rating
-    requires { (first < length curves.now) × Sized curves.now sizes.now counts.old }
-    ensures partner { best_of (eligible (within bound) curves.now) (closer curves.now) (at first) (length curves.now) nobody ≡ with_partner first result.partner }
-    ensures score { result.score ≡ score_with curves.now first result.partner }
-{
-    count_behind(curves, counts, first);
-    let mut best = UNRATED;
-    for j in first + 1..curves.len() {
-        let score = 1 + counts[j];
-        if best.score < score {
-            if union_size(sizes[first], sizes[j], counts[j]) <= bound {
-                best = Rating {
-                    score,
-                    partner: j as u16,
-                };
-            }
-        }
-    }
-    best
-}
-
-// The rating of each package.
-fn best_partners(
-    bound: usize,
-    curves: &[u64],
-    sizes: &[usize],
-    counts: &mut [u16],
-    ratings: &mut [Rating],
-)
-    requires { (length ratings.old ≡ length curves.now) × Sized curves.now sizes.now counts.old }
-    ensures { AllRated bound curves.now ratings.new }
-{
-    for k in 0..curves.len() {
-        ratings[k] = best_partner(bound, curves, sizes, counts, k);
-    }
-}
-
 // The place of the highest score, "ties to the earlier first".
 fn highest(ratings: &[Rating]) -> usize
     ensures most { (k : ℕ) → (get_or ratings.now k unrated).score ≤ (get_or ratings.now result unrated).score }
@@ -199,36 +157,6 @@ fn highest(ratings: &[Rating]) -> usize
         }
     }
     first
-}
-
-// The pair with most common curves, "ties to the earlier first, then the earlier second package": the package with the highest score, and its partner. Where
-// that is not known it is looked for anew.
-fn closest(
-    bound: usize,
-    curves: &[u64],
-    sizes: &[usize],
-    counts: &mut [u16],
-    ratings: &mut [Rating],
-) -> Option<PackagePair>
-    requires ratings_len { (length ratings.old ≡ length curves.now) × Sized curves.now sizes.now counts.old }
-    requires all_rated { AllRated bound curves.now ratings.old }
-    ensures pair { best_pair (within bound) curves.now (length curves.now) ≡ named result }
-    ensures rated { AllRated bound curves.now ratings.new }
-{
-    loop {
-        let first = highest(ratings);
-        let rating = *ratings.get(first)?;
-        if 0 < rating.partner {
-            return Some(PackagePair {
-                first,
-                second: rating.partner as usize,
-            });
-        }
-        if rating.score == 0 {
-            return None;
-        }
-        ratings[first] = best_partner(bound, curves, sizes, counts, first);
-    }
 }
 
 impl Rating {
@@ -306,50 +234,103 @@ fn renew_behind(ratings: &mut [Rating], pair: PackagePair)
     }
 }
 
-// The ratings of the packages before the joined one.
-fn renew_before(
-    bound: usize,
-    curves: &[u64],
-    sizes: &[usize],
-    counts: &mut [u16],
-    ratings: &mut [Rating],
-    pair: PackagePair,
-)
-    requires first_lt_second { (pair.first < pair.second) × (pair.second ≤ length curves.now) × (length ratings.old ≡ suc (length curves.now)) }
-    requires sized { Sized curves.now sizes.now counts.old }
-    ensures before { (cs : List ℕ) → length cs ≡ suc (length curves.now)
-        → curves.now ≡ joined_curves cs pair.first pair.second
-        → (k : ℕ) → k < pair.first → Rated (within bound) cs k (get_or ratings.old k unrated)
-        → Rated (within bound) curves.now k (get_or ratings.new k unrated) }
-    ensures behind { (k : ℕ) → pair.first ≤ k → get_or ratings.new k unrated ≡ get_or ratings.old k unrated }
-{
-    write_common(curves[pair.first], &curves[..pair.first], counts);
-    for row in 0..pair.first {
-        let both = counts[row];
-        let fits = union_size(sizes[row], sizes[pair.first], both) <= bound;
-        ratings[row] = ratings[row].renewed(fits, both, pair);
+impl Table<'_> {
+    // Whether the union of two packages is at most the bound, by the sizes of the two and of what they have in common.
+    fn fits(&self, i: usize, j: usize, both: u16) -> bool
+        requires within { (i < length self.now.curves.now) × (j < length self.now.curves.now) }
+        requires both { both ≡ shared self.now.curves.now (at i j) }
+        ensures { result ≡ within self.now.bound (get_or self.now.curves.now i 0 ∪ get_or self.now.curves.now j 0) }
+    {
+        self.sizes[i] + self.sizes[j] - both as usize <= self.bound
     }
-}
 
-// The rating of each package after the join.
-fn renew_ratings(
-    bound: usize,
-    curves: &[u64],
-    sizes: &[usize],
-    counts: &mut [u16],
-    ratings: &mut [Rating],
-    pair: PackagePair,
-)
-    requires first_lt_second { (pair.first < pair.second) × (pair.second ≤ length curves.now) × (length ratings.old ≡ suc (length curves.now)) }
-    requires sized { Sized curves.now sizes.now counts.old }
-    ensures { (cs : List ℕ) → length cs ≡ suc (length curves.now)
-        → curves.now ≡ joined_curves cs pair.first pair.second
-        → AllRated bound cs ratings.old → AllRated bound curves.now ratings.new }
-{
-    let own = best_partner(bound, curves, sizes, counts, pair.first);
-    join_entry(ratings, pair, own);
-    renew_before(bound, curves, sizes, counts, ratings, pair);
-    renew_behind(ratings, pair);
+    // The rating of a package, whose partner gives "the pair with most common curves; ties to .. the earlier second package". It has none where no union is at
+    // most the bound.
+    fn best_partner(&self, counts: &mut [u16; 256], first: usize) -> Rating
+        requires { first < length self.now.curves.now }
+        ensures partner { best_of (eligible (within self.now.bound) self.now.curves.now) (closer self.now.curves.now) (at first)
+            (length self.now.curves.now) nobody ≡ with_partner first result.partner }
+        ensures score { result.score ≡ score_with self.now.curves.now first result.partner }
+    {
+        count_behind(self.curves, counts, first);
+        let mut best = UNRATED;
+        for j in first + 1..self.curves.len() {
+            let score = 1 + counts[j];
+            if best.score < score {
+                if self.fits(first, j, counts[j]) {
+                    best = Rating {
+                        score,
+                        partner: j as u16,
+                    };
+                }
+            }
+        }
+        best
+    }
+
+    // The rating of each package.
+    fn best_partners(&self, counts: &mut [u16; 256], ratings: &mut [Rating])
+        requires { length ratings.old ≡ length self.now.curves.now }
+        ensures { AllRated self.now.bound self.now.curves.now ratings.new }
+    {
+        for k in 0..self.curves.len() {
+            ratings[k] = self.best_partner(counts, k);
+        }
+    }
+
+    // The pair with most common curves, "ties to the earlier first, then the earlier second package": the package with the highest score, and its partner. Where
+    // that is not known it is looked for anew.
+    fn closest(&self, counts: &mut [u16; 256], ratings: &mut [Rating]) -> Option<PackagePair>
+        requires ratings_len { length ratings.old ≡ length self.now.curves.now }
+        requires all_rated { AllRated self.now.bound self.now.curves.now ratings.old }
+        ensures pair { best_pair (within self.now.bound) self.now.curves.now (length self.now.curves.now) ≡ named result }
+        ensures rated { AllRated self.now.bound self.now.curves.now ratings.new }
+    {
+        loop {
+            let first = highest(ratings);
+            let rating = *ratings.get(first)?;
+            if 0 < rating.partner {
+                return Some(PackagePair {
+                    first,
+                    second: rating.partner as usize,
+                });
+            }
+            if rating.score == 0 {
+                return None;
+            }
+            ratings[first] = self.best_partner(counts, first);
+        }
+    }
+
+    // The ratings of the packages before the joined one.
+    fn renew_before(&self, counts: &mut [u16; 256], ratings: &mut [Rating], pair: PackagePair)
+        requires { (pair.first < pair.second) × (pair.second ≤ length self.now.curves.now) × (length ratings.old ≡ suc (length self.now.curves.now)) }
+        ensures before { (cs : List ℕ) → length cs ≡ suc (length self.now.curves.now)
+            → self.now.curves.now ≡ joined_curves cs pair.first pair.second
+            → (k : ℕ) → k < pair.first → Rated (within self.now.bound) cs k (get_or ratings.old k unrated)
+            → Rated (within self.now.bound) self.now.curves.now k (get_or ratings.new k unrated) }
+        ensures behind { (k : ℕ) → pair.first ≤ k → get_or ratings.new k unrated ≡ get_or ratings.old k unrated }
+    {
+        write_common(self.curves[pair.first], &self.curves[..pair.first], counts);
+        for row in 0..pair.first {
+            let both = counts[row];
+            let fits = self.fits(row, pair.first, both);
+            ratings[row] = ratings[row].renewed(fits, both, pair);
+        }
+    }
+
+    // The rating of each package after the join.
+    fn renew_ratings(&self, counts: &mut [u16; 256], ratings: &mut [Rating], pair: PackagePair)
+        requires { (pair.first < pair.second) × (pair.second ≤ length self.now.curves.now) × (length ratings.old ≡ suc (length self.now.curves.now)) }
+        ensures { (cs : List ℕ) → length cs ≡ suc (length self.now.curves.now)
+            → self.now.curves.now ≡ joined_curves cs pair.first pair.second
+            → AllRated self.now.bound cs ratings.old → AllRated self.now.bound self.now.curves.now ratings.new }
+    {
+        let own = self.best_partner(counts, pair.first);
+        join_entry(ratings, pair, own);
+        self.renew_before(counts, ratings, pair);
+        renew_behind(ratings, pair);
+    }
 }
 
 // Joins the curves of two packages; the sizes and the ratings after it.
@@ -357,12 +338,13 @@ fn join_curves(
     bound: usize,
     curves: &mut [u64],
     sizes: &mut [usize],
-    counts: &mut [u16],
+    counts: &mut [u16; 256],
     ratings: &mut [Rating],
     pair: PackagePair,
 )
     requires first_lt_second { (pair.first < pair.second) × (pair.second < length curves.old) × (length ratings.old ≡ length curves.old) }
-    requires sized_2 { Sized curves.old sizes.old counts.old }
+    requires sized_2 { (length curves.old ≤ 256) × (sizes.old ≡ map size curves.old) }
+    requires small { (k : ℕ) → get_or curves.old k 0 < 2 ^ 64 }
     requires all_rated { AllRated bound curves.old ratings.old }
     ensures sets { take (length curves.old - 1) curves.new ≡ joined_curves curves.old pair.first pair.second }
     ensures sized { take (length curves.old - 1) sizes.new ≡ map size (take (length curves.old - 1) curves.new) }
@@ -372,14 +354,12 @@ fn join_curves(
     let joined = bitset::union(curves[pair.first], curves[pair.second]);
     join_entry(curves, pair, joined);
     join_entry(sizes, pair, bitset::size(joined));
-    renew_ratings(
+    let table = Table {
         bound,
-        &curves[..left],
-        &sizes[..left],
-        counts,
-        ratings,
-        pair,
-    );
+        curves: &curves[..left],
+        sizes: &sizes[..left],
+    };
+    table.renew_ratings(counts, ratings, pair);
 }
 
 // The sizes of the packages' curves.
@@ -541,20 +521,21 @@ impl Round<'_> {
         let mut sizes = sizes_of(curves);
         let mut counts = [0u16; 256];
         let mut ratings = [UNRATED; 256];
-        best_partners(
+        let table = Table {
             bound,
             curves,
-            &sizes[..left],
-            &mut counts,
-            &mut ratings[..left],
-        );
-        while let Some(pair) = closest(
-            bound,
-            &curves[..left],
-            &sizes[..left],
-            &mut counts,
-            &mut ratings[..left],
-        ) {
+            sizes: &sizes[..left],
+        };
+        table.best_partners(&mut counts, &mut ratings[..left]);
+        loop {
+            let table = Table {
+                bound,
+                curves: &curves[..left],
+                sizes: &sizes[..left],
+            };
+            let Some(pair) = table.closest(&mut counts, &mut ratings[..left]) else {
+                return left;
+            };
             self.join_packages(order, &mut lengths[..left], pair);
             join_curves(
                 bound,
@@ -566,7 +547,6 @@ impl Round<'_> {
             );
             left -= 1;
         }
-        left
     }
 }
 

@@ -47,8 +47,8 @@ module _ (c : In-Some) where
       let o = state.in_order _ (take q.left q.curves) r.first r.second c.in-Some.ensures.pair in
       (o.0, omega (arith, o.1, curves_long turn))
 
-pub returns-clause-round : goal.returns-clause-round
-returns-clause-round c = λ ps rest laid sets.
+pub returns-in_default-clause-round : goal.returns-in_default-clause-round
+returns-in_default-clause-round c = λ ps rest laid sets.
     state.left_end (c.loop-pair.invariant.goes ps rest laid sets) c.args.self.now.small _ c.bound-bound.ensures c.in_default.ensures.pair
 
 pub join_packages-requires : goal.join_packages-requires
@@ -87,9 +87,9 @@ loop-pair-preserved c =
       long_lengths = length_front q.lengths ls n jp.auto.lengths ∙ v.long_lengths;
       long_curves = length_front q.curves cs n jc.auto.curves ∙ v.long_curves;
       long_sizes = length_front q.sizes jc.new.sizes n jc.auto.sizes ∙ v.long_sizes;
-      long_counts = jc.auto.counts ∙ c.closest.auto.counts ∙ v.long_counts;
       long_ratings = length_front (back k) rs n jc.auto.ratings ∙ back_all k;
       sums = ap sum lens ∙ jp.ensures.sum ∙ v.sums;
+      small = renew.small_front (cs ++ drop n q.curves) (n - 1) (λ i. (c.type_inv.curves i).fits);
       sized = some ∙ jc.ensures.sized ∙ ap (map size) (sym sets);
       best = subst (λ (l : List ℕ). AllRated c.bound-bound.result l (take (n - 1) (rs ++ drop n (back k)))) (sym sets)
           (renew.front_rated _ (take (m - 1) cs) rs (drop n (back k)) (n - 1) (omega (arith, jc.auto.ratings, back_long k))
@@ -104,3 +104,8 @@ overflow_sub-left c = omega (arith, in_order (goal.at.overflow_sub-left c).In-So
 
 pub loop-pair-smaller : goal.loop-pair-smaller
 loop-pair-smaller c = omega (arith, in_order (goal.at.loop-pair-smaller c).In-Some)
+
+pub invariant_of-table-in-loop-pair : goal.invariant_of-table-in-loop-pair
+invariant_of-table-in-loop-pair c =
+    let k = (goal.at.invariant_of-table-in-loop-pair c).At-loop-pair in
+    record { few = omega (arith, curves_long k, few k); small = c.loop-pair.invariant.small; sized = c.loop-pair.invariant.sized }

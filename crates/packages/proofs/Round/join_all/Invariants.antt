@@ -2,8 +2,8 @@
 -- the rating of each package.
 use mathlib.Core.Path.{◌≡◌}
 use mathlib.Core.List.{List, map}
-use Prim.Native.Nat.{ℕ, ◌≤◌}
-use lib.ListN.{length, take}
+use Prim.Native.Nat.{ℕ, ◌^◌, ◌≤◌, ◌<◌}
+use lib.ListN.{length, get_or, take}
 use Rattle.bitset.specs.Set.{size}
 use Rattle.std.specs.List.{sum}
 use Rattle.packages.specs.Packages.{curves_of}
@@ -18,9 +18,9 @@ invariant-loop-pair l = record {
   long_lengths : length l.lengths ≡ length l.initial.lengths;
   long_curves : length l.curves ≡ length l.initial.lengths;
   long_sizes : length l.sizes ≡ 256;
-  long_counts : length l.counts ≡ 256;
   long_ratings : length l.ratings ≡ 256;
   sums : sum (take l.left l.lengths) ≡ sum l.initial.lengths;
+  small : (k : ℕ) → get_or (take l.left l.curves) k 0 < 2 ^ 64;
   sized : take l.left l.sizes ≡ map size (take l.left l.curves);
   best : AllRated l.bound (take l.left l.curves) (take l.left l.ratings);
   goes : (ps : List (List ℕ)) (rest : List ℕ) → Laid ps rest l.initial.order l.initial.lengths → l.initial.curves ≡ map (curves_of l.self.wants.now) ps

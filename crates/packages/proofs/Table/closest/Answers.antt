@@ -11,15 +11,15 @@ use Rattle.packages.specs.declared.Rating.{Rating}
 use Rattle.packages.proofs.Rows as rows
 use Rattle.packages.proofs.Renew.{row_rated, row_behind, rated_score}
 use Rattle.packages.proofs.Ratings.{rated_none, rated_pair, weights_set, lighter}
-use Rattle.packages.proofs.closest.Goals.{In_ok-rating}
-use Rattle.packages.proofs.closest.Goals as goal
+use Rattle.packages.proofs.Table.closest.Goals.{In_ok-rating}
+use Rattle.packages.proofs.Table.closest.Goals as goal
 
 -- the place of the rating, and what stands there
 module _ (c : In_ok-rating) where
-  place : (c.highest-first.result < length c.args.curves.now) × (c.highest-first.result < length c.loop-rating.ratings)
+  place : (c.highest-first.result < length c.args.self.now.curves.now) × (c.highest-first.result < length c.loop-rating.ratings)
   place =
       let h = c.in_ok-rating.ensures.lookup.3.0 in
-      (omega (arith, h, c.loop-rating.invariant.long, c.requires.ratings_len.0), h)
+      (omega (arith, h, c.loop-rating.invariant.long, c.requires.ratings_len), h)
 
   rating_is : c.in_ok-rating.field-0.now ≡ get_or c.loop-rating.ratings c.highest-first.result unrated
   rating_is = c.in_ok-rating.ensures.lookup.3.1 unrated
@@ -36,37 +36,37 @@ returns-in_err-rating-clause-pair c =
     let f = c.highest-first.result in
     let e : get_or rs f unrated ≡ unrated = get_or-eq_default rs unrated {n = f} c.in_err-rating.ensures.lookup.3 in
     rw c.from_residual.ensures
-    (rated_none (within c.args.bound) c.args.curves.now rs c.loop-rating.invariant.rated
+    (rated_none (within c.args.self.now.bound) c.args.self.now.curves.now rs c.loop-rating.invariant.rated
     (λ k. omega (arith, ap (λ (r : Rating). r.score) e, c.highest-first.ensures.most k)))
 
 pub overflow_cast-result : goal.overflow_cast-result
 overflow_cast-result c =
     let k = (goal.at.overflow_cast-result c).In_ok-rating in
-    let cs = c.args.curves.now in
+    let cs = c.args.self.now.curves.now in
     let f = c.highest-first.result in
     let r = get_or c.loop-rating.ratings f unrated in
     let e = ap (λ (r : Rating). r.partner) (rating_is k) in
     let z : 0 < r.partner = omega (arith, e, c.if-rating-gt0.true) in
-    let o = row_behind (within c.args.bound) cs f r.partner (place k).0
+    let o = row_behind (within c.args.self.now.bound) cs f r.partner (place k).0
     (((c.loop-rating.invariant.rated f (place k).0).own z).0 ∙ sym (rows.chosen_some f r.partner z)) z in
-    record { fits = omega (arith, e, o, c.requires.ratings_len.1.0) }
+    record { fits = omega (arith, e, o, c.args.self.now.few) }
 
 pub returns-then-rating-gt0-clause-pair : goal.returns-then-rating-gt0-clause-pair
 returns-then-rating-gt0-clause-pair c =
     let k = (goal.at.returns-then-rating-gt0-clause-pair c).In_ok-rating in
-    rw (rating_is k) (rated_pair (within c.args.bound) c.args.curves.now c.loop-rating.ratings c.loop-rating.invariant.rated c.highest-first.result (place k).0
+    rw (rating_is k) (rated_pair (within c.args.self.now.bound) c.args.self.now.curves.now c.loop-rating.ratings c.loop-rating.invariant.rated c.highest-first.result (place k).0
     c.highest-first.ensures.most c.highest-first.ensures.earliest (omega (arith, ap (λ (r : Rating). r.partner) (rating_is k), c.if-rating-gt0.true)))
 
 pub returns-then-rating-eq0-clause-pair : goal.returns-then-rating-eq0-clause-pair
 returns-then-rating-eq0-clause-pair c =
     let e = ap (λ (r : Rating). r.score) (rating_is (goal.at.returns-then-rating-eq0-clause-pair c).In_ok-rating) in
-    rated_none (within c.args.bound) c.args.curves.now c.loop-rating.ratings c.loop-rating.invariant.rated
+    rated_none (within c.args.self.now.bound) c.args.self.now.curves.now c.loop-rating.ratings c.loop-rating.invariant.rated
     (λ k. omega (arith, e, c.if-rating-eq0.true, c.highest-first.ensures.most k))
 
 pub loop-rating-smaller : goal.loop-rating-smaller
 loop-rating-smaller c =
     let k = (goal.at.loop-rating-smaller c).In_ok-rating in
-    let cs = c.args.curves.now in
+    let cs = c.args.self.now.curves.now in
     let rs = c.loop-rating.ratings in
     let f = c.highest-first.result in
     let e = rating_is k in
@@ -78,19 +78,18 @@ loop-rating-smaller c =
     (omega (
       arith,
       n,
-      rated_score (within c.args.bound) cs f (get_or rs f unrated) (place k).0 (c.loop-rating.invariant.rated f (place k).0) b.result.partner b.ensures.partner,
+      rated_score (within c.args.self.now.bound) cs f (get_or rs f unrated) (place k).0 (c.loop-rating.invariant.rated f (place k).0) b.result.partner b.ensures.partner,
     ))
     (λ z. n ∙ ap (rows.score cs f) z ∙ rows.score_none cs f))
 
 pub loop-rating-preserved : goal.loop-rating-preserved
 loop-rating-preserved c =
     let b = c.best_partner in
-    let cs = c.args.curves.now in
+    let cs = c.args.self.now.curves.now in
     let f = c.highest-first.result in
     let k = (goal.at.loop-rating-preserved c).In_ok-rating in
-    let fits = within c.args.bound in
+    let fits = within c.args.self.now.bound in
     record {
-      room = b.auto.counts ∙ c.loop-rating.invariant.room;
       long = simp length-set c.loop-rating.invariant.long;
       rated = λ n l.
           turned fits cs c.loop-rating.ratings f n b.result (place k).1
