@@ -2,17 +2,18 @@
 use mathlib.Core.Path.{◌≡◌, refl, sym, ap, ◌∙◌, subst}
 use mathlib.Core.Bool.{Bool, true, false, false≢true}
 use mathlib.Core.List.{List, ◌++◌}
-use Prim.Native.Nat.{ℕ, zero, suc, ◌+◌, ◌-◌, ◌/◌, ◌%◌, ◌≤◌, ◌<◌}
+use Prim.Native.Nat.{ℕ, zero, suc, ◌+◌, ◌-◌, ◌^◌, ◌≤◌, ◌<◌}
 use native.Mathlib.Omega.{arith}
 use native.Mathlib.Decide.{ℕ_discrete, dec_lt}
-use lib.ListN.{length, get_or, take, drop, set, length-set, get_or-append}
+use lib.ListN.{length, get_or, take, drop, set, length-set, length-take, get_or-append, get_or-eq_default}
 use lib.Seq.{take-append-le, get_or-take, get_or-drop, get_or-append-add, get_or-set_same, get_or-set_other, length-take-le}
 use borrow.Author.Tests.{lt-ltb, le-ltb, eq-eqb, ne_eqb}
 use Rattle.bitset.specs.Set.{◌∪◌}
 use Rattle.lists.specs.Choice.{Found, nobody, found}
 use Rattle.packages.specs.Tests.{common}
 use Rattle.packages.specs.Packages.{Pair}
-use Rattle.packages.specs.ContractWords.{Rated, moved_up}
+use Rattle.packages.specs.ContractWords.{joined_entry, unrated, Rated, lone_of, moved_up}
+use Rattle.packages.specs.declared.Rating.{Rating}
 use Rattle.packages.proofs.Rows.{chosen, chosen_some, chosen_none, score, score_none, score_some, row_to, row_start, row_take, row_pass, row_keep}
 
 -- p is the best second for the first k among those below n: 0 where none fits, else the first of those with most in common
@@ -109,6 +110,10 @@ module _ (fits : ℕ → Bool) (cs : List ℕ) (k : ℕ) where
   pub row_best : (p : ℕ) → k < length cs → row_to fits cs k (length cs) ≡ chosen k p → Best fits cs k (length cs) p
   row_best p h e = let r = row_all h in subst (Best fits cs k (length cs)) (same_second r.0 p (sym r.1 ∙ e)) r.2
 
+  -- a second is behind the first
+  pub row_behind : (p : ℕ) → k < length cs → row_to fits cs k (length cs) ≡ chosen k p → 0 < p → (k < p) × (p < length cs)
+  row_behind p h e z = let o = (row_best p h e).own z in (o.0, o.1)
+
   pub best_row : (p : ℕ) → k < length cs → Best fits cs k (length cs) p → row_to fits cs k (length cs) ≡ chosen k p
   best_row p h b = let r = row_all h in r.1 ∙ ap (chosen k) (only (length cs) r.0 p r.2 b)
 
@@ -174,27 +179,48 @@ old_below : (j x p : ℕ) → (p ≡ j → ⊥) → x < new_place j p → old_pl
 old_below j x p h l = omega (arith, old_less j x (new_place j p) l, old_new j p h)
 
 -- a list ls without its entry j
-entry_out : (ds ls : List ℕ) (j : ℕ) → j ≤ length ls → ds ≡ take j ls ++ drop (suc j) ls → (x : ℕ) → get_or ds x 0 ≡ get_or ls (old_place j x) 0
-entry_out ds ls j within made x = go (dec_lt x j)
+entry_out : {A : Type 0} (d : A) (ds ls : List A) (j : ℕ) → j ≤ length ls → ds ≡ take j ls ++ drop (suc j) ls → (x : ℕ)
+    → get_or ds x d ≡ get_or ls (old_place j x) d
+entry_out {A} d ds ls j within made x = go (dec_lt x j)
   where
     n : length (take j ls) ≡ j
     n = length-take-le j ls within
 
-    go : Dec (x < j) → get_or ds x 0 ≡ get_or ls (old_place j x) 0
+    go : Dec (x < j) → get_or ds x d ≡ get_or ls (old_place j x) d
     go (yes h) =
-        ap (λ (m : List ℕ). get_or m x 0) made ∙ get_or-append (take j ls) (drop (suc j) ls) 0 x (omega (arith, n)) ∙ get_or-take j ls x 0 h
-        ∙ ap (λ (m : ℕ). get_or ls m 0) (sym (old_low j x h))
+        ap (λ (m : List A). get_or m x d) made ∙ get_or-append (take j ls) (drop (suc j) ls) d x (omega (arith, n)) ∙ get_or-take j ls x d h
+        ∙ ap (λ (m : ℕ). get_or ls m d) (sym (old_low j x h))
     go (no h) =
         let e : x ≡ length (take j ls) + (x - j) = omega (arith, n) in
         let f : suc j + (x - j) ≡ old_place j x = omega (arith, old_high j x (omega arith)) in
-        ap (λ (m : List ℕ). get_or m x 0) made ∙ ap (λ (m : ℕ). get_or (take j ls ++ drop (suc j) ls) m 0) e
-        ∙ get_or-append-add (take j ls) (drop (suc j) ls) (x - j) 0
-        ∙ get_or-drop (suc j) ls (x - j) 0 ∙ ap (λ (m : ℕ). get_or ls m 0) f
+        ap (λ (m : List A). get_or m x d) made ∙ ap (λ (m : ℕ). get_or (take j ls ++ drop (suc j) ls) m d) e
+        ∙ get_or-append-add (take j ls) (drop (suc j) ls) (x - j) d
+        ∙ get_or-drop (suc j) ls (x - j) d ∙ ap (λ (m : ℕ). get_or ls m d) f
+
+-- what holds of each set of a list of curves holds of the first ones
+pub small_front : (xs : List ℕ) (n : ℕ) → ((k : ℕ) → get_or xs k 0 < 2 ^ 64) → (k : ℕ) → get_or (take n xs) k 0 < 2 ^ 64
+small_front xs n h k = go (dec_lt k n)
+  where
+    go : Dec (k < n) → get_or (take n xs) k 0 < 2 ^ 64
+    go (yes l) = omega (arith, get_or-take n xs k 0 l, h k)
+    go (no l) = omega (arith, get_or-eq_default (take n xs) 0 {n = k} (omega (arith, length-take n xs)))
+
+-- sets of curves below 64 stay such
+pub joined_small : (cs : List ℕ) (i j v : ℕ) → i < length cs → j ≤ length cs → ((k : ℕ) → get_or cs k 0 < 2 ^ 64) → v < 2 ^ 64 → (k : ℕ)
+    → get_or (joined_entry cs i j v) k 0 < 2 ^ 64
+joined_small cs i j v l m h w k = go (ℕ_discrete (old_place j k) i)
+  where
+    at : get_or (joined_entry cs i j v) k 0 ≡ get_or (set cs i v) (old_place j k) 0
+    at = entry_out 0 (joined_entry cs i j v) (set cs i v) j (omega (arith, length-set cs i v)) refl k
+
+    go : Dec (old_place j k ≡ i) → get_or (joined_entry cs i j v) k 0 < 2 ^ 64
+    go (yes d) = omega (arith, at, ap (λ (n : ℕ). get_or (set cs i v) n 0) d, get_or-set_same cs i v 0 l, w)
+    go (no d) = omega (arith, at, get_or-set_other cs i (old_place j k) v 0 d, h (old_place j k))
 
 module _ (fits : ℕ → Bool) (cs ds : List ℕ) (i j : ℕ) (before : i < j) (long : length cs ≡ suc (length ds)) (within : j ≤ length ds)
     (made : ds ≡ take j (set cs i (get_or cs i 0 ∪ get_or cs j 0)) ++ drop (suc j) (set cs i (get_or cs i 0 ∪ get_or cs j 0))) where
   entry_at : (x : ℕ) → get_or ds x 0 ≡ get_or (set cs i (get_or cs i 0 ∪ get_or cs j 0)) (old_place j x) 0
-  entry_at = entry_out ds (set cs i (get_or cs i 0 ∪ get_or cs j 0)) j (omega (arith, length-set cs i (get_or cs i 0 ∪ get_or cs j 0))) made
+  entry_at = entry_out 0 ds (set cs i (get_or cs i 0 ∪ get_or cs j 0)) j (omega (arith, length-set cs i (get_or cs i 0 ∪ get_or cs j 0))) made
 
   -- all but the joined package are as they were
   others : (x : ℕ) → (x ≡ i → ⊥) → get_or ds x 0 ≡ get_or cs (old_place j x) 0
@@ -265,74 +291,78 @@ module _ (fits : ℕ → Bool) (cs ds : List ℕ) (i j : ℕ) (before : i < j) (
 
 -- ---- ratings
 
-module _ (fits : ℕ → Bool) (cs : List ℕ) (k r : ℕ) (row : k < length cs) where
+module _ (fits : ℕ → Bool) (cs : List ℕ) (k : ℕ) (r : Rating) (row : k < length cs) where
   -- what a scan of the row finds is a rating
-  pub row_rated : row_to fits cs k (length cs) ≡ chosen k (r % 256) → r / 256 ≡ score cs k (r % 256) → Rated fits cs k r
+  pub row_rated : row_to fits cs k (length cs) ≡ chosen k (r.partner) → r.score ≡ score cs k (r.partner) → Rated fits cs k r
   row_rated e s =
-      let b = row_best fits cs k (r % 256) row e in
+      let b = row_best fits cs k (r.partner) row e in
       record {
         most = λ j l m f. omega (arith, b.most j l m f, s, score_some cs k j (omega arith));
-        own = λ z. (e ∙ chosen_some k (r % 256) z, s ∙ score_some cs k (r % 256) z);
+        own = λ z. (e ∙ chosen_some k (r.partner) z, s ∙ score_some cs k (r.partner) z);
       }
 
-  rated_best : Rated fits cs k r → 0 < r % 256 → Best fits cs k (length cs) (r % 256)
-  rated_best q z = row_best fits cs k (r % 256) row ((q.own z).0 ∙ sym (chosen_some k (r % 256) z))
+  rated_best : Rated fits cs k r → 0 < r.partner → Best fits cs k (length cs) (r.partner)
+  rated_best q z = row_best fits cs k (r.partner) row ((q.own z).0 ∙ sym (chosen_some k (r.partner) z))
 
-  best_rated : ((j : ℕ) → k < j → j < length cs → fits (get_or cs k 0 ∪ get_or cs j 0) ≡ true → score cs k j ≤ r / 256)
-      → (0 < r % 256 → Best fits cs k (length cs) (r % 256) × (r / 256 ≡ score cs k (r % 256))) → Rated fits cs k r
+  best_rated : ((j : ℕ) → k < j → j < length cs → fits (get_or cs k 0 ∪ get_or cs j 0) ≡ true → score cs k j ≤ r.score)
+      → (0 < r.partner → Best fits cs k (length cs) (r.partner) × (r.score ≡ score cs k (r.partner))) → Rated fits cs k r
   best_rated m o =
       record {
         most = λ j l n f. omega (arith, m j l n f, score_some cs k j (omega arith));
-        own = λ z. (best_row fits cs k (r % 256) row (o z).0 ∙ chosen_some k (r % 256) z, (o z).1 ∙ score_some cs k (r % 256) z);
+        own = λ z. (best_row fits cs k (r.partner) row (o z).0 ∙ chosen_some k (r.partner) z, (o z).1 ∙ score_some cs k (r.partner) z);
       }
 
   -- no package of the row has a higher score
-  pub rated_score : Rated fits cs k r → (q : ℕ) → row_to fits cs k (length cs) ≡ chosen k q → score cs k q ≤ r / 256
+  pub rated_score : Rated fits cs k r → (q : ℕ) → row_to fits cs k (length cs) ≡ chosen k q → score cs k q ≤ r.score
   rated_score w q e = go (ℕ_discrete q 0)
     where
-      go : Dec (q ≡ 0) → score cs k q ≤ r / 256
+      go : Dec (q ≡ 0) → score cs k q ≤ r.score
       go (yes z) = omega (arith, ap (score cs k) z, score_none cs k)
       go (no z) =
           let o = (row_best fits cs k q row e).own (omega arith) in
           omega (arith, w.most q o.0 o.1 o.2, score_some cs k q (omega arith))
 
 -- t is what is left of the rating r when the packages i and j are joined: the score, and the partner if that is another one
-pub record Kept (i j r t : ℕ) : Type 0 where
-  pub same : t / 256 ≡ r / 256
-  pub partner : 0 < t % 256 → (0 < r % 256) × (t % 256 ≡ new_place j (r % 256)) × (r % 256 ≡ i → ⊥) × (r % 256 ≡ j → ⊥)
+pub record Kept (i j : ℕ) (r t : Rating) : Type 0 where
+  pub same : t.score ≡ r.score
+  pub partner : 0 < t.partner → (0 < r.partner) × (t.partner ≡ new_place j (r.partner)) × (r.partner ≡ i → ⊥) × (r.partner ≡ j → ⊥)
 
-pub kept_none : (i j r t : ℕ) → t ≡ r - r % 256 → Kept i j r t
-kept_none i j r t e = record { same = omega (arith, e); partner = λ z. absurd (omega (arith, e)) }
+pub kept_none : (i j : ℕ) (r t : Rating) → t ≡ lone_of r → Kept i j r t
+kept_none i j r t e = record { same = ap (λ (x : Rating). x.score) e; partner = λ z. absurd (omega (arith, ap (λ (x : Rating). x.partner) e)) }
 
-pub kept_moved : (i j r t : ℕ) → i < j → (0 < r % 256 → r % 256 ≡ i → ⊥) → t ≡ moved_up j r → Kept i j r t
-kept_moved i j r t l h e = go (ℕ_discrete (r % 256) j) (dec_lt j (r % 256))
+pub kept_moved : (i j : ℕ) (r t : Rating) → i < j → (0 < r.partner → r.partner ≡ i → ⊥) → t ≡ moved_up j r → Kept i j r t
+kept_moved i j r t l h e = go (ℕ_discrete (r.partner) j) (dec_lt j (r.partner))
   where
-    go : Dec (r % 256 ≡ j) → Dec (j < r % 256) → Kept i j r t
-    go (yes a) d = kept_none i j r t (e ∙ rw (eq-eqb (r % 256) j a) refl)
+    go : Dec (r.partner ≡ j) → Dec (j < r.partner) → Kept i j r t
+    go (yes a) d = kept_none i j r t (e ∙ rw (eq-eqb (r.partner) j a) refl)
     go (no a) (yes d) =
-        let f : t ≡ r - 1 = e ∙ rw (ne_eqb (r % 256) j a, lt-ltb j (r % 256) d) refl in
-        let m = new_high j (r % 256) d in
-        record { same = omega (arith, f); partner = λ z. (omega arith, omega (arith, f, m), h (omega arith), a) }
+        let f : t ≡ record { score = r.score; partner = r.partner - 1 } = e ∙ rw (ne_eqb (r.partner) j a, lt-ltb j (r.partner) d) refl in
+        let m = new_high j (r.partner) d in
+        record {
+          same = ap (λ (x : Rating). x.score) f;
+          partner = λ z. (omega arith, omega (arith, ap (λ (x : Rating). x.partner) f, m), h (omega arith), a);
+        }
     go (no a) (no d) =
-        let f : t ≡ r = e ∙ rw (ne_eqb (r % 256) j a, le-ltb j (r % 256) (omega arith)) refl in
-        let m = new_low j (r % 256) (omega arith) in
-        record { same = omega (arith, f); partner = λ z. (omega (arith, f), omega (arith, f, m), h (omega (arith, f)), a) }
+        let f : t ≡ r = e ∙ rw (ne_eqb (r.partner) j a, le-ltb j (r.partner) (omega arith)) refl in
+        let m = new_low j (r.partner) (omega arith) in
+        let p = ap (λ (x : Rating). x.partner) f in
+        record { same = ap (λ (x : Rating). x.score) f; partner = λ z. (omega (arith, p), omega (arith, p, m), h (omega (arith, p)), a) }
 
 -- row k after the join, whose rating before it was r
 module _ (fits : ℕ → Bool) (cs ds : List ℕ) (i j : ℕ) (before : i < j) (long : length cs ≡ suc (length ds)) (within : j ≤ length ds)
     (made : ds ≡ take j (set cs i (get_or cs i 0 ∪ get_or cs j 0)) ++ drop (suc j) (set cs i (get_or cs i 0 ∪ get_or cs j 0)))
-    (k : ℕ) (row : k < length ds) (other : k ≡ i → ⊥) (r t : ℕ) (was : Rated fits cs (old_place j k) r) where
+    (k : ℕ) (row : k < length ds) (other : k ≡ i → ⊥) (r t : Rating) (was : Rated fits cs (old_place j k) r) where
   old_row : old_place j k < length cs
   old_row = omega (arith, old_within j k (length ds) row within)
 
-  old_best : 0 < r % 256 → Best fits cs (old_place j k) (length cs) (r % 256)
+  old_best : 0 < r.partner → Best fits cs (old_place j k) (length cs) (r.partner)
   old_best = rated_best fits cs (old_place j k) r old_row was
 
-  old_score : 0 < r % 256 → r / 256 ≡ score cs (old_place j k) (r % 256)
-  old_score z = (was.own z).1 ∙ sym (score_some cs (old_place j k) (r % 256) z)
+  old_score : 0 < r.partner → r.score ≡ score cs (old_place j k) (r.partner)
+  old_score z = (was.own z).1 ∙ sym (score_some cs (old_place j k) (r.partner) z)
 
   -- no other package has a higher score than before
-  most_kept : (x : ℕ) → (x ≡ i → ⊥) → k < x → x < length ds → fits (get_or ds k 0 ∪ get_or ds x 0) ≡ true → score ds k x ≤ r / 256
+  most_kept : (x : ℕ) → (x ≡ i → ⊥) → k < x → x < length ds → fits (get_or ds k 0 ∪ get_or ds x 0) ≡ true → score ds k x ≤ r.score
   most_kept x h l m f =
       let up = old_less j k x l in
       omega (
@@ -343,32 +373,32 @@ module _ (fits : ℕ → Bool) (cs ds : List ℕ) (i j : ℕ) (before : i < j) (
       )
 
   module _ (kept : Kept i j r t) where
-    new_score : (z : 0 < t % 256) → t / 256 ≡ score ds k (new_place j (r % 256))
+    new_score : (z : 0 < t.partner) → t.score ≡ score ds k (new_place j (r.partner))
     new_score z =
         let q = kept.partner z in
-        kept.same ∙ old_score q.0 ∙ sym (score_new fits cs ds i j before long within made k other (r % 256) (old_best q.0) q.3 (λ _. q.2))
+        kept.same ∙ old_score q.0 ∙ sym (score_new fits cs ds i j before long within made k other (r.partner) (old_best q.0) q.3 (λ _. q.2))
 
     -- the joined package does not come in question, or is no better
-    pub rated_stays : (k < i → fits (get_or ds k 0 ∪ get_or ds i 0) ≡ true → (score ds k i ≤ t / 256) × (i < t % 256 → score ds k i < t / 256))
+    pub rated_stays : (k < i → fits (get_or ds k 0 ∪ get_or ds i 0) ≡ true → (score ds k i ≤ t.score) × (i < t.partner → score ds k i < t.score))
         → Rated fits ds k t
     rated_stays worse =
         best_rated fits ds k t row (λ x l m f. at_most x (ℕ_discrete x i) l m f)
         (λ z.
         let q = kept.partner z in
-        let p = new_place j (r % 256) in (
+        let p = new_place j (r.partner) in (
           subst (Best fits ds k (length ds)) (sym q.1)
-              (stay fits cs ds i j before long within made k other (r % 256) (old_best q.0) q.3 (λ _. q.2)
+              (stay fits cs ds i j before long within made k other (r.partner) (old_best q.0) q.3 (λ _. q.2)
               (λ l f. (omega (arith, (worse l f).0, new_score z), λ n. omega (arith, (worse l f).1 (omega (arith, q.1)), new_score z)))),
           new_score z ∙ ap (score ds k) (sym q.1),
         ))
       where
-        at_most : (x : ℕ) → Dec (x ≡ i) → k < x → x < length ds → fits (get_or ds k 0 ∪ get_or ds x 0) ≡ true → score ds k x ≤ t / 256
+        at_most : (x : ℕ) → Dec (x ≡ i) → k < x → x < length ds → fits (get_or ds k 0 ∪ get_or ds x 0) ≡ true → score ds k x ≤ t.score
         at_most x (yes e) l m f = omega (arith, ap (score ds k) e, (worse (omega arith) (ap (λ (y : ℕ). fits (get_or ds k 0 ∪ get_or ds y 0)) (sym e) ∙ f)).0)
         at_most x (no e) l m f = omega (arith, most_kept x e l m f, kept.same)
 
     -- the joined package fits and is better, or as good and earlier
-    pub rated_beaten : (u : ℕ) → u / 256 ≡ score ds k i → u % 256 ≡ i → k < i → fits (get_or ds k 0 ∪ get_or ds i 0) ≡ true
-        → t / 256 ≤ score ds k i → (score ds k i ≤ t / 256 → i < t % 256) → Rated fits ds k u
+    pub rated_beaten : (u : Rating) → u.score ≡ score ds k i → u.partner ≡ i → k < i → fits (get_or ds k 0 ∪ get_or ds i 0) ≡ true
+        → t.score ≤ score ds k i → (score ds k i ≤ t.score → i < t.partner) → Rated fits ds k u
     rated_beaten u us up l f a b =
         best_rated fits ds k u row (λ x m n g. omega (arith, at_most x (ℕ_discrete x i) m n g, us))
         (λ z. (subst (Best fits ds k (length ds)) (sym up) best, us ∙ ap (score ds k) (sym up)))
@@ -377,15 +407,15 @@ module _ (fits : ℕ → Bool) (cs ds : List ℕ) (i j : ℕ) (before : i < j) (
         at_most x (yes e) m n g = omega (arith, ap (score ds k) e)
         at_most x (no e) m n g = omega (arith, most_kept x e m n g, kept.same, a)
 
-        below : (x : ℕ) → Dec (t / 256 < score ds k i) → k < x → x < i → fits (get_or ds k 0 ∪ get_or ds x 0) ≡ true → score ds k x < score ds k i
+        below : (x : ℕ) → Dec (t.score < score ds k i) → k < x → x < i → fits (get_or ds k 0 ∪ get_or ds x 0) ≡ true → score ds k x < score ds k i
         below x (yes d) m n g = omega (arith, most_kept x (λ e. omega arith) m (omega arith) g, kept.same)
         below x (no d) m n g =
             let later = b (omega arith) in
-            let z : 0 < t % 256 = omega (arith, later) in
+            let z : 0 < t.partner = omega (arith, later) in
             let q = kept.partner z in
             omega (
               arith,
-              first_new fits cs ds i j before long within made k other (r % 256) (old_best q.0) q.3 (λ _. q.2) x (λ e. omega arith) m
+              first_new fits cs ds i j before long within made k other (r.partner) (old_best q.0) q.3 (λ _. q.2) x (λ e. omega arith) m
                   (omega (arith, later, q.1)) g,
               new_score z,
               a,
@@ -396,58 +426,58 @@ module _ (fits : ℕ → Bool) (cs ds : List ℕ) (i j : ℕ) (before : i < j) (
             record {
               own = λ z. (l, omega arith, f);
               most = λ x m n g. at_most x (ℕ_discrete x i) m n g;
-              first = λ x m n g. below x (dec_lt (t / 256) (score ds k i)) m n g;
+              first = λ x m n g. below x (dec_lt (t.score) (score ds k i)) m n g;
             }
 
 -- the ratings of all rows: rs before the join, xs without the entry j and with the joined package's own, ys with those before it renewed, zs with those
 -- behind it too
-module _ (fits : ℕ → Bool) (cs ds rs xs ys zs : List ℕ) (i j own : ℕ) (before : i < j) (long : length cs ≡ suc (length ds)) (within : j ≤ length ds)
+module _ (fits : ℕ → Bool) (cs ds : List ℕ) (rs xs ys zs : List Rating) (i j : ℕ) (own : Rating) (before : i < j) (long : length cs ≡ suc (length ds)) (within : j ≤ length ds)
     (made : ds ≡ take j (set cs i (get_or cs i 0 ∪ get_or cs j 0)) ++ drop (suc j) (set cs i (get_or cs i 0 ∪ get_or cs j 0)))
     (as_long : length rs ≡ suc (length ds)) (still : length ys ≡ length rs)
     (out : take (length rs - 1) xs ≡ take j (set rs i own) ++ drop (suc j) (set rs i own))
     (joined : Rated fits ds i own)
-    (front : (k : ℕ) → k < i → Rated fits cs k (get_or xs k 0) → Rated fits ds k (get_or ys k 0))
-    (rest : (k : ℕ) → i ≤ k → get_or ys k 0 ≡ get_or xs k 0)
-    (back : (k : ℕ) → i < k → k < length ys → get_or zs k 0 ≡ moved_up j (get_or ys k 0))
-    (stays : (k : ℕ) → k ≤ i → get_or zs k 0 ≡ get_or ys k 0)
-    (was : (k : ℕ) → k < length cs → Rated fits cs k (get_or rs k 0)) where
-  placed : (k : ℕ) → k < length ds → get_or xs k 0 ≡ get_or (set rs i own) (old_place j k) 0
+    (front : (k : ℕ) → k < i → Rated fits cs k (get_or xs k unrated) → Rated fits ds k (get_or ys k unrated))
+    (rest : (k : ℕ) → i ≤ k → get_or ys k unrated ≡ get_or xs k unrated)
+    (back : (k : ℕ) → i < k → k < length ys → get_or zs k unrated ≡ moved_up j (get_or ys k unrated))
+    (stays : (k : ℕ) → k ≤ i → get_or zs k unrated ≡ get_or ys k unrated)
+    (was : (k : ℕ) → k < length cs → Rated fits cs k (get_or rs k unrated)) where
+  placed : (k : ℕ) → k < length ds → get_or xs k unrated ≡ get_or (set rs i own) (old_place j k) unrated
   placed k h =
-      sym (get_or-take (length rs - 1) xs k 0 (omega (arith, as_long)))
-      ∙ entry_out (take (length rs - 1) xs) (set rs i own) j (omega (arith, as_long, length-set rs i own)) out k
+      sym (get_or-take (length rs - 1) xs k unrated (omega (arith, as_long)))
+      ∙ entry_out unrated (take (length rs - 1) xs) (set rs i own) j (omega (arith, as_long, length-set rs i own)) out k
 
-  other_at : (k : ℕ) → k < length ds → (old_place j k ≡ i → ⊥) → get_or xs k 0 ≡ get_or rs (old_place j k) 0
-  other_at k h n = placed k h ∙ get_or-set_other rs i (old_place j k) own 0 n
+  other_at : (k : ℕ) → k < length ds → (old_place j k ≡ i → ⊥) → get_or xs k unrated ≡ get_or rs (old_place j k) unrated
+  other_at k h n = placed k h ∙ get_or-set_other rs i (old_place j k) own unrated n
 
-  behind : (k : ℕ) → k < length ds → i < k → Rated fits ds k (get_or zs k 0)
+  behind : (k : ℕ) → k < length ds → i < k → Rated fits ds k (get_or zs k unrated)
   behind k h l =
-      let r = get_or rs (old_place j k) 0 in
+      let r = get_or rs (old_place j k) unrated in
       let there = old_within j k (length ds) h within in
       let w = was (old_place j k) (omega (arith, there)) in
-      rated_stays fits cs ds i j before long within made k h (λ e. omega arith) r (get_or zs k 0) w
-      (kept_moved i j r (get_or zs k 0) before
+      rated_stays fits cs ds i j before long within made k h (λ e. omega arith) r (get_or zs k unrated) w
+      (kept_moved i j r (get_or zs k unrated) before
       (λ z e. omega (arith, e, there, ((rated_best fits cs (old_place j k) r (omega (arith, there)) w z).own z).0))
       (back k l (omega (arith, still, as_long)) ∙ ap (moved_up j) (rest k (omega arith) ∙ other_at k h (λ e. omega (arith, e, there)))))
       (λ m f. absurd (omega arith))
 
-  pub all_rated : (k : ℕ) → k < length ds → Rated fits ds k (get_or zs k 0)
+  pub all_rated : (k : ℕ) → k < length ds → Rated fits ds k (get_or zs k unrated)
   all_rated k h = go (dec_lt k i) (dec_lt i k)
     where
-      go : Dec (k < i) → Dec (i < k) → Rated fits ds k (get_or zs k 0)
+      go : Dec (k < i) → Dec (i < k) → Rated fits ds k (get_or zs k unrated)
       go (yes a) b =
           let low = old_low j k (omega arith) in
           subst (Rated fits ds k) (sym (stays k (omega arith)))
-          (front k a (subst (Rated fits cs k) (sym (other_at k h (λ e. omega (arith, e, low)) ∙ ap (λ (n : ℕ). get_or rs n 0) low)) (was k (omega arith))))
+          (front k a (subst (Rated fits cs k) (sym (other_at k h (λ e. omega (arith, e, low)) ∙ ap (λ (n : ℕ). get_or rs n unrated) low)) (was k (omega arith))))
       go (no a) (yes b) = behind k h b
       go (no a) (no b) =
           let e : k ≡ i = omega arith in
-          let mine : get_or zs k 0 ≡ own =
-          stays k (omega arith) ∙ rest k (omega arith) ∙ placed k h ∙ ap (λ (n : ℕ). get_or (set rs i own) n 0) (old_low j k (omega arith) ∙ e)
-          ∙ get_or-set_same rs i own 0 (omega (arith, as_long)) in
-          subst (λ (n : ℕ). Rated fits ds n (get_or zs k 0)) (sym e) (subst (Rated fits ds i) (sym mine) joined)
+          let mine : get_or zs k unrated ≡ own =
+          stays k (omega arith) ∙ rest k (omega arith) ∙ placed k h ∙ ap (λ (n : ℕ). get_or (set rs i own) n unrated) (old_low j k (omega arith) ∙ e)
+          ∙ get_or-set_same rs i own unrated (omega (arith, as_long)) in
+          subst (λ (n : ℕ). Rated fits ds n (get_or zs k unrated)) (sym e) (subst (Rated fits ds i) (sym mine) joined)
 
 -- the ratings in a list that was lent and came back as ys
-pub front_rated : (fits : ℕ → Bool) (cs ys zs : List ℕ) (n : ℕ) → n ≤ length ys → length cs ≤ n → ((k : ℕ) → k < length cs → Rated fits cs k (get_or ys k 0))
-    → (k : ℕ) → k < length cs → Rated fits cs k (get_or (take n (ys ++ zs)) k 0)
+pub front_rated : (fits : ℕ → Bool) (cs : List ℕ) (ys zs : List Rating) (n : ℕ) → n ≤ length ys → length cs ≤ n → ((k : ℕ) → k < length cs → Rated fits cs k (get_or ys k unrated))
+    → (k : ℕ) → k < length cs → Rated fits cs k (get_or (take n (ys ++ zs)) k unrated)
 front_rated fits cs ys zs n a b h k l =
-    subst (Rated fits cs k) (sym (ap (λ (m : List ℕ). get_or m k 0) (take-append-le n ys zs a) ∙ get_or-take n ys k 0 (omega arith))) (h k l)
+    subst (Rated fits cs k) (sym (ap (λ (m : List Rating). get_or m k unrated) (take-append-le n ys zs a) ∙ get_or-take n ys k unrated (omega arith))) (h k l)

@@ -1,6 +1,6 @@
 -- The closest pair, row by row: row i is the best second package for the first i. A second of 0 stands for none, since the second is behind the first.
 use mathlib.Core.Path.{◌≡◌, refl, sym, ap, ◌∙◌}
-use mathlib.Core.Bool.{Bool, true, false, ◌&&◌, cond}
+use mathlib.Core.Bool.{Bool, true, false, ◌&&◌}
 use mathlib.Core.List.{List}
 use Prim.Native.Nat.{ℕ, zero, suc, ◌+◌, ◌^◌, ◌≤◌, ◌<◌}
 use native.Mathlib.Omega.{arith}
@@ -12,8 +12,7 @@ use Rattle.bitset.specs.Set.{◌∪◌, ◌∩◌, size}
 use Rattle.bitset.proofs.Laws.{size_le, size-∩-le}
 use Rattle.lists.specs.Choice.{Found, nobody, found, keep, choose, best_of}
 use Rattle.lists.proofs.Chosen.{passed, best_skip}
-use Rattle.packages.specs.Tests.{common}
-use Rattle.packages.specs.ContractWords.{at}
+use Rattle.packages.specs.ContractWords.{at, score_with}
 use Rattle.packages.specs.Packages.{Pair, shared, eligible, closer, best_pair}
 
 -- ---- what is found after b, from what is found after nobody
@@ -82,7 +81,7 @@ unfolding score
 score_some cs i zero h = absurd (omega arith)
 score_some cs i (suc j) h = refl
 
-pub score_as : (cs : List ℕ) (i j : ℕ) → cond (ltb 0 j) (1 + common (get_or cs i 0) (get_or cs j 0)) 0 ≡ score cs i j
+pub score_as : (cs : List ℕ) (i j : ℕ) → score_with cs i j ≡ score cs i j
 score_as cs i zero = sym (score_none cs i)
 score_as cs i (suc j) = rw (lt-ltb 0 (suc j) (omega arith)) (sym (score_some cs i (suc j) (omega arith)))
 

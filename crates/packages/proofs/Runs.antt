@@ -1,12 +1,14 @@
 -- Heads, tails and flipping: one test of a run, and the four ways in which two packages meet.
 use mathlib.Core.Path.{◌≡◌, refl, sym, ap, ◌∙◌}
 use mathlib.Core.Bool.{Bool, true, false, cond}
-use mathlib.Core.List.{List, [], ◌∷◌, ◌++◌, reverse, reverse-append, append_assoc}
-use Prim.Native.Nat.{ℕ, suc, ◌+◌, ◌-◌, ◌≤◌, ◌<◌}
+use mathlib.Core.List.{List, [], ◌∷◌, ◌++◌, reverse, append_assoc}
+use Prim.Native.Nat.{ℕ, ◌+◌, ◌-◌, ◌≤◌, ◌<◌}
 use native.Mathlib.Omega.{arith}
-use lib.ListN.{length, get_or, take, drop, length-append, length-reverse}
-use lib.Seq.{take-suc, take_at, drop_at}
+use lib.ListN.{length, take, drop, length-append, length-reverse}
+use lib.Seq.{take_at, drop_at}
 use lib.Dec.{ltb}
+use Rattle.std.proofs.Common.{Option, Some, None}
+use Rattle.std.specs.Iterator.{AlwaysYields}
 use borrow.Author.Tests.{le-leb, lt-leb}
 use Rattle.bitset.specs.Set.{◌∪◌, size}
 use Rattle.packages.specs.Tests.{wants_of, common}
@@ -30,9 +32,37 @@ pub run_none : (wants : List ℕ) (places u : ℕ) (l : List ℕ) → l ≡ [] �
 unfolding run_from
 run_none wants places u l e = rw e refl
 
--- the first k + 1 tests from the end
-pub reverse_take : (ts : List ℕ) (k : ℕ) → k < length ts → reverse (take (suc k) ts) ≡ get_or ts k 0 ∷ reverse (take k ts)
-reverse_take ts k h = ap reverse (take-suc ts k 0 h) ∙ reverse-append (take k ts) (get_or ts k 0 ∷ [])
+-- what is left of a run over the tests ts: an iterator that gives tests from which the run goes on to the same
+pub record Left {S A : Type 0} (steps : S → Option A → S → Type 0) (v : A → ℕ) (wants : List ℕ) (places : ℕ) (ts : List ℕ) (s : S) (u : ℕ) : Type 0 where
+  pub rest : List ℕ
+  pub yields : AlwaysYields steps v s rest
+  pub goes : run_from wants places 0 ts ≡ run_from wants places u rest
+
+module _ {S A : Type 0} {steps : S → Option A → S → Type 0} {v : A → ℕ} (wants : List ℕ) (places : ℕ) (ts : List ℕ) (s : S) (u : ℕ) where
+  -- one test more
+  module _ (x : A) (r : S) (w u' : ℕ) (step : steps s (Some x) r) (wanted : w ≡ wants_of wants (v x)) (united : u' ≡ u ∪ w) where
+    pub left_more : size u' ≤ places → Left steps v wants places ts s u → Left steps v wants places ts r u'
+    left_more h l = go l.rest l.yields l.goes
+      where
+        go : (rest : List ℕ) → AlwaysYields steps v s rest → run_from wants places 0 ts ≡ run_from wants places u rest → Left steps v wants places ts r u'
+        go [] y e = absurd (y x r step)
+        go (t ∷ rest) y e =
+            let d = y.1 x r step in
+            record { rest = rest; yields = d.1; goes = e ∙ run_more wants places u u' w t (t ∷ rest) rest refl (wanted ∙ ap (wants_of wants) d.0) united h }
+
+    pub left_stop : places < size u' → Left steps v wants places ts s u → u ≡ run_from wants places 0 ts
+    left_stop h l = go l.rest l.yields l.goes
+      where
+        go : (rest : List ℕ) → AlwaysYields steps v s rest → run_from wants places 0 ts ≡ run_from wants places u rest → u ≡ run_from wants places 0 ts
+        go [] y e = absurd (y x r step)
+        go (t ∷ rest) y e = sym (e ∙ run_stop wants places u u' w t (t ∷ rest) rest refl (wanted ∙ ap (wants_of wants) (y.1 x r step).0) united h)
+
+  pub left_none : (r : S) → steps s None r → Left steps v wants places ts s u → u ≡ run_from wants places 0 ts
+  left_none r step l = go l.rest l.yields l.goes
+    where
+      go : (rest : List ℕ) → AlwaysYields steps v s rest → run_from wants places 0 ts ≡ run_from wants places u rest → u ≡ run_from wants places 0 ts
+      go [] y e = sym (e ∙ run_none wants places u [] refl)
+      go (t ∷ rest) y e = absurd (y.0 r step)
 
 -- ---- flipping
 
@@ -52,24 +82,21 @@ more_way m n a b = go (ltb m.common n.common)
     go false = refl
 
 -- the four meetings, compared in the rule's order
-module _ (wants : List ℕ) (places : ℕ) (a b : List ℕ) (ha ta hb tb th tt hh ht : ℕ)
+module _ (wants : List ℕ) (places : ℕ) (a b : List ℕ) (ha ta hb tb : ℕ)
     (head_a : ha ≡ head wants places a) (tail_a : ta ≡ tail wants places a) (head_b : hb ≡ head wants places b) (tail_b : tb ≡ tail wants places b)
-    (first : th ≡ common ta hb) (second : tt ≡ common ta tb) (third : hh ≡ common ha hb) (fourth : ht ≡ common ha tb) (one two three : Meeting) where
-  pub flips_as : one ≡ cond (ltb th tt) (record { common = tt; first = false; second = true }) (record { common = th; first = false; second = false })
-      → two ≡ cond (ltb one.common hh) (record { common = hh; first = true; second = false }) one
-      → three ≡ cond (ltb two.common ht) (record { common = ht; first = true; second = true }) two
+    (th tt hh ht one two three : Meeting) where
+  pub flips_as : th ≡ record { common = common ta hb; first = false; second = false }
+      → tt ≡ record { common = common ta tb; first = false; second = true }
+      → hh ≡ record { common = common ha hb; first = true; second = false }
+      → ht ≡ record { common = common ha tb; first = true; second = true }
+      → one ≡ cond (ltb th.common tt.common) tt th → two ≡ cond (ltb one.common hh.common) hh one → three ≡ cond (ltb two.common ht.common) ht two
       → flipped wants places a b ≡ turned three.first a ++ turned three.second b
   unfolding flipped try way
-  flips_as p q r =
-      sym (ap (λ (m : Meeting). (way m a b).order) r
-      ∙ ap (λ (x : Try). x.order) (more_way two (record { common = ht; first = true; second = true }) a b)
-      ∙ ap (λ (x : Try). (x or_more way (record { common = ht; first = true; second = true }) a b).order)
-      (ap (λ (m : Meeting). way m a b) q ∙ more_way one (record { common = hh; first = true; second = false }) a b)
-      ∙ ap (λ (x : Try). (x or_more way (record { common = hh; first = true; second = false }) a b or_more way
-      (record { common = ht; first = true; second = true }) a b).order)
-      (ap (λ (m : Meeting). way m a b) p
-      ∙ more_way (record { common = th; first = false; second = false }) (record { common = tt; first = false; second = true }) a b)
-      ∙ rw (first, second, third, fourth, head_a, tail_a, head_b, tail_b) refl)
+  flips_as e f g h p q r =
+      sym (ap (λ (m : Meeting). (way m a b).order) r ∙ ap (λ (x : Try). x.order) (more_way two ht a b)
+      ∙ ap (λ (x : Try). (x or_more way ht a b).order) (ap (λ (m : Meeting). way m a b) q ∙ more_way one hh a b)
+      ∙ ap (λ (x : Try). (x or_more way hh a b or_more way ht a b).order) (ap (λ (m : Meeting). way m a b) p ∙ more_way th tt a b)
+      ∙ rw (e, f, g, h, head_a, tail_a, head_b, tail_b) refl)
 
 length_turned : (t : Bool) (l : List ℕ) → length (turned t l) ≡ length l
 length_turned true l = length-reverse l

@@ -14,14 +14,14 @@ use Rattle.bitset.proofs.Bits.{same_by_bits, bit-∪, bit_empty}
 use Rattle.bitset.proofs.Laws.{∪-assoc, ∪-lt, size_le}
 use Rattle.job.specs.Refusal.{overwritten}
 use Rattle.lists.specs.Choice.{Found, nobody, found, keep, choose, best_of}
+use Rattle.std.specs.List.{sum}
 use Rattle.packages.specs.Tests.{wants_of, up_to}
 use Rattle.packages.specs.Packages.{flat, Pair, curves_of, eligible, closer, best_pair, without, joined, on_pair, closest, join_all, packages}
-use Rattle.packages.specs.ContractWords.{at, sum_of, joined_entry, joined_curves, fits_by, join_by, round_of, Laid, within}
+use Rattle.packages.specs.ContractWords.{at, joined_entry, joined_curves, fits_by, join_by, round_of, Laid, within}
 use Rattle.packages.proofs.Rounds.{Good, InOrder, flipped_any, pair_good, length_joined, closest_good, singles, packages_long}
 use Rattle.packages.proofs.Lists.{sum_lengths}
 use Rattle.packages.proofs.Counts.{map_take, map_entries}
 use Rattle.packages.proofs.Listed.{length_up_to}
-use Rattle.packages.proofs.Rows.{chosen, chosen_some, chosen_none}
 
 -- ---- the curves of joined and of reversed packages
 
@@ -267,8 +267,8 @@ left_start flipping wants places {ps} {rest} {tests} {lengths} {curves} n l c la
       goes = refl;
     }
 
-pub in_order : (fits : ℕ → Bool) (cs : List ℕ) (i j : ℕ) → best_pair fits cs (length cs) ≡ chosen i j → 0 < j → (i < j) × (j < length cs)
-in_order fits cs i j e pos = subst (Good (InOrder (length cs))) (e ∙ chosen_some i j pos) (pair_good fits cs (length cs))
+pub in_order : (fits : ℕ → Bool) (cs : List ℕ) (i j : ℕ) → best_pair fits cs (length cs) ≡ found (at i j) → (i < j) × (j < length cs)
+in_order fits cs i j e = subst (Good (InOrder (length cs))) e (pair_good fits cs (length cs))
 
 module _ {flipping : Bool} {wants : List ℕ} {places : ℕ} {ps : List (List ℕ)} {rest tests lengths curves : List ℕ}
     (s : Left flipping wants places ps rest tests lengths curves)
@@ -286,47 +286,48 @@ module _ {flipping : Bool} {wants : List ℕ} {places : ℕ} {ps : List (List �
   same_fits false e i j = ap (leb (size (get_or curves i 0 ∪ get_or curves j 0))) (sym e)
 
   -- the closest pair that the code finds is the rule's
-  module _ (i j : ℕ) (pair : best_pair (within bound) curves (length curves) ≡ chosen i j) where
-    closest_as : closest wants (fits_by flipping places) (join_by flipping wants places) s.qs ≡ chosen i j
-    closest_as =
-        ap (λ (l : List ℕ). best_pair (fits_by flipping places) l (length s.qs)) (sym s.sets)
-        ∙ ap (best_pair (fits_by flipping places) curves) (sym (ap length s.sets ∙ length-map s.qs (curves_of wants)))
-        ∙ same_pairs (fits_by flipping places) (within bound) curves (same_fits flipping bounded) (length curves) ∙ pair
+  closest_as : (b : Found Pair) → best_pair (within bound) curves (length curves) ≡ b
+      → closest wants (fits_by flipping places) (join_by flipping wants places) s.qs ≡ b
+  closest_as b pair =
+      ap (λ (l : List ℕ). best_pair (fits_by flipping places) l (length s.qs)) (sym s.sets)
+      ∙ ap (best_pair (fits_by flipping places) curves) (sym (ap length s.sets ∙ length-map s.qs (curves_of wants)))
+      ∙ same_pairs (fits_by flipping places) (within bound) curves (same_fits flipping bounded) (length curves) ∙ pair
 
-    pub left_end : j ≡ 0 → Laid (round_of flipping wants places ps) rest tests lengths × (curves ≡ map (curves_of wants) (round_of flipping wants places ps))
-    left_end e =
-        let done : round_of flipping wants places ps ≡ s.qs =
-        s.goes ∙ round_stops wants (fits_by flipping places) (join_by flipping wants places) s.qs (closest_as ∙ ap (chosen i) e ∙ chosen_none i) in
-        (subst (λ (l : List (List ℕ)). Laid l rest tests lengths) (sym done) s.laid, s.sets ∙ ap (λ (l : List (List ℕ)). map (curves_of wants) l) (sym done))
+  pub left_end : best_pair (within bound) curves (length curves) ≡ nobody
+      → Laid (round_of flipping wants places ps) rest tests lengths × (curves ≡ map (curves_of wants) (round_of flipping wants places ps))
+  left_end none =
+      let done : round_of flipping wants places ps ≡ s.qs =
+      s.goes ∙ round_stops wants (fits_by flipping places) (join_by flipping wants places) s.qs (closest_as nobody none) in
+      (subst (λ (l : List (List ℕ)). Laid l rest tests lengths) (sym done) s.laid, s.sets ∙ ap (λ (l : List (List ℕ)). map (curves_of wants) l) (sym done))
 
-    pub left_join : 0 < j → (tests' lengths' curves' : List ℕ)
-        → ((qs : List (List ℕ)) (rest : List ℕ) → Laid qs rest tests lengths → Laid (joined (join_by flipping wants places) qs (at i j)) rest tests' lengths')
-        → curves' ≡ joined_curves curves i j → Left flipping wants places ps rest tests' lengths' curves'
-    left_join pos tests' lengths' curves' made c =
-        let join = join_by flipping wants places in
-        let x = get_or s.qs i [] in
-        let y = get_or s.qs j [] in
-        let at_is : (k : ℕ) → get_or curves k 0 ≡ curves_of wants (get_or s.qs k []) =
-        λ k. ap (λ (l : List ℕ). get_or l k 0) s.sets ∙ curves_map wants s.qs k in
-        let u = get_or curves i 0 ∪ get_or curves j 0 in
-        let e : u ≡ curves_of wants (join x y) =
-        ap (λ (n : ℕ). n ∪ get_or curves j 0) (at_is i) ∙ ap (λ (n : ℕ). curves_of wants x ∪ n) (at_is j) ∙ sym (curves_join wants places x y flipping) in
-        record {
-          qs = joined join s.qs (at i j);
-          laid = made s.qs rest s.laid;
-          sets = c ∙ ap (λ (ls : List ℕ). joined_entry ls i j u) s.sets ∙ sym (map_joined (curves_of wants) join s.qs i j u e);
-          goes = s.goes ∙ round_joins wants (fits_by flipping places) join s.qs (at i j) (closest_as ∙ chosen_some i j pos);
-        }
+  pub left_join : (i j : ℕ) → best_pair (within bound) curves (length curves) ≡ found (at i j) → (tests' lengths' curves' : List ℕ)
+      → ((qs : List (List ℕ)) (rest : List ℕ) → Laid qs rest tests lengths → Laid (joined (join_by flipping wants places) qs (at i j)) rest tests' lengths')
+      → curves' ≡ joined_curves curves i j → Left flipping wants places ps rest tests' lengths' curves'
+  left_join i j pair tests' lengths' curves' made c =
+      let join = join_by flipping wants places in
+      let x = get_or s.qs i [] in
+      let y = get_or s.qs j [] in
+      let at_is : (k : ℕ) → get_or curves k 0 ≡ curves_of wants (get_or s.qs k []) =
+      λ k. ap (λ (l : List ℕ). get_or l k 0) s.sets ∙ curves_map wants s.qs k in
+      let u = get_or curves i 0 ∪ get_or curves j 0 in
+      let e : u ≡ curves_of wants (join x y) =
+      ap (λ (n : ℕ). n ∪ get_or curves j 0) (at_is i) ∙ ap (λ (n : ℕ). curves_of wants x ∪ n) (at_is j) ∙ sym (curves_join wants places x y flipping) in
+      record {
+        qs = joined join s.qs (at i j);
+        laid = made s.qs rest s.laid;
+        sets = c ∙ ap (λ (ls : List ℕ). joined_entry ls i j u) s.sets ∙ sym (map_joined (curves_of wants) join s.qs i j u e);
+        goes = s.goes ∙ round_joins wants (fits_by flipping places) join s.qs (at i j) (closest_as (found (at i j)) pair);
+      }
 
 -- ---- a join of two packages, with the code's numbers: the lengths of the two, where the first begins and where the second ends
 
 module _ {ps : List (List ℕ)} {rest tests lengths : List ℕ} (laid : Laid ps rest tests lengths) (i j : ℕ) (h : i < j) (l : j < length lengths) (a b from to : ℕ)
-    (first : a ≡ get_or lengths i 0) (second : b ≡ get_or lengths j 0) (start : from ≡ sum_of (take i lengths)) (end : to ≡ sum_of (take j lengths) + b) where
+    (first : a ≡ get_or lengths i 0) (second : b ≡ get_or lengths j 0) (start : from ≡ sum (take i lengths)) (end : to ≡ sum (take j lengths) + b) where
   long_at : (k : ℕ) → length (get_or ps k []) ≡ get_or lengths k 0
   long_at k = sym (ap (λ (l : List ℕ). get_or l k 0) laid.lens ∙ get_or-map length ps k [])
 
-  sum_to : (k : ℕ) → sum_of (take k lengths) ≡ length (flat (take k ps))
-  sum_to k = ap sum_of (ap (take k) laid.lens ∙ sym (map_take length k ps)) ∙ sum_lengths (take k ps)
+  sum_to : (k : ℕ) → sum (take k lengths) ≡ length (flat (take k ps))
+  sum_to k = ap sum (ap (take k) laid.lens ∙ sym (map_take length k ps)) ∙ sum_lengths (take k ps)
 
   parts : Split ps i j
   parts = split ps i j h (omega (arith, l, ap length laid.lens, length-map ps length))

@@ -1,7 +1,9 @@
 -- Words that only the contracts of private functions cite: a reader of the public contracts need not believe them.
-use Rattle.std.specs.Prelude.{◌≡◌, Bool, true, cond, List, [], ◌∷◌, ◌++◌, map, reverse, ℕ, suc, ◌+◌, ◌-◌, ◌/◌, ◌%◌, ◌≤◌, ◌<◌, length, get_or, take, drop, set, leb, ltb, eqb}
+use Rattle.std.specs.Prelude.{◌≡◌, Bool, true, cond, List, ◌++◌, map, reverse, ℕ, suc, ◌+◌, ◌-◌, ◌≤◌, ◌<◌, length, get_or, take, drop, set, leb, ltb, eqb, Option, Some, None}
 use Rattle.bitset.specs.Set.{◌∪◌, size}
-use Rattle.lists.specs.Choice.{nobody, found, best_of}
+use Rattle.lists.specs.Choice.{Found, nobody, found, keep, best_of}
+use Rattle.packages.specs.declared.PackagePair.{PackagePair}
+use Rattle.packages.specs.declared.Rating.{Rating}
 use Rattle.packages.specs.Packages.{Pair, shared, eligible, closer, flat, join_all, flipped}
 
 -- two places in the list of packages
@@ -10,17 +12,12 @@ at i j = record { first = i; second = j }
 
 -- ---- lists that are changed in place
 
--- the sum of a list
-unfoldable pub sum_of : List ℕ → ℕ
-sum_of [] = 0
-sum_of (x ∷ xs) = x + sum_of xs
-
 -- "The first package is reversed if its head won, the second if its tail won."
 abbrev pub turned : Bool → List ℕ → List ℕ
 turned turn xs = cond turn (reverse xs) xs
 
 -- one number for each package, after a join of the packages i and j: v in the first's position, none in the second's
-abbrev pub joined_entry : List ℕ → ℕ → ℕ → ℕ → List ℕ
+abbrev pub joined_entry : {A : Type 0} → List A → ℕ → ℕ → A → List A
 joined_entry xs i j v = take j (set xs i v) ++ drop (suc j) (set xs i v)
 
 -- "a package's curves are the union of its tests'"
@@ -46,7 +43,20 @@ pub record Laid (ps : List (List ℕ)) (rest tests lengths : List ℕ) : Type 0 
   pub all : tests ≡ flat ps ++ rest
   pub lens : lengths ≡ map length ps
 
--- ---- ratings: what the code keeps of each package, as one number: 256 times a score, plus the place of a partner
+-- ---- pairs and ratings: what the code keeps of each package
+
+-- the pair that the code names
+abbrev pub named : Option PackagePair → Found Pair
+named None = nobody
+named (Some p) = found (at p.first p.second)
+
+-- a package and its partner, where that is not 0
+abbrev pub with_partner : ℕ → ℕ → Found Pair
+with_partner i j = keep (ltb 0 j) (at i j) nobody
+
+-- one more than what the two have in common; 0 with no partner
+abbrev pub score_with : List ℕ → ℕ → ℕ → ℕ
+score_with cs i j = cond (ltb 0 j) (1 + shared cs (at i j)) 0
 
 -- whether a set has at most so many curves
 abbrev pub within : ℕ → ℕ → Bool
@@ -54,19 +64,22 @@ within bound u = leb (size u) bound
 
 -- With the curves cs of the packages: what the rating r says of the package k. No pair of it and a package behind it that fits has as many common curves as
 -- the score. A partner other than 0 is the best second package of such a pair, and the score is one more than what the two have in common.
-pub record Rated (fits : ℕ → Bool) (cs : List ℕ) (k r : ℕ) : Type 0 where
-  pub most : (j : ℕ) → k < j → j < length cs → fits (get_or cs k 0 ∪ get_or cs j 0) ≡ true → 1 + shared cs (at k j) ≤ r / 256
-  pub own : 0 < r % 256
-      → (best_of (eligible fits cs) (closer cs) (at k) (length cs) nobody ≡ found (at k (r % 256))) × (r / 256 ≡ 1 + shared cs (at k (r % 256)))
+pub record Rated (fits : ℕ → Bool) (cs : List ℕ) (k : ℕ) (r : Rating) : Type 0 where
+  pub most : (j : ℕ) → k < j → j < length cs → fits (get_or cs k 0 ∪ get_or cs j 0) ≡ true → 1 + shared cs (at k j) ≤ r.score
+  pub own : 0 < r.partner
+      → (best_of (eligible fits cs) (closer cs) (at k) (length cs) nobody ≡ found (at k r.partner)) × (r.score ≡ 1 + shared cs (at k r.partner))
+
+abbrev pub unrated : Rating
+unrated = record { score = 0; partner = 0 }
 
 -- the ratings rs of all packages
-abbrev pub AllRated : ℕ → List ℕ → List ℕ → Type 0
-AllRated bound cs rs = (k : ℕ) → k < length cs → Rated (within bound) cs k (get_or rs k 0)
+abbrev pub AllRated : ℕ → List ℕ → List Rating → Type 0
+AllRated bound cs rs = (k : ℕ) → k < length cs → Rated (within bound) cs k (get_or rs k unrated)
 
--- The rating r of another package after a join with the second package j, which is no partner any more; those behind it move up by one.
-abbrev pub moved_up : ℕ → ℕ → ℕ
-moved_up j r = cond (eqb (r % 256) j) (r - r % 256) (cond (ltb j (r % 256)) (r - 1) r)
+-- the rating r, but no partner
+abbrev pub lone_of : Rating → Rating
+lone_of r = record { score = r.score; partner = 0 }
 
--- beside the curves cs of at most 256 packages, their sizes, and a list that takes a count for each
-abbrev pub Sized : List ℕ → List ℕ → List ℕ → Type 0
-Sized cs sizes counts = (length cs ≤ 256) × (length cs ≤ length counts) × (sizes ≡ map size cs)
+-- The rating of another package after a join with the second package j, which is no partner any more; those behind it move up by one.
+abbrev pub moved_up : ℕ → Rating → Rating
+moved_up j r = cond (eqb r.partner j) (lone_of r) (cond (ltb j r.partner) (record { score = r.score; partner = r.partner - 1 }) r)

@@ -1,22 +1,30 @@
 #![tactic(auto)]
 // Method 3 of "Orders": packages with both rounds, heads, tails and flipping. The packages lie one behind the other in a list of tests. Beside it stand the
-// length of each package, its curves, how many these are, and its rating: 256 times its score, plus its partner. The partner is the package behind it that
-// would be the best second one of a pair with it, and the score is one more than the number of curves that the two have in common. A partner of 0 is none, or
-// not known yet: then no package behind it gives a higher score. What a package has in common with others is counted for all of them at once.
-ghost use Rattle.std.specs.Prelude.{◌≡◌, cond, List, ◌++◌, map, reverse, ℕ, suc, ◌+◌, ◌-◌, ◌/◌, ◌%◌, ◌≤◌, ◌<◌, length, get_or, take, drop, ltb};
+// length of each package, its curves, how many these are, and its rating. What a package has in common with others is counted for all of them at once.
+ghost use Rattle.std.specs.Prelude.{◌≡◌, cond, List, ◌++◌, map, sum, reverse, ℕ, suc, ◌+◌, ◌-◌, ◌^◌, ◌≤◌, ◌<◌, length, get_or, take, drop, ltb};
+ghost use Rattle.std.specs.Iterator.{AlwaysYields, IsFinite};
 ghost use Rattle.bitset.specs.Set.{◌∪◌, size};
 ghost use Rattle.job.specs.Refusal.{overwritten};
-ghost use Rattle.lists.specs.Choice.{nobody, keep, best_of};
+ghost use Rattle.lists.specs.Choice.{nobody, best_of};
 ghost use Rattle.packages.specs.Tests.{common, up_to, entered};
-ghost use Rattle.packages.specs.Packages.{shared, eligible, closer, best_pair, curves_of, joined, head, tail, flipped, packages};
-ghost use Rattle.packages.specs.ContractWords.{at, sum_of, turned, joined_entry, joined_curves, join_by, round_of, Laid};
-ghost use Rattle.packages.specs.ContractWords.{within, Rated, AllRated, moved_up, Sized};
+ghost use Rattle.packages.specs.Packages.{shared, eligible, closer, best_pair, curves_of, joined, run_from, head, tail, flipped, packages};
+ghost use Rattle.packages.specs.ContractWords.{at, turned, joined_entry, joined_curves, join_by, round_of, Laid};
+ghost use Rattle.packages.specs.ContractWords.{within, with_partner, score_with, named, unrated, Rated, AllRated, lone_of, moved_up};
 
-// Two places in the list of packages; no pair where the second is 0.
+// Two places in the list of packages.
 #[derive(Clone, Copy)]
 pub struct PackagePair {
     pub first: usize,
     pub second: usize,
+}
+
+// What is known of a package: its partner, the package behind it that would be the best second one of a pair with it, and its score, one more than the number
+// of curves that the two have in common. With no partner, or where it is not known yet, no package behind it gives a higher score.
+// Kept: the partner is 0 where there is none. Tried, slower: with an Option the order of 256 tests takes a fifth longer (`renew_behind` is no vector code).
+#[derive(Clone, Copy)]
+pub struct Rating {
+    pub score: u16,
+    pub partner: u16,
 }
 
 // A way to join two packages: how many curves the parts that meet have in common, and which of the two packages are reversed.
@@ -27,6 +35,33 @@ pub struct Meeting {
     pub second: bool,
 }
 
+// What packages are chosen by: their curves, how many these are, and the bound of a pair's union.
+#[derive(Clone, Copy)]
+struct Table<'a> {
+    bound: usize,
+    curves: &'a [u64],
+    sizes: &'a [usize],
+    ghost few: { length curves.now ≤ 256 },
+    ghost small: { (k : ℕ) → get_or curves.now k 0 < 2 ^ 64 },
+    ghost sized: { sizes.now ≡ map size curves.now },
+}
+
+// A round: whether packages are joined with flipping, the wants of the tests, and the places.
+#[derive(Clone, Copy)]
+struct Round<'a> {
+    flipping: bool,
+    wants: &'a [u64],
+    places: usize,
+    // each want is a set of curves below 64
+    ghost small: { (t : ℕ) → get_or wants.now t 0 < 2 ^ 64 },
+}
+
+// No partner, and no score.
+const UNRATED: Rating = Rating {
+    score: 0,
+    partner: 0,
+};
+
 // How many curves two sets have in common.
 fn shared(a: u64, b: u64) -> usize
     ensures { result ≡ common a b }
@@ -34,116 +69,35 @@ fn shared(a: u64, b: u64) -> usize
     bitset::size(a & b)
 }
 
-// The curves of a package's head, "its longest opening run of tests whose union is at most the places".
-fn head(wants: &[u64], places: usize, tests: &[u16]) -> u64
-    ensures { result ≡ head wants.now places tests.now }
-{
-    let mut run: u64 = 0;
-    let mut k: usize = 0;
-    while k < tests.len() {
-        let wider = bitset::union(run, lists::entry(wants, tests[k] as usize));
-        if places < bitset::size(wider) {
-            return run;
-        }
-        run = wider;
-        k += 1;
-    }
-    run
-}
-
-// The curves of its tail, "likewise from the end".
-fn tail(wants: &[u64], places: usize, tests: &[u16]) -> u64
-    ensures { result ≡ tail wants.now places tests.now }
-{
-    let mut run: u64 = 0;
-    let mut k = tests.len();
-    while 0 < k {
-        let longer = bitset::union(run, lists::entry(wants, tests[k - 1] as usize));
-        if places < bitset::size(longer) {
-            return run;
-        }
-        run = longer;
-        k -= 1;
-    }
-    run
-}
-
-// "the earliest with most common curves wins": the earlier, unless the later has more.
-fn more(a: Meeting, b: Meeting) -> Meeting
-    ensures { result ≡ cond (ltb a.common b.common) b a }
-{
-    if a.common < b.common { b } else { a }
-}
-
-// "Compare tail-head, tail-tail, head-head, head-tail (first package named first)": which of the packages a and b are reversed.
-fn flips(wants: &[u64], places: usize, a: &[u16], b: &[u16]) -> Meeting
-    ensures { flipped wants.now places a.now b.now
-        ≡ turned result.first a.now ++ turned result.second b.now }
-{
-    let a_head = head(wants, places, a);
-    let a_tail = tail(wants, places, a);
-    let b_head = head(wants, places, b);
-    let b_tail = tail(wants, places, b);
-    let tail_head = Meeting {
-        common: shared(a_tail, b_head),
-        first: false,
-        second: false,
-    };
-    let tail_tail = Meeting {
-        common: shared(a_tail, b_tail),
-        first: false,
-        second: true,
-    };
-    let head_head = Meeting {
-        common: shared(a_head, b_head),
-        first: true,
-        second: false,
-    };
-    let head_tail = Meeting {
-        common: shared(a_head, b_tail),
-        first: true,
-        second: true,
-    };
-    more(more(more(tail_head, tail_tail), head_head), head_tail)
-}
-
-// How the packages `part[..a]` and `part[from..]` are joined: in the second round with flipping, in the first as they are.
-fn ways(
-    flipping: bool,
-    wants: &[u64],
-    places: usize,
-    part: &[u16],
-    a: usize,
-    from: usize,
-) -> Meeting
-    requires { (a ≤ length part.now) × (from ≤ length part.now) }
-    ensures { join_by flipping wants.now places (take a part.now) (drop from part.now)
-        ≡ turned result.first (take a part.now) ++ turned result.second (drop from part.now) }
-{
-    if flipping {
-        flips(wants, places, &part[..a], &part[from..])
-    } else {
+impl Meeting {
+    // The way in which parts with these curves meet.
+    fn of(a: u64, b: u64, first: bool, second: bool) -> Meeting
+        ensures { result ≡ record { common = common a b; first = first; second = second } }
+    {
         Meeting {
-            common: 0,
-            first: false,
-            second: false,
+            common: shared(a, b),
+            first,
+            second,
+        }
+    }
+
+    // "the earliest with most common curves wins": the earlier, unless the later has more.
+    fn or_more(self, later: Meeting) -> Meeting
+        ensures { result ≡ cond (ltb self.common later.common) later self }
+    {
+        if self.common < later.common {
+            later
+        } else {
+            self
         }
     }
 }
 
-// Reverses a list in place. What lies between i and j is still to be reversed.
+// Reverses a list in place.
 pub fn reverse(xs: &mut [u16])
     ensures { xs.new ≡ reverse xs.old }
 {
-    let mut i: usize = 0;
-    let mut j = xs.len();
-    while i + 1 < j {
-        j -= 1;
-        let x = xs[i];
-        xs[i] = xs[j];
-        xs[j] = x;
-        i += 1;
-    }
+    xs.reverse();
 }
 
 fn reverse_if(turn: bool, xs: &mut [u16])
@@ -154,54 +108,21 @@ fn reverse_if(turn: bool, xs: &mut [u16])
     }
 }
 
-// Exchanges the first k entries and the rest, in place: the reverse of two reversed parts.
-fn exchange(xs: &mut [u16], k: usize)
-    requires { k ≤ length xs.old }
-    ensures { xs.new ≡ drop k xs.old ++ take k xs.old }
-{
-    reverse(&mut xs[..k]);
-    reverse(&mut xs[k..]);
-    reverse(xs);
-}
-
-// "The second's tests go behind the first's": the first has a tests at the start of the part, the second b at its end.
-fn join_tests(flipping: bool, wants: &[u64], places: usize, part: &mut [u16], a: usize, b: usize)
-    requires { a + b ≤ length part.old }
-    ensures { (x y z : List ℕ) → part.old ≡ x ++ (y ++ z) → length x ≡ a → length z ≡ b
-        → part.new ≡ join_by flipping wants.now places x z ++ y }
-{
-    let from = part.len() - b;
-    let way = ways(flipping, wants, places, part, a, from);
-    reverse_if(way.first, &mut part[..a]);
-    reverse_if(way.second, &mut part[from..]);
-    exchange(&mut part[a..], from - a);
-}
-
 // The number of tests in packages of these lengths.
-fn total(lengths: &[u64]) -> usize
-    requires { sum_of lengths.now ≤ 256 }
-    ensures { result ≡ sum_of lengths.now }
+fn total(lengths: &[usize]) -> usize
+    requires { sum lengths.now ≤ 256 }
+    ensures { result ≡ sum lengths.now }
 {
-    let mut sum: usize = 0;
-    let mut k: usize = 0;
-    while k < lengths.len() {
-        sum += lengths[k] as usize;
-        k += 1;
-    }
-    sum
+    lengths.iter().sum()
 }
 
-// Sets one entry and takes another out; those behind it move up.
-fn join_entry(xs: &mut [u64], first: usize, second: usize, value: u64)
-    requires { (first < length xs.old) × (second < length xs.old) }
-    ensures { take (length xs.old - 1) xs.new ≡ joined_entry xs.old first second value }
+// Sets the first's entry and takes the second's out; those behind it move up.
+fn join_entry<T: Copy>(xs: &mut [T], pair: PackagePair, value: T)
+    requires { (pair.first < length xs.old) × (pair.second < length xs.old) }
+    ensures { take (length xs.old - 1) xs.new ≡ joined_entry xs.old pair.first pair.second value }
 {
-    xs[first] = value;
-    let mut k = second;
-    while k + 1 < xs.len() {
-        xs[k] = xs[k + 1];
-        k += 1;
-    }
+    xs[pair.first] = value;
+    xs.copy_within(pair.second + 1.., pair.second);
 }
 
 // Writes how many curves a set has in common with each of the others.
@@ -209,10 +130,8 @@ fn write_common(set: u64, others: &[u64], counts: &mut [u16])
     requires { length others.now ≤ length counts.old }
     ensures { counts.new ≡ overwritten (map (common set) others.now) counts.old }
 {
-    let mut j: usize = 0;
-    while j < others.len() {
-        counts[j] = u64::count_ones(set & others[j]) as u16;
-        j += 1;
+    for (j, other) in others.iter().enumerate() {
+        counts[j] = u64::count_ones(set & *other) as u16;
     }
 }
 
@@ -224,258 +143,233 @@ fn count_behind(curves: &[u64], counts: &mut [u16], k: usize)
     write_common(curves[k], &curves[k..], &mut counts[k..]);
 }
 
-// The size of a union, by the sizes of the two sets and of what they have in common.
-fn union_size(a: u64, b: u64, both: u16) -> usize
-    requires { (a ≤ 64) × (b ≤ 64) × (both ≤ a) }
-    ensures { (x y : ℕ) → a ≡ size x → b ≡ size y → both ≡ common x y → result ≡ size (x ∪ y) }
-{
-    (a + b - both as u64) as usize
-}
-
-// The rating of a package, whose partner gives "the pair with most common curves; ties to .. the earlier second package". 0 where no union is at most the
-// bound.
-fn best_partner(
-    bound: usize,
-    curves: &[u64],
-    sizes: &[u64],
-    counts: &mut [u16],
-    first: usize,
-) -> u64
-    requires { (first < length curves.now) × Sized curves.now sizes.now counts.old }
-    ensures partner { best_of (eligible (within bound) curves.now) (closer curves.now) (at first) (length curves.now) nobody
-        ≡ keep (ltb 0 (result % 256)) (at first (result % 256)) nobody }
-    ensures score { result / 256 ≡ cond (ltb 0 (result % 256)) (1 + common (get_or curves.now first 0) (get_or curves.now (result % 256) 0)) 0 }
-{
-    count_behind(curves, counts, first);
-    let mut second: usize = 0;
-    let mut most: u16 = 0;
-    let mut j = first + 1;
-    while j < curves.len() {
-        let score = 1 + counts[j];
-        if most < score {
-            if union_size(sizes[first], sizes[j], counts[j]) <= bound {
-                second = j;
-                most = score;
-            }
-        }
-        j += 1;
-    }
-    most as u64 * 256 + second as u64
-}
-
-// The rating of each package.
-fn best_partners(
-    bound: usize,
-    curves: &[u64],
-    sizes: &[u64],
-    counts: &mut [u16],
-    ratings: &mut [u64],
-)
-    requires { (length ratings.old ≡ length curves.now) × Sized curves.now sizes.now counts.old }
-    ensures { AllRated bound curves.now ratings.new }
-{
-    let mut k: usize = 0;
-    while k < curves.len() {
-        ratings[k] = best_partner(bound, curves, sizes, counts, k);
-        k += 1;
-    }
-}
-
 // The place of the highest score, "ties to the earlier first".
-fn highest(ratings: &[u64]) -> usize
-    ensures most { (k : ℕ) → get_or ratings.now k 0 / 256 ≤ get_or ratings.now result 0 / 256 }
-    ensures earliest { (k : ℕ) → k < result → get_or ratings.now k 0 / 256 < get_or ratings.now result 0 / 256 }
+fn highest(ratings: &[Rating]) -> usize
+    ensures most { (k : ℕ) → (get_or ratings.now k unrated).score ≤ (get_or ratings.now result unrated).score }
+    ensures earliest { (k : ℕ) → k < result → (get_or ratings.now k unrated).score < (get_or ratings.now result unrated).score }
 {
     let mut first: usize = 0;
-    let mut most: u64 = 0;
-    let mut i: usize = 0;
-    while i < ratings.len() {
-        let count = ratings[i] / 256;
-        if most < count {
+    let mut most: u16 = 0;
+    for (i, rating) in ratings.iter().enumerate() {
+        if most < rating.score {
             first = i;
-            most = count;
+            most = rating.score;
         }
-        i += 1;
     }
     first
 }
 
-// The pair with most common curves, "ties to the earlier first, then the earlier second package": the package with the highest score, and its partner. Where
-// that is not known it is looked for anew.
-fn closest(
-    bound: usize,
-    curves: &[u64],
-    sizes: &[u64],
-    counts: &mut [u16],
-    ratings: &mut [u64],
-) -> PackagePair
-    requires ratings_len { (length ratings.old ≡ length curves.now) × Sized curves.now sizes.now counts.old }
-    requires all_rated { AllRated bound curves.now ratings.old }
-    ensures pair { best_pair (within bound) curves.now (length curves.now) ≡ keep (ltb 0 result.second) (at result.first result.second) nobody }
-    ensures rated { AllRated bound curves.now ratings.new }
-{
-    loop {
-        let first = highest(ratings);
-        let rating = lists::entry(ratings, first);
-        let second = (rating % 256) as usize;
-        if 0 < second {
-            return PackagePair { first, second };
+impl Rating {
+    // The rating where the partner is none any more.
+    fn lone(self) -> Rating
+        ensures { result ≡ lone_of self }
+    {
+        Rating {
+            score: self.score,
+            partner: 0,
         }
-        if rating == 0 {
-            return PackagePair { first, second };
-        }
-        ratings[first] = best_partner(bound, curves, sizes, counts, first);
     }
-}
 
-// The rating of another package after a join: the second package is no partner any more, and those behind it move up by one.
-fn moved(second: usize, rating: u64) -> u64
-    ensures { result ≡ moved_up second rating }
-{
-    let partner = (rating % 256) as usize;
-    if partner == second {
-        return rating - rating % 256;
+    // The rating of another package after a join: the second package is no partner any more, and those behind it move up by one.
+    fn moved(self, second: usize) -> Rating
+        ensures { result ≡ moved_up second self }
+    {
+        let partner = self.partner as usize;
+        if partner == second {
+            return self.lone();
+        }
+        if second < partner {
+            Rating {
+                score: self.score,
+                partner: self.partner - 1,
+            }
+        } else {
+            self
+        }
     }
-    if second < partner { rating - 1 } else { rating }
+
+    // The rating of a package before the joined one, by what the two have in common. The joined one may be its partner, where it fits: with a higher score than
+    // before, or with the same as a partner behind it.
+    fn renewed(self, fits: bool, both: u16, pair: PackagePair) -> Rating
+        requires { (pair.first < pair.second) × (pair.first < 256) × (both ≤ 64) }
+        ensures { (bound row : ℕ) (cs ds : List ℕ) → row < pair.first → pair.second ≤ length ds → length cs ≡ suc (length ds)
+            → ds ≡ joined_curves cs pair.first pair.second → fits ≡ within bound (get_or ds row 0 ∪ get_or ds pair.first 0) → both ≡ shared ds (at row pair.first)
+            → Rated (within bound) cs row self → Rated (within bound) ds row result }
+    {
+        let kept = if self.partner as usize == pair.first {
+            self.lone()
+        } else {
+            self.moved(pair.second)
+        };
+        if !fits {
+            return kept;
+        }
+        let joined = Rating {
+            score: 1 + both,
+            partner: pair.first as u16,
+        };
+        if kept.score < joined.score {
+            return joined;
+        }
+        if joined.score < kept.score {
+            return kept;
+        }
+        if pair.first < kept.partner as usize {
+            joined
+        } else {
+            kept
+        }
+    }
 }
 
 // The ratings of the packages behind the joined one.
-fn renew_behind(ratings: &mut [u64], first: usize, second: usize)
-    requires { first < length ratings.old }
-    ensures behind { (k : ℕ) → first < k → k < length ratings.old
-        → get_or ratings.new k 0 ≡ moved_up second (get_or ratings.old k 0) }
-    ensures before { (k : ℕ) → k ≤ first → get_or ratings.new k 0 ≡ get_or ratings.old k 0 }
+fn renew_behind(ratings: &mut [Rating], pair: PackagePair)
+    requires { pair.first < length ratings.old }
+    ensures behind { (k : ℕ) → pair.first < k → k < length ratings.old
+        → get_or ratings.new k unrated ≡ moved_up pair.second (get_or ratings.old k unrated) }
+    ensures before { (k : ℕ) → k ≤ pair.first → get_or ratings.new k unrated ≡ get_or ratings.old k unrated }
 {
-    let mut row = first + 1;
-    while row < ratings.len() {
-        ratings[row] = moved(second, ratings[row]);
-        row += 1;
+    for rating in ratings[pair.first + 1..].iter_mut() {
+        *rating = rating.moved(pair.second);
     }
 }
 
-// The rating of a package before the joined one, by what the two have in common. The joined one may be its partner, where it fits: with a higher score than
-// before, or with the same as a partner behind it.
-fn renewed(fits: bool, both: u16, first: usize, second: usize, rating: u64) -> u64
-    requires { (first < second) × (first < 256) }
-    ensures { (bound row : ℕ) (cs ds : List ℕ) → row < first → second ≤ length ds → length cs ≡ suc (length ds)
-        → ds ≡ joined_curves cs first second → fits ≡ within bound (get_or ds row 0 ∪ get_or ds first 0) → both ≡ shared ds (at row first)
-        → Rated (within bound) cs row rating → Rated (within bound) ds row result }
-{
-    let kept = if (rating % 256) as usize == first {
-        rating - rating % 256
-    } else {
-        moved(second, rating)
-    };
-    if !fits {
-        return kept;
+impl Table<'_> {
+    // Whether the union of two packages is at most the bound, by the sizes of the two and of what they have in common.
+    fn fits(&self, i: usize, j: usize, both: u16) -> bool
+        requires within { (i < length self.now.curves.now) × (j < length self.now.curves.now) }
+        requires both { both ≡ shared self.now.curves.now (at i j) }
+        ensures { result ≡ within self.now.bound (get_or self.now.curves.now i 0 ∪ get_or self.now.curves.now j 0) }
+    {
+        self.sizes[i] + self.sizes[j] - both as usize <= self.bound
     }
-    let count = 1 + both as u64;
-    let joined = count * 256 + first as u64;
-    if kept / 256 < count {
-        return joined;
-    }
-    if count < kept / 256 {
-        return kept;
-    }
-    if first < (kept % 256) as usize {
-        joined
-    } else {
-        kept
-    }
-}
 
-// The ratings of the packages before the joined one.
-fn renew_before(
-    bound: usize,
-    curves: &[u64],
-    sizes: &[u64],
-    counts: &mut [u16],
-    ratings: &mut [u64],
-    first: usize,
-    second: usize,
-)
-    requires first_lt_second { (first < second) × (second ≤ length curves.now) × (length ratings.old ≡ suc (length curves.now)) }
-    requires sized { Sized curves.now sizes.now counts.old }
-    ensures before { (cs : List ℕ) → length cs ≡ suc (length curves.now)
-        → curves.now ≡ joined_curves cs first second
-        → (k : ℕ) → k < first → Rated (within bound) cs k (get_or ratings.old k 0)
-        → Rated (within bound) curves.now k (get_or ratings.new k 0) }
-    ensures behind { (k : ℕ) → first ≤ k → get_or ratings.new k 0 ≡ get_or ratings.old k 0 }
-{
-    write_common(curves[first], &curves[..first], counts);
-    let mut row: usize = 0;
-    while row < first {
-        let both = counts[row];
-        let fits = union_size(sizes[row], sizes[first], both) <= bound;
-        ratings[row] = renewed(fits, both, first, second, ratings[row]);
-        row += 1;
+    // The rating of a package, whose partner gives "the pair with most common curves; ties to .. the earlier second package". It has none where no union is at
+    // most the bound.
+    fn best_partner(&self, counts: &mut [u16; 256], first: usize) -> Rating
+        requires { first < length self.now.curves.now }
+        ensures partner { best_of (eligible (within self.now.bound) self.now.curves.now) (closer self.now.curves.now) (at first)
+            (length self.now.curves.now) nobody ≡ with_partner first result.partner }
+        ensures score { result.score ≡ score_with self.now.curves.now first result.partner }
+    {
+        count_behind(self.curves, counts, first);
+        let mut best = UNRATED;
+        for j in first + 1..self.curves.len() {
+            let score = 1 + counts[j];
+            if best.score < score {
+                if self.fits(first, j, counts[j]) {
+                    best = Rating {
+                        score,
+                        partner: j as u16,
+                    };
+                }
+            }
+        }
+        best
     }
-}
 
-// The rating of each package after the join.
-fn renew_ratings(
-    bound: usize,
-    curves: &[u64],
-    sizes: &[u64],
-    counts: &mut [u16],
-    ratings: &mut [u64],
-    first: usize,
-    second: usize,
-)
-    requires first_lt_second { (first < second) × (second ≤ length curves.now) × (length ratings.old ≡ suc (length curves.now)) }
-    requires sized { Sized curves.now sizes.now counts.old }
-    ensures { (cs : List ℕ) → length cs ≡ suc (length curves.now)
-        → curves.now ≡ joined_curves cs first second
-        → AllRated bound cs ratings.old → AllRated bound curves.now ratings.new }
-{
-    let own = best_partner(bound, curves, sizes, counts, first);
-    join_entry(ratings, first, second, own);
-    renew_before(bound, curves, sizes, counts, ratings, first, second);
-    renew_behind(ratings, first, second);
+    // The rating of each package.
+    fn best_partners(&self, counts: &mut [u16; 256], ratings: &mut [Rating])
+        requires { length ratings.old ≡ length self.now.curves.now }
+        ensures { AllRated self.now.bound self.now.curves.now ratings.new }
+    {
+        for k in 0..self.curves.len() {
+            ratings[k] = self.best_partner(counts, k);
+        }
+    }
+
+    // The pair with most common curves, "ties to the earlier first, then the earlier second package": the package with the highest score, and its partner. Where
+    // that is not known it is looked for anew.
+    fn closest(&self, counts: &mut [u16; 256], ratings: &mut [Rating]) -> Option<PackagePair>
+        requires ratings_len { length ratings.old ≡ length self.now.curves.now }
+        requires all_rated { AllRated self.now.bound self.now.curves.now ratings.old }
+        ensures pair { best_pair (within self.now.bound) self.now.curves.now (length self.now.curves.now) ≡ named result }
+        ensures rated { AllRated self.now.bound self.now.curves.now ratings.new }
+    {
+        loop {
+            let first = highest(ratings);
+            let rating = *ratings.get(first)?;
+            if 0 < rating.partner {
+                return Some(PackagePair {
+                    first,
+                    second: rating.partner as usize,
+                });
+            }
+            if rating.score == 0 {
+                return None;
+            }
+            ratings[first] = self.best_partner(counts, first);
+        }
+    }
+
+    // The ratings of the packages before the joined one.
+    fn renew_before(&self, counts: &mut [u16; 256], ratings: &mut [Rating], pair: PackagePair)
+        requires { (pair.first < pair.second) × (pair.second ≤ length self.now.curves.now) × (length ratings.old ≡ suc (length self.now.curves.now)) }
+        ensures before { (cs : List ℕ) → length cs ≡ suc (length self.now.curves.now)
+            → self.now.curves.now ≡ joined_curves cs pair.first pair.second
+            → (k : ℕ) → k < pair.first → Rated (within self.now.bound) cs k (get_or ratings.old k unrated)
+            → Rated (within self.now.bound) self.now.curves.now k (get_or ratings.new k unrated) }
+        ensures behind { (k : ℕ) → pair.first ≤ k → get_or ratings.new k unrated ≡ get_or ratings.old k unrated }
+    {
+        write_common(self.curves[pair.first], &self.curves[..pair.first], counts);
+        for row in 0..pair.first {
+            let both = counts[row];
+            let fits = self.fits(row, pair.first, both);
+            ratings[row] = ratings[row].renewed(fits, both, pair);
+        }
+    }
+
+    // The rating of each package after the join.
+    fn renew_ratings(&self, counts: &mut [u16; 256], ratings: &mut [Rating], pair: PackagePair)
+        requires { (pair.first < pair.second) × (pair.second ≤ length self.now.curves.now) × (length ratings.old ≡ suc (length self.now.curves.now)) }
+        ensures { (cs : List ℕ) → length cs ≡ suc (length self.now.curves.now)
+            → self.now.curves.now ≡ joined_curves cs pair.first pair.second
+            → AllRated self.now.bound cs ratings.old → AllRated self.now.bound self.now.curves.now ratings.new }
+    {
+        let own = self.best_partner(counts, pair.first);
+        join_entry(ratings, pair, own);
+        self.renew_before(counts, ratings, pair);
+        renew_behind(ratings, pair);
+    }
 }
 
 // Joins the curves of two packages; the sizes and the ratings after it.
 fn join_curves(
     bound: usize,
     curves: &mut [u64],
-    sizes: &mut [u64],
-    counts: &mut [u16],
-    ratings: &mut [u64],
-    first: usize,
-    second: usize,
+    sizes: &mut [usize],
+    counts: &mut [u16; 256],
+    ratings: &mut [Rating],
+    pair: PackagePair,
 )
-    requires first_lt_second { (first < second) × (second < length curves.old) × (length ratings.old ≡ length curves.old) }
-    requires sized_2 { Sized curves.old sizes.old counts.old }
+    requires first_lt_second { (pair.first < pair.second) × (pair.second < length curves.old) × (length ratings.old ≡ length curves.old) }
+    requires sized_2 { (length curves.old ≤ 256) × (sizes.old ≡ map size curves.old) }
+    requires small { (k : ℕ) → get_or curves.old k 0 < 2 ^ 64 }
     requires all_rated { AllRated bound curves.old ratings.old }
-    ensures sets { take (length curves.old - 1) curves.new ≡ joined_curves curves.old first second }
+    ensures sets { take (length curves.old - 1) curves.new ≡ joined_curves curves.old pair.first pair.second }
     ensures sized { take (length curves.old - 1) sizes.new ≡ map size (take (length curves.old - 1) curves.new) }
     ensures rated { AllRated bound (take (length curves.old - 1) curves.new) ratings.new }
 {
     let left = curves.len() - 1;
-    let joined = bitset::union(curves[first], curves[second]);
-    join_entry(curves, first, second, joined);
-    join_entry(sizes, first, second, bitset::size(joined) as u64);
-    renew_ratings(
+    let joined = bitset::union(curves[pair.first], curves[pair.second]);
+    join_entry(curves, pair, joined);
+    join_entry(sizes, pair, bitset::size(joined));
+    let table = Table {
         bound,
-        &curves[..left],
-        &sizes[..left],
-        counts,
-        ratings,
-        first,
-        second,
-    );
+        curves: &curves[..left],
+        sizes: &sizes[..left],
+    };
+    table.renew_ratings(counts, ratings, pair);
 }
 
 // The sizes of the packages' curves.
-fn sizes_of(curves: &[u64]) -> [u64; 256]
+fn sizes_of(curves: &[u64]) -> [usize; 256]
     requires { length curves.now ≤ 256 }
     ensures { (length result ≡ 256) × (take (length curves.now) result ≡ map size curves.now) }
 {
-    let mut sizes = [0u64; 256];
-    let mut k: usize = 0;
-    while k < curves.len() {
-        sizes[k] = bitset::size(curves[k]) as u64;
-        k += 1;
+    let mut sizes = [0; 256];
+    for (k, set) in curves.iter().enumerate() {
+        sizes[k] = bitset::size(*set);
     }
     sizes
 }
@@ -485,12 +379,8 @@ fn first_curves(wants: &[u64]) -> [u64; 256]
     requires { length wants.now ≤ 256 }
     ensures { (length result ≡ 256) × (take (length wants.now) result ≡ wants.now) }
 {
-    let mut curves = [0u64; 256];
-    let mut t: usize = 0;
-    while t < wants.len() {
-        curves[t] = wants[t];
-        t += 1;
-    }
+    let mut curves = [0; 256];
+    curves[..wants.len()].copy_from_slice(wants);
     curves
 }
 
@@ -499,10 +389,8 @@ fn as_listed(tests: usize, order: &mut [u16])
     requires { (tests ≤ 256) × (tests ≤ length order.old) }
     ensures { order.new ≡ overwritten (up_to tests) order.old }
 {
-    let mut t: usize = 0;
-    while t < tests {
+    for t in 0..tests {
         order[t] = t as u16;
-        t += 1;
     }
 }
 
@@ -519,103 +407,146 @@ pub fn listed_order(tests: usize, order: &mut [u16])
     as_listed(tests, order);
 }
 
-// Joins the tests and the lengths of two packages. The packages lie in the order, one behind the other.
-fn join_packages(
-    flipping: bool,
-    wants: &[u64],
-    places: usize,
-    order: &mut [u16],
-    lengths: &mut [u64],
-    first: usize,
-    second: usize,
-)
-    requires { (first < second) × (second < length lengths.old) × (sum_of lengths.old ≤ 256) × (sum_of lengths.old ≤ length order.old) }
-    ensures joined { (ps : List (List ℕ)) (rest : List ℕ) → Laid ps rest order.old lengths.old
-        → Laid (joined (join_by flipping wants.now places) ps (at first second)) rest order.new (take (length lengths.old - 1) lengths.new) }
-    ensures sum { sum_of (take (length lengths.old - 1) lengths.new) ≡ sum_of lengths.old }
-{
-    let a = lengths[first];
-    let b = lengths[second];
-    let from = total(&lengths[..first]);
-    let to = total(&lengths[..second]) + b as usize;
-    join_tests(
-        flipping,
-        wants,
-        places,
-        &mut order[from..to],
-        a as usize,
-        b as usize,
-    );
-    join_entry(lengths, first, second, a + b);
-}
-
-// The bound of a pair's union: in the first round the places, in the second none, as a union of sets of 64 curves is always at most 64.
-fn round_bound(flipping: bool, places: usize) -> usize
-    ensures { result ≡ cond flipping 64 places }
-{
-    if flipping { 64 } else { places }
-}
-
-// One round: joins the closest pair as long as there is one, and says how many packages are left.
-fn join_all(
-    flipping: bool,
-    wants: &[u64],
-    places: usize,
-    order: &mut [u16],
-    lengths: &mut [u64],
-    curves: &mut [u64],
-) -> usize
-    requires { (length lengths.old ≤ 256) × (length curves.old ≡ length lengths.old) × (sum_of lengths.old ≤ 256)
-        × (sum_of lengths.old ≤ length order.old) }
-    ensures left { (result ≤ length lengths.old) × (sum_of (take result lengths.new) ≡ sum_of lengths.old) }
-    ensures round { (ps : List (List ℕ)) (rest : List ℕ) → Laid ps rest order.old lengths.old → curves.old ≡ map (curves_of wants.now) ps
-        → Laid (round_of flipping wants.now places ps) rest order.new (take result lengths.new)
-        × (take result curves.new ≡ map (curves_of wants.now) (round_of flipping wants.now places ps)) }
-{
-    let bound = round_bound(flipping, places);
-    let mut left = lengths.len();
-    let mut sizes = sizes_of(curves);
-    let mut counts = [0u16; 256];
-    let mut ratings = [0u64; 256];
-    best_partners(
-        bound,
-        curves,
-        &sizes[..left],
-        &mut counts,
-        &mut ratings[..left],
-    );
-    loop {
-        let pair = closest(
-            bound,
-            &curves[..left],
-            &sizes[..left],
-            &mut counts,
-            &mut ratings[..left],
-        );
-        let first = pair.first;
-        let second = pair.second;
-        if second == 0 {
-            return left;
+impl Round<'_> {
+    // The curves of the "longest opening run of tests whose union is at most the places".
+    fn longest_run<'t, I: Iterator<Item = &'t u16> + Drop>(&self, tests: I) -> u64
+        requires can { I.can_next tests }
+        requires ends { IsFinite (I.remaining tests) }
+        ensures { (ts : List ℕ) → AlwaysYields I.next_gives (λ t. t.now) tests ts → result ≡ run_from self.now.wants.now self.now.places 0 ts }
+    {
+        let mut run: u64 = 0;
+        for test in tests {
+            let wider = bitset::union(run, lists::entry(self.wants, *test as usize));
+            if self.places < bitset::size(wider) {
+                return run;
+            }
+            run = wider;
         }
-        join_packages(
-            flipping,
-            wants,
-            places,
-            order,
-            &mut lengths[..left],
-            first,
-            second,
-        );
-        join_curves(
+        run
+    }
+
+    // The curves of a package's head.
+    fn head(&self, tests: &[u16]) -> u64
+        ensures { result ≡ head self.now.wants.now self.now.places tests.now }
+    {
+        self.longest_run(tests.iter())
+    }
+
+    // The curves of its tail, "likewise from the end".
+    fn tail(&self, tests: &[u16]) -> u64
+        ensures { result ≡ tail self.now.wants.now self.now.places tests.now }
+    {
+        self.longest_run(tests.iter().rev())
+    }
+
+    // "Compare tail-head, tail-tail, head-head, head-tail (first package named first)": which of the packages a and b are reversed.
+    fn flips(&self, a: &[u16], b: &[u16]) -> Meeting
+        ensures { flipped self.now.wants.now self.now.places a.now b.now
+            ≡ turned result.first a.now ++ turned result.second b.now }
+    {
+        let a_head = self.head(a);
+        let a_tail = self.tail(a);
+        let b_head = self.head(b);
+        let b_tail = self.tail(b);
+        Meeting::of(a_tail, b_head, false, false)
+            .or_more(Meeting::of(a_tail, b_tail, false, true))
+            .or_more(Meeting::of(a_head, b_head, true, false))
+            .or_more(Meeting::of(a_head, b_tail, true, true))
+    }
+
+    // How the packages `part[..a]` and `part[from..]` are joined: in the second round with flipping, in the first as they are.
+    fn ways(&self, part: &[u16], a: usize, from: usize) -> Meeting
+        requires { (a ≤ length part.now) × (from ≤ length part.now) }
+        ensures { join_by self.now.flipping self.now.wants.now self.now.places (take a part.now) (drop from part.now)
+            ≡ turned result.first (take a part.now) ++ turned result.second (drop from part.now) }
+    {
+        if self.flipping {
+            self.flips(&part[..a], &part[from..])
+        } else {
+            Meeting {
+                common: 0,
+                first: false,
+                second: false,
+            }
+        }
+    }
+
+    // "The second's tests go behind the first's": the first has a tests at the start of the part, the second b at its end.
+    fn join_tests(&self, part: &mut [u16], a: usize, b: usize)
+        requires { a + b ≤ length part.old }
+        ensures { (x y z : List ℕ) → part.old ≡ x ++ (y ++ z) → length x ≡ a → length z ≡ b
+            → part.new ≡ join_by self.now.flipping self.now.wants.now self.now.places x z ++ y }
+    {
+        let from = part.len() - b;
+        let way = self.ways(part, a, from);
+        reverse_if(way.first, &mut part[..a]);
+        reverse_if(way.second, &mut part[from..]);
+        part[a..].rotate_left(from - a);
+    }
+
+    // Joins the tests and the lengths of two packages. The packages lie in the order, one behind the other.
+    fn join_packages(&self, order: &mut [u16], lengths: &mut [usize], pair: PackagePair)
+        requires { (pair.first < pair.second) × (pair.second < length lengths.old) × (sum lengths.old ≤ 256) × (sum lengths.old ≤ length order.old) }
+        ensures joined { (ps : List (List ℕ)) (rest : List ℕ) → Laid ps rest order.old lengths.old
+            → Laid (joined (join_by self.now.flipping self.now.wants.now self.now.places) ps (at pair.first pair.second)) rest order.new
+            (take (length lengths.old - 1) lengths.new) }
+        ensures sum { sum (take (length lengths.old - 1) lengths.new) ≡ sum lengths.old }
+    {
+        let a = lengths[pair.first];
+        let b = lengths[pair.second];
+        let from = total(&lengths[..pair.first]);
+        let to = total(&lengths[..pair.second]) + b;
+        self.join_tests(&mut order[from..to], a, b);
+        join_entry(lengths, pair, a + b);
+    }
+
+    // The bound of a pair's union: in the first round the places, in the second none, as a union of sets of 64 curves is always at most 64.
+    fn bound(&self) -> usize
+        ensures { result ≡ cond self.now.flipping 64 self.now.places }
+    {
+        if self.flipping { 64 } else { self.places }
+    }
+
+    // One round: joins the closest pair as long as there is one, and says how many packages are left.
+    fn join_all(&self, order: &mut [u16], lengths: &mut [usize], curves: &mut [u64]) -> usize
+        requires { (length lengths.old ≤ 256) × (length curves.old ≡ length lengths.old) × (sum lengths.old ≤ 256)
+            × (sum lengths.old ≤ length order.old) }
+        ensures left { (result ≤ length lengths.old) × (sum (take result lengths.new) ≡ sum lengths.old) }
+        ensures round { (ps : List (List ℕ)) (rest : List ℕ) → Laid ps rest order.old lengths.old → curves.old ≡ map (curves_of self.now.wants.now) ps
+            → Laid (round_of self.now.flipping self.now.wants.now self.now.places ps) rest order.new (take result lengths.new)
+            × (take result curves.new ≡ map (curves_of self.now.wants.now) (round_of self.now.flipping self.now.wants.now self.now.places ps)) }
+    {
+        let bound = self.bound();
+        let mut left = lengths.len();
+        let mut sizes = sizes_of(curves);
+        let mut counts = [0u16; 256];
+        let mut ratings = [UNRATED; 256];
+        let table = Table {
             bound,
-            &mut curves[..left],
-            &mut sizes[..left],
-            &mut counts,
-            &mut ratings[..left],
-            first,
-            second,
-        );
-        left -= 1;
+            curves,
+            sizes: &sizes[..left],
+        };
+        table.best_partners(&mut counts, &mut ratings[..left]);
+        loop {
+            let table = Table {
+                bound,
+                curves: &curves[..left],
+                sizes: &sizes[..left],
+            };
+            let Some(pair) = table.closest(&mut counts, &mut ratings[..left]) else {
+                return left;
+            };
+            self.join_packages(order, &mut lengths[..left], pair);
+            join_curves(
+                bound,
+                &mut curves[..left],
+                &mut sizes[..left],
+                &mut counts,
+                &mut ratings[..left],
+                pair,
+            );
+            left -= 1;
+        }
     }
 }
 
@@ -626,24 +557,20 @@ fn order_by_packages(places: usize, wants: &[u64], order: &mut [u16])
 {
     let tests = wants.len();
     as_listed(tests, order);
-    let mut lengths = [1u64; 256];
+    let mut lengths = [1; 256];
     let mut curves = first_curves(wants);
-    let left = join_all(
-        false,
+    let first = Round {
+        flipping: false,
         wants,
         places,
-        order,
-        &mut lengths[..tests],
-        &mut curves[..tests],
-    );
-    join_all(
-        true,
+    };
+    let left = first.join_all(order, &mut lengths[..tests], &mut curves[..tests]);
+    let second = Round {
+        flipping: true,
         wants,
         places,
-        order,
-        &mut lengths[..left],
-        &mut curves[..left],
-    );
+    };
+    second.join_all(order, &mut lengths[..left], &mut curves[..left]);
 }
 
 // "3, packages", of at most 256 tests: writes the tests to the beginning of `order`, where they fit.

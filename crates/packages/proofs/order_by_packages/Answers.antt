@@ -6,7 +6,8 @@ use Prim.Native.Nat.{ℕ, ◌≤◌}
 use native.Mathlib.Omega.{arith}
 use lib.Seq.{length-take-le, length_front, take-append-le}
 use lib.ListN.{length, take, drop, replicate}
-use Rattle.packages.specs.ContractWords.{sum_of, round_of}
+use Rattle.std.specs.List.{sum}
+use Rattle.packages.specs.ContractWords.{round_of}
 use Rattle.packages.proofs.Lists as lists
 use Rattle.packages.proofs.State as state
 use Rattle.packages.proofs.order_by_packages.Goals.{After-join_all-left}
@@ -117,7 +118,7 @@ join_all-requires c =
     let ls = length-take-le r (lengths j ++ drop (tests j) ones) (omega (arith, all_lengths j, few, c.requires)) in
     let cs = length-take-le r (curves j ++ drop (tests j) c.first_curves-curves.result)
     (omega (arith, all_curves_lem j, few, c.requires)) in
-    let sum = ap sum_of (lengths_left j) ∙ c.join_all-left.ensures.left.1 ∙ lists.sum_ones (tests j) 256 c.requires.0 in (
+    let sum = ap sum (lengths_left j) ∙ c.join_all-left.ensures.left.1 ∙ lists.sum_ones (tests j) 256 c.requires.0 in (
       omega (arith, ls, few, c.requires),
       cs ∙ sym ls,
       omega (arith, sum, c.requires),
