@@ -69,7 +69,9 @@ module _ (fits : ℕ → Bool) (cs : List ℕ) (rs : List Rating) (rated : (k : 
         (omega (arith, rated_score fits cs x (get_or rs x unrated) (omega arith) (rated x (omega arith)) q.0 q.1, most x, count)))
 
     pub rated_pair : best_pair fits cs (length cs) ≡ found (at f (get_or rs f unrated).partner)
-    rated_pair = let e : length cs ≡ f + suc (length cs - suc f) = omega arith in ap (best_pair fits cs) e ∙ rest (length cs - suc f) (omega arith) ∙ chosen_some f _ known
+    rated_pair =
+        let e : length cs ≡ f + suc (length cs - suc f) = omega arith in
+        ap (best_pair fits cs) e ∙ rest (length cs - suc f) (omega arith) ∙ chosen_some f _ known
 
 -- ---- a measure of the ratings
 

@@ -431,7 +431,8 @@ module _ (fits : ℕ → Bool) (cs ds : List ℕ) (i j : ℕ) (before : i < j) (
 
 -- the ratings of all rows: rs before the join, xs without the entry j and with the joined package's own, ys with those before it renewed, zs with those
 -- behind it too
-module _ (fits : ℕ → Bool) (cs ds : List ℕ) (rs xs ys zs : List Rating) (i j : ℕ) (own : Rating) (before : i < j) (long : length cs ≡ suc (length ds)) (within : j ≤ length ds)
+module _ (fits : ℕ → Bool) (cs ds : List ℕ) (rs xs ys zs : List Rating) (i j : ℕ) (own : Rating) (before : i < j)
+    (long : length cs ≡ suc (length ds)) (within : j ≤ length ds)
     (made : ds ≡ take j (set cs i (get_or cs i 0 ∪ get_or cs j 0)) ++ drop (suc j) (set cs i (get_or cs i 0 ∪ get_or cs j 0)))
     (as_long : length rs ≡ suc (length ds)) (still : length ys ≡ length rs)
     (out : take (length rs - 1) xs ≡ take j (set rs i own) ++ drop (suc j) (set rs i own))
@@ -467,7 +468,8 @@ module _ (fits : ℕ → Bool) (cs ds : List ℕ) (rs xs ys zs : List Rating) (i
       go (yes a) b =
           let low = old_low j k (omega arith) in
           subst (Rated fits ds k) (sym (stays k (omega arith)))
-          (front k a (subst (Rated fits cs k) (sym (other_at k h (λ e. omega (arith, e, low)) ∙ ap (λ (n : ℕ). get_or rs n unrated) low)) (was k (omega arith))))
+          (front k a
+          (subst (Rated fits cs k) (sym (other_at k h (λ e. omega (arith, e, low)) ∙ ap (λ (n : ℕ). get_or rs n unrated) low)) (was k (omega arith))))
       go (no a) (yes b) = behind k h b
       go (no a) (no b) =
           let e : k ≡ i = omega arith in
@@ -477,7 +479,8 @@ module _ (fits : ℕ → Bool) (cs ds : List ℕ) (rs xs ys zs : List Rating) (i
           subst (λ (n : ℕ). Rated fits ds n (get_or zs k unrated)) (sym e) (subst (Rated fits ds i) (sym mine) joined)
 
 -- the ratings in a list that was lent and came back as ys
-pub front_rated : (fits : ℕ → Bool) (cs : List ℕ) (ys zs : List Rating) (n : ℕ) → n ≤ length ys → length cs ≤ n → ((k : ℕ) → k < length cs → Rated fits cs k (get_or ys k unrated))
+pub front_rated : (fits : ℕ → Bool) (cs : List ℕ) (ys zs : List Rating) (n : ℕ) → n ≤ length ys → length cs ≤ n
+    → ((k : ℕ) → k < length cs → Rated fits cs k (get_or ys k unrated))
     → (k : ℕ) → k < length cs → Rated fits cs k (get_or (take n (ys ++ zs)) k unrated)
 front_rated fits cs ys zs n a b h k l =
     subst (Rated fits cs k) (sym (ap (λ (m : List Rating). get_or m k unrated) (take-append-le n ys zs a) ∙ get_or-take n ys k unrated (omega arith))) (h k l)

@@ -5,7 +5,7 @@ use mathlib.Core.List.{List, [], ◌∷◌, ◌++◌, map, map-append, reverse, 
 use Prim.Native.Nat.{ℕ, zero, suc, ◌+◌, ◌-◌, ◌^◌, ◌≤◌, ◌<◌}
 use native.Mathlib.Omega.{arith}
 use lib.ListN.{length, get_or, take, drop, set, length-append, length-drop, length-map, length-reverse, replicate, get_or-map}
-use lib.Seq.{take_at, drop_at, set_at, split_at, get_or-drop, take-append-le, length-take-le, take-suc, take-length, take_all}
+use lib.Seq.{take_at, drop_at, set_at, split_at, get_or-drop, take-append-le, length-take-le, take-suc, take-length}
 use lib.Dec.{leb, ltb}
 use lib.Bits.{or_comm}
 use borrow.Author.Tests.{le-leb}
@@ -255,17 +255,6 @@ pub record Left (flipping : Bool) (wants : List ℕ) (places : ℕ) (ps : List (
   pub laid : Laid qs rest tests lengths
   pub sets : curves ≡ map (curves_of wants) qs
   pub goes : round_of flipping wants places ps ≡ round_of flipping wants places qs
-
-pub left_start : (flipping : Bool) (wants : List ℕ) (places : ℕ) {ps : List (List ℕ)} {rest tests lengths curves : List ℕ} (n : ℕ) → length lengths ≡ n
-    → length curves ≡ n
-    → Laid ps rest tests lengths → curves ≡ map (curves_of wants) ps → Left flipping wants places ps rest tests (take n lengths) (take n curves)
-left_start flipping wants places {ps} {rest} {tests} {lengths} {curves} n l c laid sets =
-    record {
-      qs = ps;
-      laid = record { all = laid.all; lens = take_all n lengths (omega (arith, l)) ∙ laid.lens };
-      sets = take_all n curves (omega (arith, c)) ∙ sets;
-      goes = refl;
-    }
 
 pub in_order : (fits : ℕ → Bool) (cs : List ℕ) (i j : ℕ) → best_pair fits cs (length cs) ≡ found (at i j) → (i < j) × (j < length cs)
 in_order fits cs i j e = subst (Good (InOrder (length cs))) e (pair_good fits cs (length cs))

@@ -193,7 +193,8 @@ impl Rating {
     fn renewed(self, fits: bool, both: u16, pair: PackagePair) -> Rating
         requires { (pair.first < pair.second) × (pair.first < 256) × (both ≤ 64) }
         ensures { (bound row : ℕ) (cs ds : List ℕ) → row < pair.first → pair.second ≤ length ds → length cs ≡ suc (length ds)
-            → ds ≡ joined_curves cs pair.first pair.second → fits ≡ within bound (get_or ds row 0 ∪ get_or ds pair.first 0) → both ≡ shared ds (at row pair.first)
+            → ds ≡ joined_curves cs pair.first pair.second
+            → fits ≡ within bound (get_or ds row 0 ∪ get_or ds pair.first 0) → both ≡ shared ds (at row pair.first)
             → Rated (within bound) cs row self → Rated (within bound) ds row result }
     {
         let kept = if self.partner as usize == pair.first {
@@ -278,8 +279,8 @@ impl Table<'_> {
         }
     }
 
-    // The pair with most common curves, "ties to the earlier first, then the earlier second package": the package with the highest score, and its partner. Where
-    // that is not known it is looked for anew.
+    // The pair with most common curves, "ties to the earlier first, then the earlier second package": the package with the highest score, and its partner.
+    // Where that is not known it is looked for anew.
     fn closest(&self, counts: &mut [u16; 256], ratings: &mut [Rating]) -> Option<PackagePair>
         requires ratings_len { length ratings.old ≡ length self.now.curves.now }
         requires all_rated { AllRated self.now.bound self.now.curves.now ratings.old }

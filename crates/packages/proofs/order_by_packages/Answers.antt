@@ -53,15 +53,6 @@ curves_left : (c : After-join_all-left)
     → take c.join_all-left.result (curves c ++ drop (tests c) c.first_curves-curves.result) ≡ take c.join_all-left.result (curves c)
 curves_left c = take-append-le c.join_all-left.result (curves c) _ (omega (arith, left_few c, c.join_all-left.auto.curves, first_long c))
 
-pub slice_bounds-join_all-end : goal.slice_bounds-join_all-end
-slice_bounds-join_all-end c =
-    sym (length-take-le (length c.args.wants.now) _ c.requires.0)
-
-pub slice_bounds-join_all-end-2 : goal.slice_bounds-join_all-end-2
-slice_bounds-join_all-end-2 c =
-    let fc = c.first_curves-curves in
-    sym (length-take-le (length c.args.wants.now) fc.result (omega (arith, fc.ensures.0, c.requires)))
-
 pub join_all-left-requires : goal.join_all-left-requires
 join_all-left-requires c =
     let n = length c.args.wants.now in
@@ -73,42 +64,6 @@ join_all-left-requires c =
       omega (arith, sum, c.requires),
       omega (arith, sum, c.requires, c.as_listed.auto.order),
     )
-
-pub slice_bounds-lengths-end-2 : goal.slice_bounds-lengths-end-2
-slice_bounds-lengths-end-2 c =
-    omega (
-      arith,
-      all_lengths (goal.at.slice_bounds-lengths-end-2 c).After-join_all-left,
-      left_few (goal.at.slice_bounds-lengths-end-2 c).After-join_all-left,
-      c.requires,
-    )
-
-pub slice_bounds-join_all-end-3 : goal.slice_bounds-join_all-end-3
-slice_bounds-join_all-end-3 c =
-    sym (length-take-le _ _ (omega (
-      arith,
-      all_lengths (goal.at.slice_bounds-join_all-end-3 c).After-join_all-left,
-      left_few (goal.at.slice_bounds-join_all-end-3 c).After-join_all-left,
-      c.requires,
-    )))
-
-pub slice_bounds-curves-end-2 : goal.slice_bounds-curves-end-2
-slice_bounds-curves-end-2 c =
-    omega (
-      arith,
-      all_curves_lem (goal.at.slice_bounds-curves-end-2 c).After-join_all-left,
-      left_few (goal.at.slice_bounds-curves-end-2 c).After-join_all-left,
-      c.requires,
-    )
-
-pub slice_bounds-join_all-end-4 : goal.slice_bounds-join_all-end-4
-slice_bounds-join_all-end-4 c =
-    sym (length-take-le _ _ (omega (
-      arith,
-      all_curves_lem (goal.at.slice_bounds-join_all-end-4 c).After-join_all-left,
-      left_few (goal.at.slice_bounds-join_all-end-4 c).After-join_all-left,
-      c.requires,
-    )))
 
 pub join_all-requires : goal.join_all-requires
 join_all-requires c =

@@ -28,7 +28,8 @@ kept c =
 abbrev Renewed : Joined-self-pair → Rating → Type 0
 Renewed c r =
     let a = c.args in
-    (bound row : ℕ) (cs ds : List ℕ) → row < a.pair.first → a.pair.second ≤ length ds → length cs ≡ suc (length ds) → ds ≡ joined_curves cs a.pair.first a.pair.second
+    (bound row : ℕ) (cs ds : List ℕ) → row < a.pair.first → a.pair.second ≤ length ds → length cs ≡ suc (length ds)
+    → ds ≡ joined_curves cs a.pair.first a.pair.second
     → a.fits ≡ within bound (get_or ds row 0 ∪ get_or ds a.pair.first 0) → a.both ≡ shared ds (at row a.pair.first)
     → Rated (within bound) cs row a.self → Rated (within bound) ds row r
 
@@ -50,7 +51,8 @@ module _ (c : Joined-self-pair) where
 
   -- the joined package becomes the partner
   beaten : let t = c.if-self-pair.kept in let a = c.args in
-      a.fits ≡ true → t.score ≤ 1 + a.both → (1 + a.both ≤ t.score → a.pair.first < t.partner) → Renewed c (record { score = 1 + a.both; partner = a.pair.first })
+      a.fits ≡ true → t.score ≤ 1 + a.both → (1 + a.both ≤ t.score → a.pair.first < t.partner)
+      → Renewed c (record { score = 1 + a.both; partner = a.pair.first })
   beaten fit high ties =
       let a = c.args in
       λ bound row cs ds l m n e f b w.

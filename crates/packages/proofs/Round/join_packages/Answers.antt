@@ -1,11 +1,9 @@
 -- `Round::join_packages` meets its contract.
-use mathlib.Core.Path.{refl, sym, ap, ◌∙◌}
+use mathlib.Core.Path.{refl, ap, ◌∙◌}
 use Prim.Native.Nat.{ℕ, ◌+◌, ◌-◌, ◌≤◌}
 use native.Mathlib.Omega.{arith}
-use lib.Seq.{length-take-le}
 use lib.ListN.{get_or, drop, length-take, length-drop}
 use Rattle.std.specs.List.{sum}
-use Rattle.std.proofs.lemmas.List.Sums.{sum_by-take-le}
 use Rattle.packages.proofs.Lists as lists
 use Rattle.packages.proofs.State as state
 use Rattle.packages.proofs.Round.join_packages.Goals.{After-total}
@@ -19,34 +17,6 @@ spans c =
     let p = lists.sum_pair c.args.lengths.now c.args.pair.first c.args.pair.second c.requires.0 c.requires.1 in
     (omega (arith, p.0, c.total-from.ensures, c.total.ensures), omega (arith, p.1, c.total.ensures))
 
-pub slice_bounds-total-end-2 : goal.slice_bounds-total-end-2
-slice_bounds-total-end-2 c =
-    sym (length-take-le c.args.pair.first c.args.lengths.now (omega (arith, c.requires)))
-
-pub total-from-requires : goal.total-from-requires
-total-from-requires c =
-    omega (arith, sum_by-take-le (λ x. x) c.args.lengths.now c.args.pair.first, c.requires)
-
-pub slice_bounds-total-end-4 : goal.slice_bounds-total-end-4
-slice_bounds-total-end-4 c =
-    sym (length-take-le c.args.pair.second c.args.lengths.now (omega (arith, c.requires)))
-
-pub total-requires : goal.total-requires
-total-requires c =
-    omega (arith, sum_by-take-le (λ x. x) c.args.lengths.now c.args.pair.second, c.requires)
-
-pub overflow_add-to : goal.overflow_add-to
-overflow_add-to c = omega (arith, spans (goal.at.overflow_add-to c).After-total, c.requires)
-
-pub offset_bounds-order-from : goal.offset_bounds-order-from
-offset_bounds-order-from c = omega (arith, spans (goal.at.offset_bounds-order-from c).After-total, c.requires)
-
-pub slice_bounds-join_tests-count : goal.slice_bounds-join_tests-count
-slice_bounds-join_tests-count c = omega (arith, spans (goal.at.slice_bounds-join_tests-count c).After-total, c.requires)
-
-pub slice_bounds-join_tests-start : goal.slice_bounds-join_tests-start
-slice_bounds-join_tests-start c = omega (arith, spans (goal.at.slice_bounds-join_tests-start c).After-total, c.requires)
-
 pub slice_bounds-join_tests-end : goal.slice_bounds-join_tests-end
 slice_bounds-join_tests-end c = omega (arith, spans (goal.at.slice_bounds-join_tests-end c).After-total, c.requires)
 
@@ -56,10 +26,6 @@ join_tests-requires c =
     let to = c.total.result + get_or c.args.lengths.now c.args.pair.second 0 in
     let part = length-take (to - from) (drop from c.args.order.now) in
     omega (arith, spans (goal.at.join_tests-requires c).After-total, part, length-drop from c.args.order.now, c.requires)
-
-pub overflow_add-a : goal.overflow_add-a
-overflow_add-a c =
-    omega (arith, spans (goal.at.overflow_add-a c).After-total, c.requires)
 
 pub returns : goal.returns
 returns c =

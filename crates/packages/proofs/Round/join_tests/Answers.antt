@@ -4,13 +4,9 @@ use mathlib.Core.Path.{◌≡◌, refl, sym, ap, ◌∙◌}
 use Prim.Native.Nat.{ℕ, ◌-◌}
 use native.Mathlib.Omega.{arith}
 use lib.ListN.{length-append, length, take, drop}
-use lib.Seq.{take_at, drop_at, length-take-le}
+use lib.Seq.{take_at, drop_at}
 use Rattle.packages.proofs.Runs as runs
 use Rattle.packages.proofs.Round.join_tests.Goals as goal
-
-pub slice_bounds-reverse_if-end-2 : goal.slice_bounds-reverse_if-end-2
-slice_bounds-reverse_if-end-2 c =
-    sym (length-take-le c.args.a c.args.part.now (omega arith))
 
 pub returns : goal.returns
 returns c =

@@ -9,7 +9,8 @@ loop-test-init g c = (search rules, search rules, λ ts y. record { rest = ts; y
 
 pub returns-then-self-size : goal.returns-then-self-size
 returns-then-self-size g c = λ ts y.
-    runs.left_stop c.args.self.now.wants.now c.args.self.now.places ts c.loop-test.test-iterator c.loop-test.run c.in-Some.test c.next.new.self c.entry.result c.union-wider.result
+    runs.left_stop c.args.self.now.wants.now c.args.self.now.places ts c.loop-test.test-iterator c.loop-test.run
+    c.in-Some.test c.next.new.self c.entry.result c.union-wider.result
     c.in-Some.ensures.steps c.entry.ensures c.union-wider.ensures (omega (arith, c.size.ensures, c.if-self-size.true))
     (c.loop-test.invariant.2 ts (rw c.into_iter-test-iterator.ensures.into_iter_gives y))
 
@@ -18,7 +19,8 @@ loop-test-preserved g c = (
   search rules,
   search rules,
   λ ts y.
-      runs.left_more c.args.self.now.wants.now c.args.self.now.places ts c.loop-test.test-iterator c.loop-test.run c.in-Some.test c.next.new.self c.entry.result c.union-wider.result
+      runs.left_more c.args.self.now.wants.now c.args.self.now.places ts c.loop-test.test-iterator c.loop-test.run
+      c.in-Some.test c.next.new.self c.entry.result c.union-wider.result
       c.in-Some.ensures.steps c.entry.ensures c.union-wider.ensures (omega (arith, c.size.ensures, c.if-self-size.false)) (c.loop-test.invariant.2 ts y),
 )
 

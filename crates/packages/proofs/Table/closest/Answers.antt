@@ -54,7 +54,9 @@ overflow_cast-result c =
 pub returns-then-rating-gt0-clause-pair : goal.returns-then-rating-gt0-clause-pair
 returns-then-rating-gt0-clause-pair c =
     let k = (goal.at.returns-then-rating-gt0-clause-pair c).In_ok-rating in
-    rw (rating_is k) (rated_pair (within c.args.self.now.bound) c.args.self.now.curves.now c.loop-rating.ratings c.loop-rating.invariant.rated c.highest-first.result (place k).0
+    rw (rating_is k)
+    (rated_pair (within c.args.self.now.bound) c.args.self.now.curves.now c.loop-rating.ratings c.loop-rating.invariant.rated c.highest-first.result
+    (place k).0
     c.highest-first.ensures.most c.highest-first.ensures.earliest (omega (arith, ap (λ (r : Rating). r.partner) (rating_is k), c.if-rating-gt0.true)))
 
 pub returns-then-rating-eq0-clause-pair : goal.returns-then-rating-eq0-clause-pair
@@ -78,7 +80,8 @@ loop-rating-smaller c =
     (omega (
       arith,
       n,
-      rated_score (within c.args.self.now.bound) cs f (get_or rs f unrated) (place k).0 (c.loop-rating.invariant.rated f (place k).0) b.result.partner b.ensures.partner,
+      rated_score (within c.args.self.now.bound) cs f (get_or rs f unrated) (place k).0 (c.loop-rating.invariant.rated f (place k).0)
+          b.result.partner b.ensures.partner,
     ))
     (λ z. n ∙ ap (rows.score cs f) z ∙ rows.score_none cs f))
 
@@ -93,5 +96,6 @@ loop-rating-preserved c =
       long = simp length-set c.loop-rating.invariant.long;
       rated = λ n l.
           turned fits cs c.loop-rating.ratings f n b.result (place k).1
-          (row_rated fits cs f b.result (place k).0 b.ensures.partner (b.ensures.score ∙ rows.score_as cs f b.result.partner)) (c.loop-rating.invariant.rated n l) (ℕ_discrete n f);
+          (row_rated fits cs f b.result (place k).0 b.ensures.partner (b.ensures.score ∙ rows.score_as cs f b.result.partner))
+          (c.loop-rating.invariant.rated n l) (ℕ_discrete n f);
     }

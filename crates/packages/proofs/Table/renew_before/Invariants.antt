@@ -11,5 +11,6 @@ invariant-loop-row l = record {
   long : length l.ratings ≡ length l.initial.ratings;
   rest : (k : ℕ) → l.row ≤ k → get_or l.ratings k unrated ≡ get_or l.initial.ratings k unrated;
   done : (cs : List ℕ) → length cs ≡ suc (length l.self.curves.now) → l.self.curves.now ≡ joined_curves cs l.pair.first l.pair.second
-      → (k : ℕ) → k < l.row → Rated (within l.self.bound) cs k (get_or l.initial.ratings k unrated) → Rated (within l.self.bound) l.self.curves.now k (get_or l.ratings k unrated);
+      → (k : ℕ) → k < l.row → Rated (within l.self.bound) cs k (get_or l.initial.ratings k unrated)
+      → Rated (within l.self.bound) l.self.curves.now k (get_or l.ratings k unrated);
 }

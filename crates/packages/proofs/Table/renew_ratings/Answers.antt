@@ -6,9 +6,6 @@ use Rattle.packages.proofs.Rows as rows
 use Rattle.packages.proofs.Renew as renew
 use Rattle.packages.proofs.Table.renew_ratings.Goals as goal
 
-pub renew_before-requires : goal.renew_before-requires
-renew_before-requires c = (c.requires.0, c.requires.1, c.join_entry.auto.xs ∙ c.requires.2)
-
 pub returns : goal.returns
 returns c =
     let a = c.args in
