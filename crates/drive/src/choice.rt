@@ -64,7 +64,7 @@ fn left_after(same: u64, gone: usize) -> u64
     bitset::without(same, go)
 }
 
-// ---- every candidate's next use
+// ---- the later steps
 
 // What some steps want together.
 fn together(wants: &[u64]) -> u64
