@@ -49,14 +49,10 @@ impl Text<'_> {
     }
 
     // A number in decimal digits.
-    // Kept: what may not change (`write_report` ensures the bytes): by its contract `write!` may answer an error, and `InlineText` a text that is cut.
     fn decimal(&mut self, n: usize)
         ensures { Appended self.old (decimal n) self.new }
     {
-        if 10 <= n {
-            self.decimal(n / 10);
-        }
-        self.byte(48 + (n % 10) as u8);
+        self.text(itoa::Buffer::new().format(n).as_bytes());
     }
 
     // A number and the text behind it.
