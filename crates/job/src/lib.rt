@@ -175,11 +175,8 @@ fn examine_wants(curves: usize, wants: &[u64]) -> Result<(), Refusal>
     ensures { outcome result ≡ wants_known curves wants.now }
 {
     let all = bitset::below(curves);
-    let mut t = 0;
-    while t < wants.len() {
-        if bitset::inside(wants[t], all) {
-            t += 1;
-        } else {
+    for (t, want) in wants.iter().enumerate() {
+        if !bitset::inside(*want, all) {
             return Err(Refusal::BadArgument(4 + t));
         }
     }
@@ -236,12 +233,10 @@ fn examine_held(curves: usize, held: u64) -> Result<(), Refusal>
 pub fn examine_sizes(most: usize, wants: &[u64]) -> Result<(), Refusal>
     ensures { outcome result ≡ wants_fit most wants.now }
 {
-    let mut t = 0;
-    while t < wants.len() {
-        if most < bitset::size(wants[t]) {
+    for (t, want) in wants.iter().enumerate() {
+        if most < bitset::size(*want) {
             return Err(Refusal::TestTooLarge(t));
         }
-        t += 1;
     }
     Ok(())
 }
@@ -260,12 +255,11 @@ fn examine_order(tests: usize, order: &[u16]) -> Result<(), Refusal>
     ensures { outcome result ≡ order_known tests order.now }
 {
     let mut seen = [false; MOST_TESTS];
-    let mut i: usize = 0;
-    while i < order.len() {
+    for (i, test) in order.iter().enumerate() {
         if tests <= i {
             return Err(Refusal::BadOrder(i));
         }
-        let t = order[i] as usize;
+        let t = *test as usize;
         if tests <= t {
             return Err(Refusal::BadOrder(i));
         }
@@ -273,10 +267,9 @@ fn examine_order(tests: usize, order: &[u16]) -> Result<(), Refusal>
             return Err(Refusal::BadOrder(i));
         }
         seen[t] = true;
-        i += 1;
     }
-    if i < tests {
-        return Err(Refusal::BadOrder(i));
+    if order.len() < tests {
+        return Err(Refusal::BadOrder(order.len()));
     }
     Ok(())
 }

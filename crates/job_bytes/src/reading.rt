@@ -149,14 +149,6 @@ fn read_records(
     Ok(at)
 }
 
-// The first n numbers of `from` go to the front of `to`.
-fn copy_front(to: &mut [u64], from: &[u64], n: usize)
-    requires { (n ≤ length from.now) × (n ≤ length to.old) }
-    ensures { to.new ≡ take n from.now ++ drop n to.old }
-{
-    to[..n].copy_from_slice(&from[..n]);
-}
-
 // The tests behind a head that was read, from `start` on: the records, 6, 9.
 fn read_tests(job: &[u8], head: Head, start: usize, wants: &mut [u64]) -> Result<Head, Refusal>
     requires { read_head job.now ≡ done (got head start (drop start job.now)) }
@@ -172,7 +164,7 @@ fn read_tests(job: &[u8], head: Head, start: usize, wants: &mut [u64]) -> Result
     if wants.len() < tests {
         return Err(Refusal::BufferTooSmall(tests));
     }
-    copy_front(wants, &list, tests);
+    wants[..tests].copy_from_slice(&list[..tests]);
     Ok(head)
 }
 

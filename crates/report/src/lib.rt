@@ -49,14 +49,10 @@ impl Text<'_> {
     }
 
     // A number in decimal digits.
-    // Kept: what may not change (`write_report` ensures the bytes): by its contract `write!` may answer an error, and `InlineText` a text that is cut.
     fn decimal(&mut self, n: usize)
         ensures { Appended self.old (decimal n) self.new }
     {
-        if 10 <= n {
-            self.decimal(n / 10);
-        }
-        self.byte(48 + (n % 10) as u8);
+        self.text(itoa::Buffer::new().format(n).as_bytes());
     }
 
     // A number and the text behind it.
@@ -248,8 +244,6 @@ pub fn sheet_text(job: &[u8], text: &mut [u8; SHEET_BYTES]) -> usize
     ensures count { result ≡ length (sheet job.now) }
     ensures bytes { text.new ≡ overwritten (sheet job.now) text.old }
 {
-    match write_report(job, text) {
-        Ok(n) => n,
-        Err(_) => 0,
-    }
+    // never an error: the buffer takes every text
+    write_report(job, text).unwrap()
 }
