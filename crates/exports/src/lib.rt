@@ -75,13 +75,6 @@ fn examined(e: Result<(), Refusal>) -> u64
     }
 }
 
-// Truth is 1.
-fn truth(b: bool) -> u64
-    ensures { result ≡ digit b }
-{
-    if b { 1 } else { 0 }
-}
-
 // ---- jobs, orders, plans, texts
 
 // What reading a job answers: its number of tests or the refusal, and the five numbers of its head.
@@ -642,7 +635,7 @@ pub extern "C" fn curveplan_single(k: usize) -> u64
 pub extern "C" fn curveplan_has(s: u64, k: usize) -> u64
     ensures { result ≡ digit (eqb (bit k s) 1) }
 {
-    truth(bitset::has(s, k))
+    u64::from(bitset::has(s, k))
 }
 
 #[unsafe(no_mangle)]
@@ -656,7 +649,7 @@ pub extern "C" fn curveplan_without_lowest(s: u64) -> u64
 pub extern "C" fn curveplan_inside(a: u64, b: u64) -> u64
     ensures { result ≡ digit (inside a b) }
 {
-    truth(bitset::inside(a, b))
+    u64::from(bitset::inside(a, b))
 }
 
 #[unsafe(no_mangle)]
