@@ -119,6 +119,7 @@ pub fn capacity(rig: Rig) -> usize
 }
 
 // The numbers of a job's bytes.
+// Kept: the method is a number: 10 at place 3 is asked of every number that is handed over (`IsMethod`), and C hands one over.
 #[derive(Clone, Copy)]
 pub struct Head {
     pub rig: Rig,
@@ -203,6 +204,8 @@ fn examine_booked(rig: Rig) -> Result<(), Refusal>
     examine_capacity(rig, 0)
 }
 
+// Kept: the rig and the wants are two arguments here and in all calls that take both: wants are a lent slice (document 01, Forms), no fact joins the two before they are
+// examined, and a struct of both would be built for each call and taken apart in it.
 // 10 and 13, of a job and a method: what writing a job is handed. With method 0, of a job alone.
 pub fn examine_job(rig: Rig, method: usize, wants: &[u64]) -> Result<(), Refusal>
     ensures { outcome result ≡ job_known_by method (job_of rig wants.now) }

@@ -29,6 +29,7 @@ fn holds(field: Field, value: usize) -> bool
     (field.low..=field.high).contains(&value) && value != field.absent
 }
 
+// Kept: the bit is a number, as the rule reads it (`read_field`), and counts the bytes of the field.
 // A field, if its bit stands: "cut before value". The next one begins at `at + stands * width`.
 fn read_field(job: &[u8], at: usize, stands: usize, field: Field) -> Result<usize, Refusal>
     requires { (stands ≤ 1) × (field.width ≤ 8) × (at ≤ length job.now) }

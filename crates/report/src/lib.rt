@@ -113,6 +113,7 @@ fn put_step(to: &mut Text, position: usize, test: usize, drops: u64, loads: u64)
     to.byte(b'\n');
 }
 
+// Kept: the steps are three slices here and below, as they are lent (document 01, Forms).
 // "for each step its position, test, drops and loads"
 fn put_steps(to: &mut Text, order: &[u16], drops: &[u64], loads: &[u64])
     requires drops_len { (length drops.now ≡ length order.now) × (length loads.now ≡ length order.now) }

@@ -144,6 +144,7 @@ pub fn size_table_text(job: &[u8], wanted: Option<usize>, text: &mut [u8; TABLE_
 
 // ---- the wanted count
 
+// Kept: digits read by hand: `parse` of the library takes a sign before them, which is no count here (`count_in`).
 // The count that a word names: one to five decimal digits, and nothing else.
 pub fn wanted_in(word: &[u8]) -> Option<usize>
     ensures { wanted_found result ≡ count_in word.now }
