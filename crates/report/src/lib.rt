@@ -17,6 +17,15 @@ pub mod sizes; // sizes.rt: the loads of every drive size
 // A buffer that takes every sheet.
 pub const SHEET_BYTES: usize = 105_000;
 
+// Copies a text to the place of one that is as long. Inlined, it would call `memmove`, and a host in C is promised that only `memcpy` and `memset` are called.
+#[inline(never)]
+fn copy_text(text: &[u8], to: &mut [u8])
+    requires { length text.now ≡ length to.old }
+    ensures { to.new ≡ text.now }
+{
+    to.copy_from_slice(text);
+}
+
 // A text that is put into a lent buffer: `len` counts all its bytes, and the buffer has them where there is room for all. So a first pass over an empty buffer
 // tells how long a text is, and a second one writes it.
 #[derive(Drop)]
@@ -42,8 +51,7 @@ impl Text<'_> {
         let at = self.len;
         let end = at.wrapping_add(text.len());
         if at <= end && end <= self.out.len() {
-            let out = &mut *self.out;
-            out[at..end].copy_from_slice(text);
+            copy_text(text, &mut self.out[at..end]);
         }
         self.len = end;
     }

@@ -18,7 +18,7 @@ returns c =
         counted = λ l. omega arith;
         written = λ l f.
             let n : (at + length text) % 2 ^ 64 - at ≡ length text = omega arith in
-            rw (w.self-is, w.copy_from_slice.ensures.after, n) (copied text old at f);
+            rw (w.self-is, w.copy_text.ensures, n) (copied text old at f);
       }
       | else-at-end w ↦ record {
         same_reference = rw w.self-is refl;
