@@ -17,13 +17,15 @@ pub mod sizes; // sizes.rt: the loads of every drive size
 // A buffer that takes every sheet.
 pub const SHEET_BYTES: usize = 105_000;
 
-// Copies a text to the place of one that is as long. Inlined, it would call `memmove`, and a host in C is promised that only `memcpy` and `memset` are called.
-#[inline(never)]
+// Copies a text to the place of one that is as long.
+// Kept: tried, `copy_from_slice` calls `memmove` here, and a host in C is promised that only `memcpy` and `memset` are called.
 fn copy_text(text: &[u8], to: &mut [u8])
     requires { length text.now ≡ length to.old }
     ensures { to.new ≡ text.now }
 {
-    to.copy_from_slice(text);
+    for (i, b) in text.iter().enumerate() {
+        to[i] = *b;
+    }
 }
 
 // A text that is put into a lent buffer: `len` counts all its bytes, and the buffer has them where there is room for all. So a first pass over an empty buffer
