@@ -20,8 +20,8 @@
  * - All lists and buffers belong to the caller. Nothing is kept of them after the call, and what is `const` is only read.
  * - Under a refusal nothing lent changes. On success the entries behind the result keep their contents.
  * - The first condition that is met is the one that is answered; the refusals of a function are listed in the order in which they are asked.
- * - Nothing is allocated, nothing is kept from call to call, and nothing outside the library is called but memcpy and memset: the functions may run in several
- *   threads at once on lists of their own.
+ * - Nothing is allocated, nothing is kept from call to call, and nothing outside the library is called but memcpy, memmove and memset: the functions may run in
+ *   several threads at once on lists of their own.
  * - Outside the contract: null pointers (for no entries, as in the lists of a job without tests, hand over any valid address with length 0), lists that
  *   overlap, lengths beyond what stands at the addresses.
  */
@@ -88,7 +88,7 @@ enum curveplan_refusal {
  *   below 65,536      the count of plan bytes written, at most 5,121; 0 exactly for a job without tests
  *   65,536 and above  a refusal: its number × 65,536 plus its figure. Take it apart by the three functions below
  *
- * Refusals: those of curveplan_read_job but 9; 7; 9 with the count of the bytes. It takes less than 25 kB of stack.
+ * Refusals: those of curveplan_read_job but 9; 7; 9 with the count of the bytes. It takes less than 30 kB of stack.
  */
 uint64_t curveplan_plan(const uint8_t *job, size_t job_len, uint8_t *plan, size_t plan_len);
 
@@ -101,7 +101,7 @@ static inline unsigned curveplan_figure_16(uint64_t answer) { return (unsigned)(
 
 /*
  * What the functions below answer: a count, below 2^48, or a refusal, which is its number × 2^48 plus its figure. It is not the rule of curveplan_plan.
- * They take less than 25 kB of stack.
+ * They take less than 30 kB of stack.
  */
 static inline int curveplan_refused_48(uint64_t answer) { return (answer >> 48) != 0; }
 static inline unsigned curveplan_number_48(uint64_t answer) { return (unsigned)(answer >> 48); }

@@ -11,13 +11,15 @@ use lib.Dec.{eqb}
 use lib.Pow.{ones_lt}
 use lib.ListN.{length, get_or}
 use borrow.Author.Tests.{ltb-true, ltb-false, le-ltb, eqb-true, eqb-false, eq-eqb, not-true, not-false}
-use Rattle.std.specs.Prelude.{Option, Some, None, Ok}
+use Rattle.std.specs.Prelude.{Ok}
 use Rattle.bitset.specs.Set.{bit, below}
 use Rattle.bitset.proofs.Bits.{bit-∪, bit_empty, same_by_bits}
 use Rattle.bitset.proofs.Element.{∈-lt}
 use Rattle.bitset.proofs.Parts.{◌≼◌, in_range}
 use Rattle.lists.specs.Choice.{Found, nobody, found}
 use Rattle.lists.proofs.Chosen.{Taken, TakenOf, taken_of}
+use Rattle.drive.specs.declared.choice.NextUse.{NextUse}
+use Rattle.drive.specs.declared.choice.NextUse.TheVariants.{At, Never}
 use Rattle.drive.specs.declared.Sets.{Sets}
 use Rattle.drive.specs.Steps.{Move, held_after, wants_of, sets_of, load_count}
 use Rattle.drive.specs.Check.{check_from}
@@ -30,28 +32,28 @@ use Rattle.drive.proofs.Fewest.{soon, PickedOf, Good, Least, least_same, our_ste
 
 -- ---- uses within the next k steps: 1 or 0
 
-within : ℕ → Option ℕ → ℕ
+within : ℕ → NextUse → ℕ
 within zero u = 0
-within (suc k) None = 0
-within (suc k) (Some zero) = 1
-within (suc k) (Some (suc m)) = within k (Some m)
+within (suc k) Never = 0
+within (suc k) (At zero) = 1
+within (suc k) (At (suc m)) = within k (At m)
 
-within_never : (k : ℕ) → within k None ≡ 0
+within_never : (k : ℕ) → within k Never ≡ 0
 unfolding within
 within_never zero = refl
 within_never (suc k) = refl
 
-within_le : (k : ℕ) (u : Option ℕ) → within k u ≤ 1
+within_le : (k : ℕ) (u : NextUse) → within k u ≤ 1
 unfolding within
 within_le zero u = zero-le
-within_le (suc k) None = zero-le
-within_le (suc k) (Some zero) = omega arith
-within_le (suc k) (Some (suc m)) = within_le k (Some m)
+within_le (suc k) Never = zero-le
+within_le (suc k) (At zero) = omega arith
+within_le (suc k) (At (suc m)) = within_le k (At m)
 
-within_step : (k d : ℕ) (u : Option ℕ) → d ≤ 1 → max d (within k u) ≡ within (suc k) (use_by d u)
+within_step : (k d : ℕ) (u : NextUse) → d ≤ 1 → max d (within k u) ≡ within (suc k) (use_by d u)
 unfolding within use_by later
-within_step k zero None h = omega (arith, within_never k)
-within_step k zero (Some m) h = zero-max (within k (Some m))
+within_step k zero Never h = omega (arith, within_never k)
+within_step k zero (At m) h = zero-max (within k (At m))
 within_step k (suc d) u h = omega (arith, within_le k u)
 
 has_soon : (k : ℕ) (ws : List ℕ) (c : ℕ) → bit c (soon k ws) ≡ within k (next_use c ws)
@@ -60,45 +62,45 @@ has_soon zero ws c = bit_empty c
 has_soon (suc k) [] c = bit_empty c
 has_soon (suc k) (w ∷ ws) c = bit-∪ c w (soon k ws) ∙ ap (max (bit c w)) (has_soon k ws c) ∙ within_step k (bit c w) (next_use c ws) (omega arith)
 
-within_order : (k m n : ℕ) → m ≤ n → within k (Some n) ≤ within k (Some m)
+within_order : (k m n : ℕ) → m ≤ n → within k (At n) ≤ within k (At m)
 unfolding within
 within_order zero m n h = zero-le
-within_order (suc k) zero n h = within_le (suc k) (Some n)
+within_order (suc k) zero n h = within_le (suc k) (At n)
 within_order (suc k) (suc m) zero h = absurd (omega arith)
 within_order (suc k) (suc m) (suc n) h = within_order k m n (omega arith)
 
-within_further : (k : ℕ) (a b : Option ℕ) → further a b ≡ false → within k b ≤ within k a
+within_further : (k : ℕ) (a b : NextUse) → further a b ≡ false → within k b ≤ within k a
 unfolding further
-within_further k None None f = omega arith
-within_further k None (Some n) f = absurd (false≢true (sym f))
-within_further k (Some m) None f = omega (arith, within_never k)
-within_further k (Some m) (Some n) f = within_order k m n (ltb-false n m f)
+within_further k Never Never f = omega arith
+within_further k Never (At n) f = absurd (false≢true (sym f))
+within_further k (At m) Never f = omega (arith, within_never k)
+within_further k (At m) (At n) f = within_order k m n (ltb-false n m f)
 
 -- ---- how next uses compare
 
-pub further_self : (a : Option ℕ) → further a a ≡ false
+pub further_self : (a : NextUse) → further a a ≡ false
 unfolding further
-further_self None = refl
-further_self (Some m) = le-ltb m m (omega arith)
+further_self Never = refl
+further_self (At m) = le-ltb m m (omega arith)
 
 -- not both ways
-pub further_back : (a b : Option ℕ) → further a b ≡ true → further b a ≡ false
+pub further_back : (a b : NextUse) → further a b ≡ true → further b a ≡ false
 unfolding further
-further_back None None p = absurd (false≢true p)
-further_back None (Some n) p = refl
-further_back (Some m) None p = absurd (false≢true p)
-further_back (Some m) (Some n) p = le-ltb m n (omega (arith, ltb-true n m p))
+further_back Never Never p = absurd (false≢true p)
+further_back Never (At n) p = refl
+further_back (At m) Never p = absurd (false≢true p)
+further_back (At m) (At n) p = le-ltb m n (omega (arith, ltb-true n m p))
 
-further_through : (a b c : Option ℕ) → further a b ≡ false → further b c ≡ false → further a c ≡ false
+further_through : (a b c : NextUse) → further a b ≡ false → further b c ≡ false → further a c ≡ false
 unfolding further
-further_through None None c p q = q
-further_through None (Some n) None p q = refl
-further_through None (Some n) (Some k) p q = absurd (false≢true (sym p))
-further_through (Some m) b None p q = refl
-further_through (Some m) None (Some k) p q = absurd (false≢true (sym q))
-further_through (Some m) (Some n) (Some k) p q = le-ltb k m (omega (arith, ltb-false n m p, ltb-false k n q))
+further_through Never Never c p q = q
+further_through Never (At n) Never p q = refl
+further_through Never (At n) (At k) p q = absurd (false≢true (sym p))
+further_through (At m) b Never p q = refl
+further_through (At m) Never (At k) p q = absurd (false≢true (sym q))
+further_through (At m) (At n) (At k) p q = le-ltb k m (omega (arith, ltb-false n m p, ltb-false k n q))
 
-further_over : (a b c : Option ℕ) → further b c ≡ true → further a c ≡ false → further b a ≡ true
+further_over : (a b c : NextUse) → further b c ≡ true → further a c ≡ false → further b a ≡ true
 further_over a b c p q = go (further b a) refl
   where
     go : (t : Bool) → further b a ≡ t → t ≡ true
@@ -108,11 +110,11 @@ further_over a b c p q = go (further b a) refl
 -- ---- tie rules
 
 -- what is asked of a rule by which a curve takes the place of a lower one: it compares, and a nearer next use neither takes the place nor keeps it
-pub record TieRule (takes : Option ℕ → Option ℕ → Bool) : Type 0 where
-  pub trans : (a b c : Option ℕ) → takes b c ≡ true → takes c a ≡ true → takes b a ≡ true
-  pub more : (a b c : Option ℕ) → takes b c ≡ true → takes a c ≡ false → takes b a ≡ true
-  pub takes_it : (a b : Option ℕ) → takes a b ≡ true → further b a ≡ false
-  pub leaves_it : (a b : Option ℕ) → takes a b ≡ false → further a b ≡ false
+pub record TieRule (takes : NextUse → NextUse → Bool) : Type 0 where
+  pub trans : (a b c : NextUse) → takes b c ≡ true → takes c a ≡ true → takes b a ≡ true
+  pub more : (a b c : NextUse) → takes b c ≡ true → takes a c ≡ false → takes b a ≡ true
+  pub takes_it : (a b : NextUse) → takes a b ≡ true → further b a ≡ false
+  pub leaves_it : (a b : NextUse) → takes a b ≡ false → further a b ≡ false
 
 -- ties to the lowest curve
 lowest : TieRule further
@@ -140,7 +142,7 @@ module _ (n : ℕ) where
   below_n cs s c e = ∈-lt c n (below n) (omega (arith, s c)) (ones_lt n)
 
   -- ---- by any tie rule
-  module _ (takes : Option ℕ → Option ℕ → Bool) (rule : TieRule takes) where
+  module _ (takes : NextUse → NextUse → Bool) (rule : TieRule takes) where
     abbrev takes? : List ℕ → ℕ → ℕ → Bool
     takes? ws b c = takes (next_use b ws) (next_use c ws)
 

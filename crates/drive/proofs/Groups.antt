@@ -7,12 +7,13 @@ use native.Mathlib.Omega.{arith}
 use native.Mathlib.Decide.{ℕ_discrete, dec_le}
 use lib.ListN.{length, get_or, drop, set}
 use lib.Seq.{get_or-set_same, get_or-set_other}
-use Rattle.std.specs.Prelude.{Option, Some, None}
 use Rattle.bitset.specs.Set.{◌∩◌, ◌∪◌, ◌∖◌, size, bit}
 use Rattle.bitset.proofs.Bits.{bit-∩, bit-∪, bit-∖, bit_empty, bit_other, same_by_bits, size_empty, sizes_eq}
 use Rattle.bitset.proofs.Laws.{∖-∖}
 use Rattle.bitset.proofs.Element.{some, size_insert, ∈-pos}
 use Rattle.bitset.proofs.Parts.{◌≼◌, empty-≼, without-≼, single-≼, positive, in_range}
+use Rattle.drive.specs.declared.choice.NextUse.{NextUse}
+use Rattle.drive.specs.declared.choice.NextUse.TheVariants.{At, Never}
 use Rattle.drive.specs.declared.choice.Candidate.{Candidate}
 use Rattle.drive.specs.Uses.{later, use_by, next_use}
 use Rattle.drive.specs.Plan.{furthest, victims}
@@ -23,7 +24,7 @@ use Rattle.drive.proofs.Staying.{First, same_before, further_before, never_befor
 
 -- ---- what the later steps want together
 
-pub together_never : (c : ℕ) (ws : List ℕ) → bit c (together ws) ≡ 0 → next_use c ws ≡ None
+pub together_never : (c : ℕ) (ws : List ℕ) → bit c (together ws) ≡ 0 → next_use c ws ≡ Never
 unfolding together next_use use_by later
 together_never c [] e = refl
 together_never c (w ∷ ws) e =
@@ -31,14 +32,14 @@ together_never c (w ∷ ws) e =
     let o : bit c w ≡ 0 = omega arith in
     rw (o, together_never c ws (omega arith)) refl
 
-pub together_used : (c : ℕ) (ws : List ℕ) → bit c (together ws) ≡ 1 → next_use c ws ≡ None → ⊥
+pub together_used : (c : ℕ) (ws : List ℕ) → bit c (together ws) ≡ 1 → next_use c ws ≡ Never → ⊥
 unfolding together next_use
 together_used c [] e n = omega (arith, bit_empty c)
 together_used c (w ∷ ws) e n = go (bit c w) refl (next_use c ws) (together_used c ws) n
   where
-    go : (d : ℕ) → bit c w ≡ d → (u : Option ℕ) → (bit c (together ws) ≡ 1 → u ≡ None → ⊥) → use_by d u ≡ None → ⊥
-    go zero i None rest f = rest (omega (arith, bit-∪ c w (together ws))) refl
-    go zero i (Some m) rest f = unfold use_by later in (let z : ◌≡◌ {A = ℕ} 0 1 = cc in omega arith)
+    go : (d : ℕ) → bit c w ≡ d → (u : NextUse) → (bit c (together ws) ≡ 1 → u ≡ Never → ⊥) → use_by d u ≡ Never → ⊥
+    go zero i Never rest f = rest (omega (arith, bit-∪ c w (together ws))) refl
+    go zero i (At m) rest f = unfold use_by later in (let z : ◌≡◌ {A = ℕ} 0 1 = cc in omega arith)
     go (suc d) i u rest f = unfold use_by in (let z : ◌≡◌ {A = ℕ} 0 1 = cc in omega arith)
 
 -- ---- the walk
@@ -64,7 +65,7 @@ grouped_start cs used groups when ws e =
 -- the candidates `hit`, whose next use is step k, are the next group, where there are any
 module _ {cs unused m : ℕ} {groups when ws : List ℕ} (g : Grouped cs unused m groups when ws) (hit k n : ℕ) (room : m < 64) (sets : 64 ≤ length groups)
     (steps : 64 ≤ length when)
-    (next : (c : ℕ) → bit c hit ≡ 1 → next_use c ws ≡ Some k) (soon : (j : ℕ) → j < m → get_or when j 0 < k) (none : hit ≡ 0 → n ≡ m)
+    (next : (c : ℕ) → bit c hit ≡ 1 → next_use c ws ≡ At k) (soon : (j : ℕ) → j < m → get_or when j 0 < k) (none : hit ≡ 0 → n ≡ m)
     (more : 0 < hit → n ≡ m + 1)
   where
     slot : (j : ℕ) → j < n → (j < m) ⊎ ((j ≡ m) × (0 < hit))
@@ -107,13 +108,13 @@ module _ {cs unused m : ℕ} {groups when ws : List ℕ} (g : Grouped cs unused 
         go (suc s) e = omega (arith, more (omega arith))
 
         member : (j c : ℕ) → bit c (get_or (set groups m hit) j 0) ≡ 1 → (j < m) ⊎ ((j ≡ m) × (0 < hit))
-            → (bit c (cs ∪ hit) ≡ 1) × (next_use c ws ≡ Some (get_or (set when m k) j 0))
+            → (bit c (cs ∪ hit) ≡ 1) × (next_use c ws ≡ At (get_or (set when m k) j 0))
         member j c i (inl l) =
             let o = g.used j c l (rw (other groups j m hit l) at i) in
-            (omega (arith, bit-∪ c cs hit, o.0), o.1 ∙ ap Some (sym (other when j m k l)))
+            (omega (arith, bit-∪ c cs hit, o.0), o.1 ∙ ap At (sym (other when j m k l)))
         member j c i (inr l) =
             let h : bit c hit ≡ 1 = rw (l.0, new_set) at i in
-            (omega (arith, bit-∪ c cs hit), next c h ∙ ap Some (sym (rw l.0 new_step)))
+            (omega (arith, bit-∪ c cs hit), next c h ∙ ap At (sym (rw l.0 new_step)))
 
         found : (c : ℕ) → bit c (cs ∪ hit) ≡ 1 → bit c unused ≡ 0 → (b : ℕ) → bit c hit ≡ b → (j : ℕ) × (j < n) × (bit c (get_or (set groups m hit) j 0) ≡ 1)
         found c i u zero e =
@@ -127,10 +128,10 @@ module _ {cs unused m : ℕ} {groups when ws : List ℕ} (g : Grouped cs unused 
 
 -- ---- what a step of the walk meets
 
-pub step_zero : (u : Option ℕ) → step_of 0 u ≡ u
+pub step_zero : (u : NextUse) → step_of 0 u ≡ u
 unfolding step_of
-step_zero None = refl
-step_zero (Some m) = ap Some (omega arith)
+step_zero Never = refl
+step_zero (At m) = ap At (omega arith)
 
 -- a candidate that is left is used in a later step, so there is one
 pub used_ends : (x used k : ℕ) (later : List ℕ) → used ≡ together later → bit x used ≡ 1 → next_use x later ≡ step_of k (next_use x (drop k later))
@@ -145,7 +146,7 @@ used_ends x used k later e i ahead = go (dec_le (length later) k)
 pub record Met (cs left hit k : ℕ) (later : List ℕ) : Type 0 where
   pub split : size hit + size (left ∖ hit) ≡ size left
   pub others : cs ∖ (left ∖ hit) ≡ cs ∖ left ∪ hit
-  pub found : (c : ℕ) → bit c hit ≡ 1 → next_use c later ≡ Some k
+  pub found : (c : ℕ) → bit c hit ≡ 1 → next_use c later ≡ At k
   pub still : (c : ℕ) → bit c (left ∖ hit) ≡ 1 → next_use c later ≡ step_of (k + 1) (next_use c (drop (k + 1) later))
 
 pub one_met : (cs used left hit k : ℕ) (later : List ℕ) → k < length later → left ≼ cs ∩ used
@@ -206,7 +207,7 @@ module _ {cs unused found : ℕ} {groups when ws : List ℕ} (g : Grouped cs unu
         let n = g.never v (omega (arith, p.0, bit-∖ v unused chosen)) in
         (omega (arith, n.0, p.0, bit-∖ v unused chosen, bit-∖ v cs chosen), (p.1.0, λ d m. go d m n.1 (bit d unused) refl))
       where
-        go : (d : ℕ) → bit d (cs ∖ chosen) ≡ 1 → next_use r.curve ws ≡ None → (b : ℕ) → bit d unused ≡ b → GoesBefore ws r.curve d
+        go : (d : ℕ) → bit d (cs ∖ chosen) ≡ 1 → next_use r.curve ws ≡ Never → (b : ℕ) → bit d unused ≡ b → GoesBefore ws r.curve d
         go d m n zero e = let a = in_group d m e in never_before r.curve d ws _ n (g.used a.0 d (omega (arith, a.1, o.within)) a.2).1
         go d m n (suc b) e = p.1.1 d (omega (arith, bit-∖ d unused chosen, bit-∖ d cs chosen))
 
@@ -224,14 +225,14 @@ module _ {cs unused found : ℕ} {groups when ws : List ℕ} (g : Grouped cs unu
           ),
         )
       where
-        go : (d : ℕ) → bit d (cs ∖ chosen) ≡ 1 → l < found → next_use r.curve ws ≡ Some (get_or when l 0) → (j : ℕ) → j < count
+        go : (d : ℕ) → bit d (cs ∖ chosen) ≡ 1 → l < found → next_use r.curve ws ≡ At (get_or when l 0) → (j : ℕ) → j < count
             → bit d (group j) ≡ 1 → Dec (j ≡ l) → GoesBefore ws r.curve d
         go d m h n j b k (yes e) = p.1.1 d (omega (arith, ap (λ (i : ℕ). bit d (group i)) e, bit-∖ d (group l) chosen, bit-∖ d cs chosen))
         go d m h n j b k (no e) = further_before r.curve d ws _ _ n (g.used j d (omega (arith, o.within)) k).1 (g.rising j l (omega arith) h)
 
     -- what goes first of those never used, or else of the last group, goes first of all that are left
-    pub goes_first : 0 < size (cs ∖ chosen) → (r : Candidate) → (0 < unused ∖ chosen → UsedAt None (unused ∖ chosen) ws → GoesFirst ws (unused ∖ chosen) r)
-        → (unused ∖ chosen ≡ 0 → 0 < group (count - 1) ∖ chosen → UsedAt (Some (get_or when (count - 1) 0)) (group (count - 1) ∖ chosen) ws
+    pub goes_first : 0 < size (cs ∖ chosen) → (r : Candidate) → (0 < unused ∖ chosen → UsedAt Never (unused ∖ chosen) ws → GoesFirst ws (unused ∖ chosen) r)
+        → (unused ∖ chosen ≡ 0 → 0 < group (count - 1) ∖ chosen → UsedAt (At (get_or when (count - 1) 0)) (group (count - 1) ∖ chosen) ws
         → GoesFirst ws (group (count - 1) ∖ chosen) r)
         → GoesFirst ws (cs ∖ chosen) r
     goes_first h r never last = go (unused ∖ chosen) refl (dec_le count 0)
@@ -316,7 +317,7 @@ module _ {cs unused found : ℕ} {groups when ws : List ℕ} (g : Grouped cs unu
         → (c d : ℕ) → bit c left ≡ 1 → bit c stay ≡ 0 → bit d stay ≡ 1 → GoesBefore ws c d
     group_stays stay h own tie c d m n i = go (bit c unused) refl
       where
-        there : next_use d ws ≡ Some (get_or when j 0)
+        there : next_use d ws ≡ At (get_or when j 0)
         there = (g.used j d h (omega (arith, own d, bit-∩ d left (group j)))).1
 
         behind : (k : ℕ) → k < found → bit c (group k) ≡ 1 → Dec (k ≡ j) → Dec (j ≤ k) → GoesBefore ws c d
@@ -342,10 +343,10 @@ module _ {cs unused found : ℕ} {groups when ws : List ℕ} (g : Grouped cs unu
     pub never_stays : (stay : ℕ) → found ≤ j → stay ≼ left → ((c d : ℕ) → bit c left ≡ 1 → bit c stay ≡ 0 → bit d stay ≡ 1 → d < c)
         → (c d : ℕ) → bit c left ≡ 1 → bit c stay ≡ 0 → bit d stay ≡ 1 → GoesBefore ws c d
     never_stays stay h own tie c d m n i =
-        let t = tie c d m n i in same_before c d ws None (unneeded c m (bit c unused) refl) (unneeded d (omega (arith, own d)) (bit d unused) refl)
+        let t = tie c d m n i in same_before c d ws Never (unneeded c m (bit c unused) refl) (unneeded d (omega (arith, own d)) (bit d unused) refl)
         (omega arith)
       where
-        unneeded : (x : ℕ) → bit x left ≡ 1 → (b : ℕ) → bit x unused ≡ b → next_use x ws ≡ None
+        unneeded : (x : ℕ) → bit x left ≡ 1 → (b : ℕ) → bit x unused ≡ b → next_use x ws ≡ Never
         unneeded x k zero e = let a = g.all x (omega (arith, part x)) e in absurd (omega (arith, passed a.0 x (omega (arith, a.1)) a.2))
         unneeded x k (suc b) e = (g.never x (omega arith)).1
 

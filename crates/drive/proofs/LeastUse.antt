@@ -6,8 +6,9 @@ use Prim.Native.Nat.{ℕ, zero, suc, ◌<◌, ◌≤◌}
 use native.Mathlib.Omega.{arith}
 use native.Mathlib.Decide.{dec_le}
 use lib.ListN.{length, get_or}
-use Rattle.std.specs.Prelude.{Option, Some, None}
 use Rattle.bitset.specs.Set.{◌∈◌, bit}
+use Rattle.drive.specs.declared.choice.NextUse.{NextUse}
+use Rattle.drive.specs.declared.choice.NextUse.TheVariants.{At, Never}
 use Rattle.drive.specs.Uses.{later, use_by, next_use}
 
 -- of the later steps' wants ws, those of step k are the first that have c
@@ -19,38 +20,38 @@ pub record FirstUse (c k : ℕ) (ws : List ℕ) : Type 0 where
 abbrev pub Unused : ℕ → List ℕ → Type 0
 Unused c ws = (j : ℕ) → j < length ws → c ∈ get_or ws j 0 → ⊥
 
-abbrev Told : ℕ → List ℕ → Option ℕ → Type 0
-Told c ws (Some k) = FirstUse c k ws
-Told c ws None = Unused c ws
+abbrev Told : ℕ → List ℕ → NextUse → Type 0
+Told c ws (At k) = FirstUse c k ws
+Told c ws Never = Unused c ws
 
 told : (c : ℕ) (ws : List ℕ) → Told c ws (next_use c ws)
 unfolding next_use use_by later
 told c [] = λ j l. absurd (omega arith)
 told c (w ∷ ws) = go (bit c w) refl (next_use c ws) (told c ws)
   where
-    go : (d : ℕ) → bit c w ≡ d → (u : Option ℕ) → Told c ws u → Told c (w ∷ ws) (use_by d u)
+    go : (d : ℕ) → bit c w ≡ d → (u : NextUse) → Told c ws u → Told c (w ∷ ws) (use_by d u)
     go (suc d) e u t = record { within = omega arith; wanted = omega arith; before = λ j l. absurd (omega arith) }
-    go zero e None t = none
+    go zero e Never t = none
       where
         none : (j : ℕ) → j < suc (length ws) → c ∈ get_or (w ∷ ws) j 0 → ⊥
         none zero l m = omega arith
         none (suc j) l m = t j (omega arith) m
-    go zero e (Some k) t = record { within = omega (arith, t.within); wanted = t.wanted; before = earlier }
+    go zero e (At k) t = record { within = omega (arith, t.within); wanted = t.wanted; before = earlier }
       where
         earlier : (j : ℕ) → j < suc k → c ∈ get_or (w ∷ ws) j 0 → ⊥
         earlier zero l m = omega arith
         earlier (suc j) l m = t.before j (omega arith) m
 
 -- THE NEXT USE IS THE LEAST LATER STEP that wants the curve
-pub next_least : (c k : ℕ) (ws : List ℕ) → next_use c ws ≡ Some k ↔ FirstUse c k ws
+pub next_least : (c k : ℕ) (ws : List ℕ) → next_use c ws ≡ At k ↔ FirstUse c k ws
 next_least c k ws = (there, back (next_use c ws) refl (told c ws))
   where
-    there : next_use c ws ≡ Some k → FirstUse c k ws
+    there : next_use c ws ≡ At k → FirstUse c k ws
     there e = rw e at (told c ws)
 
-    back : (u : Option ℕ) → next_use c ws ≡ u → Told c ws u → FirstUse c k ws → next_use c ws ≡ Some k
-    back None e t l = absurd (t k l.within l.wanted)
-    back (Some m) e t l = e ∙ ap Some (same (dec_le m k) (dec_le k m))
+    back : (u : NextUse) → next_use c ws ≡ u → Told c ws u → FirstUse c k ws → next_use c ws ≡ At k
+    back Never e t l = absurd (t k l.within l.wanted)
+    back (At m) e t l = e ∙ ap At (same (dec_le m k) (dec_le k m))
       where
         same : Dec (m ≤ k) → Dec (k ≤ m) → m ≡ k
         same (yes p) (yes q) = omega arith
@@ -58,12 +59,12 @@ next_least c k ws = (there, back (next_use c ws) refl (told c ws))
         same (yes p) (no q) = absurd (l.before m (omega arith) t.wanted)
 
 -- .. and never, where none wants it
-pub next_never : (c : ℕ) (ws : List ℕ) → next_use c ws ≡ None ↔ Unused c ws
+pub next_never : (c : ℕ) (ws : List ℕ) → next_use c ws ≡ Never ↔ Unused c ws
 next_never c ws = (there, back (next_use c ws) refl (told c ws))
   where
-    there : next_use c ws ≡ None → Unused c ws
+    there : next_use c ws ≡ Never → Unused c ws
     there e = rw e at (told c ws)
 
-    back : (u : Option ℕ) → next_use c ws ≡ u → Told c ws u → Unused c ws → next_use c ws ≡ None
-    back None e t n = e
-    back (Some m) e t n = absurd (n m t.within t.wanted)
+    back : (u : NextUse) → next_use c ws ≡ u → Told c ws u → Unused c ws → next_use c ws ≡ Never
+    back Never e t n = e
+    back (At m) e t n = absurd (n m t.within t.wanted)

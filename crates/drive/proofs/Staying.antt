@@ -7,12 +7,13 @@ use Prim.Native.Nat.{ℕ, zero, suc, ◌^◌, ◌≤◌, ◌<◌}
 use native.Mathlib.Omega.{arith}
 use native.Mathlib.Decide.{ℕ_discrete, dec_le}
 use borrow.Author.Tests.{lt-ltb, le-ltb}
-use Rattle.std.specs.Prelude.{Option, Some, None}
 use Rattle.bitset.specs.Set.{◌∪◌, ◌∖◌, size, bit, below}
 use Rattle.bitset.proofs.Bits.{bit-∪, bit-∖, bit_other, bit_empty}
 use Rattle.bitset.proofs.Element.{size_remove, some}
 use Rattle.bitset.proofs.Laws.{size_none}
 use Rattle.lists.specs.Choice.{Found, nobody, found}
+use Rattle.drive.specs.declared.choice.NextUse.{NextUse}
+use Rattle.drive.specs.declared.choice.NextUse.TheVariants.{At, Never}
 use Rattle.drive.specs.Uses.{next_use, further}
 use Rattle.drive.specs.Plan.{furthest, and_then, victims}
 use Rattle.drive.specs.ContractWords.{GoesBefore, UsedAt, GoesFirst}
@@ -29,24 +30,24 @@ First cs r ws = (c d : ℕ) → bit c r ≡ 1 → bit d cs ≡ 1 → bit d r ≡
 
 module _ (c d : ℕ) (ws : List ℕ) where
   -- of two with the same next use the higher one
-  pub same_before : (u : Option ℕ) → next_use c ws ≡ u → next_use d ws ≡ u → d ≤ c → GoesBefore ws c d
+  pub same_before : (u : NextUse) → next_use c ws ≡ u → next_use d ws ≡ u → d ≤ c → GoesBefore ws c d
   same_before u e f l = (ap (further (next_use d ws)) (e ∙ sym f) ∙ further_self (next_use d ws), λ g. absurd (omega arith))
 
-  pub further_before : (m n : ℕ) → next_use c ws ≡ Some m → next_use d ws ≡ Some n → n < m → GoesBefore ws c d
+  pub further_before : (m n : ℕ) → next_use c ws ≡ At m → next_use d ws ≡ At n → n < m → GoesBefore ws c d
   unfolding further
   further_before m n e f l = rw (e, f) (le-ltb m n (omega arith), λ g. lt-ltb n m l)
 
-  pub never_before : (n : ℕ) → next_use c ws ≡ None → next_use d ws ≡ Some n → GoesBefore ws c d
+  pub never_before : (n : ℕ) → next_use c ws ≡ Never → next_use d ws ≡ At n → GoesBefore ws c d
   unfolding further
   never_before n e f = rw (e, f) (refl, λ g. refl)
 
   -- what is used sooner does not go before
-  pub sooner_stays : (m n : ℕ) → next_use c ws ≡ Some m → next_use d ws ≡ Some n → m < n → GoesBefore ws c d → ⊥
+  pub sooner_stays : (m n : ℕ) → next_use c ws ≡ At m → next_use d ws ≡ At n → m < n → GoesBefore ws c d → ⊥
   unfolding further
   sooner_stays m n e f l b = false≢true (sym (rw (e, f) at b.0) ∙ lt-ltb m n l)
 
 -- of several with the same next use the highest goes first
-pub first_of_same : (ws : List ℕ) (u : Option ℕ) (s v : ℕ) → bit v s ≡ 1 → ((c : ℕ) → bit c s ≡ 1 → c ≤ v) → UsedAt u s ws
+pub first_of_same : (ws : List ℕ) (u : NextUse) (s v : ℕ) → bit v s ≡ 1 → ((c : ℕ) → bit c s ≡ 1 → c ≤ v) → UsedAt u s ws
     → GoesFirst ws s (record { curve = v; next = u })
 first_of_same ws u s v i high used = (i, (sym (used v i), λ d m. same_before v d ws u (used v i) (used d m) (high d m)))
 

@@ -10,11 +10,13 @@ use native.Mathlib.Nat.{add-zero}
 use lib.ListN.{length, get_or, drop, set, length-set, drop_of_length-le, get_or-eq_default}
 use lib.Seq.{drop-cons, drop-drop, get_or-drop, get_or-set_same, get_or-set_other, ext_get_or, sets}
 use Rattle.std.specs.List.{fold}
-use Rattle.std.specs.Prelude.{Option, Some, None, Ok, Err}
+use Rattle.std.specs.Prelude.{Ok, Err}
 use Rattle.bitset.specs.Set.{◌∪◌, size, bit}
 use Rattle.bitset.proofs.Bits.{bit-∪, bit_empty, same_by_bits}
 use Rattle.lists.specs.Choice.{Found}
 use Rattle.lists.proofs.Overwritten.{sets_cons}
+use Rattle.drive.specs.declared.choice.NextUse.{NextUse}
+use Rattle.drive.specs.declared.choice.NextUse.TheVariants.{At, Never}
 use Rattle.drive.specs.declared.Sets.{Sets}
 use Rattle.drive.specs.Steps.{moved, held_after, drops_of, loads_of, moves}
 use Rattle.drive.specs.Check.{or_breaks, keeps, check_from}
@@ -118,24 +120,24 @@ unfolding drops_for victims
 no_drops pick capacity h w ws e = let z : size (h ∪ w) - capacity ≡ 0 = omega arith in rw z refl
 
 -- ---- the next use by the step's number: `step_of s` where the first of the later steps is step s
-unfoldable pub step_of : ℕ → Option ℕ → Option ℕ
-step_of s (Some m) = Some (s + m)
-step_of s None = None
+unfoldable pub step_of : ℕ → NextUse → NextUse
+step_of s (At m) = At (s + m)
+step_of s Never = Never
 
-pub use_wanted : (c s : ℕ) (ws : List ℕ) → s < length ws → bit c (get_or ws s 0) ≡ 1 → step_of s (next_use c (drop s ws)) ≡ Some s
+pub use_wanted : (c s : ℕ) (ws : List ℕ) → s < length ws → bit c (get_or ws s 0) ≡ 1 → step_of s (next_use c (drop s ws)) ≡ At s
 unfolding step_of next_use use_by
-use_wanted c s ws h b = rw (drop-cons ws s 0 h, b) (ap Some (omega arith))
+use_wanted c s ws h b = rw (drop-cons ws s 0 h, b) (ap At (omega arith))
 
 pub use_later : (c s : ℕ) (ws : List ℕ) → s < length ws → bit c (get_or ws s 0) ≡ 0
     → step_of s (next_use c (drop s ws)) ≡ step_of (s + 1) (next_use c (drop (s + 1) ws))
 unfolding next_use use_by
 use_later c s ws h b = rw (add-one s, drop-cons ws s 0 h, b) (go (next_use c (drop (suc s) ws)))
   where
-    go : (u : Option ℕ) → step_of s (later u) ≡ step_of (suc s) u
-    go None = unfold step_of later in refl
-    go (Some m) = unfold step_of later in ap Some (omega arith)
+    go : (u : NextUse) → step_of s (later u) ≡ step_of (suc s) u
+    go Never = unfold step_of later in refl
+    go (At m) = unfold step_of later in ap At (omega arith)
 
-pub use_never : (c s : ℕ) (ws : List ℕ) → length ws ≤ s → step_of s (next_use c (drop s ws)) ≡ None
+pub use_never : (c s : ℕ) (ws : List ℕ) → length ws ≤ s → step_of s (next_use c (drop s ws)) ≡ Never
 unfolding step_of next_use
 use_never c s ws h = rw (drop_of_length-le ws h) refl
 

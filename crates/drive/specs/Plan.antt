@@ -1,14 +1,15 @@
 -- "Our plan": the choice of the drops, one step, and all steps.
-use Rattle.std.specs.Prelude.{Bool, List, [], ◌∷◌, ℕ, zero, suc, ◌-◌, ◌^◌, eqb, Option}
+use Rattle.std.specs.Prelude.{Bool, List, [], ◌∷◌, ℕ, zero, suc, ◌-◌, ◌^◌, eqb}
 use Rattle.bitset.specs.Set.{◌∪◌, ◌∖◌, size, bit}
 use Rattle.lists.specs.Choice.{Found, nobody, found, best_of}
+use Rattle.drive.specs.declared.choice.NextUse.{NextUse}
 use Rattle.drive.specs.declared.Sets.{Sets}
 use Rattle.drive.specs.Steps.{moved}
 use Rattle.drive.specs.Uses.{next_use, further, not_nearer}
 
 -- of the candidates cs among n curves, one after the other from the lowest: each takes the place of the one before it where `takes` says so, by its own next use
 -- and that of the other
-unfoldable pub chosen_by : (Option ℕ → Option ℕ → Bool) → ℕ → ℕ → List ℕ → Found ℕ
+unfoldable pub chosen_by : (NextUse → NextUse → Bool) → ℕ → ℕ → List ℕ → Found ℕ
 chosen_by takes n cs ws = best_of (λ c. eqb (bit c cs) 1) (λ b c. takes (next_use b ws) (next_use c ws)) (λ c. c) n nobody
 
 -- "the curve whose next use in a later step is furthest"; 02, wish 2: "Of curves with equally distant next use the highest number is dropped": a curve takes the

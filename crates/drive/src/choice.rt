@@ -1,16 +1,24 @@
 // Which curves a step drops.
-ghost use Rattle.std.specs.Prelude.{◌≡◌, List, ℕ, ◌+◌, ◌^◌, ◌≤◌, ◌<◌, Some, None};
+ghost use Rattle.std.specs.Prelude.{◌≡◌, List, ℕ, ◌+◌, ◌^◌, ◌≤◌, ◌<◌, Some};
 ghost use Rattle.bitset.specs.Set.{◌∖◌, size, bit};
 ghost use Rattle.drive.specs.Uses.{further};
 ghost use Rattle.drive.specs.Plan.{furthest, victims, drops_for};
 ghost use Rattle.drive.specs.Steps.{together};
 ghost use Rattle.drive.specs.ContractWords.{Grouped, UsedAt, GoesFirst};
 
-// "Every candidate curve goes with its next use, which is a later step or never": none is never, and step 0 is the one after the present step.
+// Document 01: "its next use, which is a later step or never". At(0) is the step after the present one.
+// Kept: an enum of its own: document 01 names this form, with these variants.
+#[derive(Clone, Copy)]
+pub enum NextUse {
+    At(usize),
+    Never,
+}
+
+// "Every candidate curve goes with its next use."
 #[derive(Clone, Copy)]
 pub struct Candidate {
     pub curve: usize,
-    pub next: Option<usize>,
+    pub next: NextUse,
 }
 
 // Candidates in so many groups by their next use, the soonest first: what is in each, and the step that uses it.
@@ -28,9 +36,9 @@ fn further(a: Candidate, b: Candidate) -> bool
     ensures { result ≡ further a.next b.next }
 {
     match (a.next, b.next) {
-        (_, None) => false,
-        (None, Some(_)) => true,
-        (Some(m), Some(n)) => n < m,
+        (_, NextUse::Never) => false,
+        (NextUse::Never, NextUse::At(_)) => true,
+        (NextUse::At(m), NextUse::At(n)) => n < m,
     }
 }
 
@@ -77,19 +85,19 @@ fn together(wants: &[u64]) -> u64
 
 // The candidate "whose next use in a later step is furthest": the first of those never used against the first of a group, whose next use is `step`.
 fn furthest(never: u64, group: u64, step: usize) -> Candidate
-    ensures of_never { (ws : List ℕ) → 0 < never → UsedAt None never ws → GoesFirst ws never result }
-    ensures of_group { (ws : List ℕ) → never ≡ 0 → 0 < group → UsedAt (Some step) group ws → GoesFirst ws group result }
+    ensures of_never { (ws : List ℕ) → 0 < never → UsedAt NextUse.Never never ws → GoesFirst ws never result }
+    ensures of_group { (ws : List ℕ) → never ≡ 0 → 0 < group → UsedAt (NextUse.At step) group ws → GoesFirst ws group result }
 {
     let sooner = Candidate {
         curve: first_to_go(group),
-        next: Some(step),
+        next: NextUse::At(step),
     };
     if never == 0 {
         return sooner;
     }
     let latest = Candidate {
         curve: first_to_go(never),
-        next: None,
+        next: NextUse::Never,
     };
     if further(latest, sooner) {
         return latest;

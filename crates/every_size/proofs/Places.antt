@@ -7,11 +7,12 @@ use native.Mathlib.Omega.{arith}
 use native.Mathlib.Decide.{ℕ_discrete, dec_le}
 use lib.Count.{count_trailing_zeros, ones-ones}
 use lib.ListN.{length, get_or, drop, set}
-use Rattle.std.specs.Prelude.{Option, Some, None}
 use Rattle.bitset.specs.Set.{◌∩◌, ◌∪◌, ◌∖◌, size, bit, below}
 use Rattle.bitset.proofs.Bits.{bitwise, bit-∩, bit-∪, bit-∖, bit_empty, bit_other, same_by_bits, sizes_eq}
 use Rattle.bitset.proofs.Element.{∈-lt, lowest_le, lowest_in, shl_some, shl_none}
 use Rattle.bitset.proofs.Parts.{◌≼◌, bit_below, single-≼, in_range}
+use Rattle.drive.specs.declared.choice.NextUse.{NextUse}
+use Rattle.drive.specs.declared.choice.NextUse.TheVariants.{At, Never}
 use Rattle.drive.specs.Uses.{next_use}
 use Rattle.drive.specs.Plan.{furthest, drops_for}
 use Rattle.drive.specs.Steps.{together}
@@ -100,16 +101,16 @@ module _ {hold : ℕ → ℕ} {w seen others placed group left free : ℕ} {ws b
 pub record Passed (others left k : ℕ) (later : List ℕ) : Type 0 where
   pub part : left ≼ others
   pub ahead : (c : ℕ) → bit c left ≡ 1 → next_use c later ≡ step_of k (next_use c (drop k later))
-  pub met : (c : ℕ) → bit c others ≡ 1 → bit c left ≡ 0 → (m : ℕ) × (m < k) × (next_use c later ≡ Some m)
+  pub met : (c : ℕ) → bit c others ≡ 1 → bit c left ≡ 0 → (m : ℕ) × (m < k) × (next_use c later ≡ At m)
 
 pub none_passed : (others : ℕ) (later : List ℕ) → Passed others others 0 later
 none_passed others later = record { part = λ c. omega arith; ahead = λ c i. sym (step_zero _); met = λ c i n. absurd (omega arith) }
 
 -- one that is not met in the first steps goes before one that is met there
-later_before : (c d k n m : ℕ) (ws : List ℕ) (u : Option ℕ) → next_use d ws ≡ step_of n u → next_use c ws ≡ Some m → m < n → GoesBefore ws d c
+later_before : (c d k n m : ℕ) (ws : List ℕ) (u : NextUse) → next_use d ws ≡ step_of n u → next_use c ws ≡ At m → m < n → GoesBefore ws d c
 unfolding step_of
-later_before c d k n m ws None e f h = never_before d c ws m e f
-later_before c d k n m ws (Some x) e f h = further_before d c ws (n + x) m e f (omega arith)
+later_before c d k n m ws Never e f h = never_before d c ws m e f
+later_before c d k n m ws (At x) e f h = further_before d c ws (n + x) m e f (omega arith)
 
 module _ {others left hit k : ℕ} {later : List ℕ} (p : Passed others left k later) (used : others ≼ together later) (more : k < length later)
     (is : hit ≡ left ∩ get_or later k 0) where
@@ -127,7 +128,7 @@ module _ {others left hit k : ℕ} {later : List ℕ} (p : Passed others left k 
             let r = p.met d (omega arith) (omega arith) in further_before c d later k r.0 (step.found c i) r.2 r.1;
         sooner = λ c d i m n o. let b = bit-∖ d others left in
             later_before c d k (k + 1) k later _ (step.still d (omega (arith, bit-∖ d left hit))) (step.found c i) (omega arith);
-        same = λ c d i m l. same_before c d later (Some k) (step.found c i) (step.found d m) l;
+        same = λ c d i m l. same_before c d later (At k) (step.found c i) (step.found d m) l;
       }
 
   pub passed_next : Passed others (left ∖ hit) (k + 1) later
@@ -138,7 +139,7 @@ module _ {others left hit k : ℕ} {later : List ℕ} (p : Passed others left k 
         met = λ c i n. go c i n (bit c left) refl;
       }
     where
-      go : (c : ℕ) → bit c others ≡ 1 → bit c (left ∖ hit) ≡ 0 → (x : ℕ) → bit c left ≡ x → (m : ℕ) × (m < k + 1) × (next_use c later ≡ Some m)
+      go : (c : ℕ) → bit c others ≡ 1 → bit c (left ∖ hit) ≡ 0 → (x : ℕ) → bit c left ≡ x → (m : ℕ) × (m < k + 1) × (next_use c later ≡ At m)
       go c i n zero e = let r = p.met c i e in (r.0, omega (arith, r.1), r.2)
       go c i n (suc x) e = (k, omega arith, step.found c (omega (arith, bit-∖ c left hit)))
 

@@ -14,12 +14,13 @@ use native.Mathlib.Decide.{ℕ_discrete, dec_le}
 use lib.Count.{count_trailing_zeros, trailing_of_zero, trailing_le}
 use lib.ListN.{length, get_or, set}
 use lib.Seq.{get_or-set_same, get_or-set_other}
-use Rattle.std.specs.Prelude.{Option, Some, None}
 use Rattle.bitset.specs.Set.{◌∩◌, ◌∪◌, ◌∖◌, size, bit, below}
 use Rattle.bitset.proofs.Bits.{bitwise, bit-∩, bit-∪, bit-∖, bit_empty, bit_single, bit_other, same_by_bits, size_empty, sizes_le, sizes_eq}
 use Rattle.bitset.proofs.Element.{size_remove, lowest_in, lowest_least}
 use Rattle.bitset.proofs.Laws.{∖-lt}
 use Rattle.bitset.proofs.Parts.{◌≼◌, bit_below, size_single_of, single_apart, rest_same}
+use Rattle.drive.specs.declared.choice.NextUse.{NextUse}
+use Rattle.drive.specs.declared.choice.NextUse.TheVariants.{At, Never}
 use Rattle.drive.specs.Steps.{together}
 use Rattle.drive.specs.Uses.{next_use}
 use Rattle.drive.specs.Plan.{furthest, drops_for}
@@ -157,9 +158,9 @@ module _ {hold : ℕ → ℕ} {w seen others placed free : ℕ} {ws before slots
         before = λ d i j. go d i j (bit d (together ws)) refl;
       }
     where
-      never : (d : ℕ) → next_use d ws ≡ None → (u : Option ℕ) → next_use c ws ≡ u → GoesBefore ws d c
-      never d n None e = absurd (together_used c ws (own c mine).1.1 e)
-      never d n (Some m) e = never_before d c ws m n e
+      never : (d : ℕ) → next_use d ws ≡ Never → (u : NextUse) → next_use c ws ≡ u → GoesBefore ws d c
+      never d n Never e = absurd (together_used c ws (own c mine).1.1 e)
+      never d n (At m) e = never_before d c ws m n e
 
       go : (d : ℕ) → bit d (hold p ∖ w) ≡ 1 → bit d placed ≡ 0 → (x : ℕ) → bit d (together ws) ≡ x → GoesBefore ws d c
       go d i j zero e = never d (together_never d ws e) (next_use c ws) refl

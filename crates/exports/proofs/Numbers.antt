@@ -1,10 +1,13 @@
 -- Outcomes as numbers: they fit, and tell what they stand for.
 use mathlib.Core.Path.{◌≡◌, refl}
+use mathlib.Core.Bool.{Bool, true, false}
+use mir.Val.{bool_byte}
 use Prim.Native.Nat.{ℕ, ◌/◌, ◌%◌, ◌^◌, ◌≤◌, ◌<◌}
 use native.Mathlib.Omega.{arith}
 use Rattle.job.specs.declared.Refusal.{Refusal}
 use Rattle.job.specs.declared.Head.{Head}
 use Rattle.job.specs.Refusal.{Outcome, done, refused, number, mapped}
+use Rattle.job.specs.Words.{digit}
 use Rattle.job.proofs.Refuses.{in_table}
 use Rattle.exports.specs.Numbers.{numbered, head_of}
 
@@ -23,3 +26,9 @@ pub head_answer : (o : Outcome Head) → (head_of o).answer ≡ numbered (mapped
 unfolding head_of mapped
 head_answer (done h) = refl
 head_answer (refused k i) = refl
+
+-- truth as a number
+pub truth : (b : Bool) → bool_byte b ≡ digit b
+unfolding digit
+truth true = refl
+truth false = refl

@@ -1,6 +1,7 @@
 #![tactic(auto)]
 // The functions of the library for C, and for tests in other languages. Each calls the function of its name, and answers numbers; one rule makes an outcome
 // one number.
+// Kept: numbers for outcomes, methods and truth, and arguments one by one: the C interface.
 ghost use Rattle.std.specs.Prelude.{◌≡◌, reverse, ◌%◌, ◌^◌, min, length, eqb};
 ghost use Rattle.std.specs.Int.Count.{count_trailing_zeros};
 ghost use Rattle.bitset.specs.Set.{◌∩◌, ◌∪◌, ◌∖◌, size, bit, inside, below};
@@ -73,13 +74,6 @@ fn examined(e: Result<(), Refusal>) -> u64
         Ok(()) => 0,
         Err(r) => refusal(r),
     }
-}
-
-// Truth is 1.
-fn truth(b: bool) -> u64
-    ensures { result ≡ digit b }
-{
-    if b { 1 } else { 0 }
 }
 
 // ---- jobs, orders, plans, texts
@@ -642,7 +636,7 @@ pub extern "C" fn curveplan_single(k: usize) -> u64
 pub extern "C" fn curveplan_has(s: u64, k: usize) -> u64
     ensures { result ≡ digit (eqb (bit k s) 1) }
 {
-    truth(bitset::has(s, k))
+    u64::from(bitset::has(s, k))
 }
 
 #[unsafe(no_mangle)]
@@ -656,7 +650,7 @@ pub extern "C" fn curveplan_without_lowest(s: u64) -> u64
 pub extern "C" fn curveplan_inside(a: u64, b: u64) -> u64
     ensures { result ≡ digit (inside a b) }
 {
-    truth(bitset::inside(a, b))
+    u64::from(bitset::inside(a, b))
 }
 
 #[unsafe(no_mangle)]

@@ -14,6 +14,7 @@ fn read_some<R: Read>(input: &mut R, buf: &mut [u8]) -> usize
     input.read(buf).unwrap_or(0)
 }
 
+// Kept: a `while`, and a count beside the buffer: each turn goes on by as much as was read, and memory is fixed.
 // Reads until the buffer is full, the input ends or a read fails, and returns how many bytes it put at the start of the buffer. On an empty buffer it makes no
 // call. Of an input whose bytes are known, what it put there are its next bytes, in their order, and no other byte of it is gone.
 pub fn read_full<R: Read>(input: &mut R, buf: &mut [u8]) -> usize

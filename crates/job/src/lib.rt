@@ -119,6 +119,7 @@ pub fn capacity(rig: Rig) -> usize
 }
 
 // The numbers of a job's bytes.
+// Kept: the method is a number: 10 at place 3 is asked of every number that is handed over (`IsMethod`), and C hands one over.
 #[derive(Clone, Copy)]
 pub struct Head {
     pub rig: Rig,
@@ -175,11 +176,8 @@ fn examine_wants(curves: usize, wants: &[u64]) -> Result<(), Refusal>
     ensures { outcome result ≡ wants_known curves wants.now }
 {
     let all = bitset::below(curves);
-    let mut t = 0;
-    while t < wants.len() {
-        if bitset::inside(wants[t], all) {
-            t += 1;
-        } else {
+    for (t, want) in wants.iter().enumerate() {
+        if !bitset::inside(*want, all) {
             return Err(Refusal::BadArgument(4 + t));
         }
     }
@@ -206,6 +204,8 @@ fn examine_booked(rig: Rig) -> Result<(), Refusal>
     examine_capacity(rig, 0)
 }
 
+// Kept: the rig and the wants are two arguments here and in all calls that take both: wants are a lent slice (document 01, Forms), no fact joins the two before they are
+// examined, and a struct of both would be built for each call and taken apart in it.
 // 10 and 13, of a job and a method: what writing a job is handed. With method 0, of a job alone.
 pub fn examine_job(rig: Rig, method: usize, wants: &[u64]) -> Result<(), Refusal>
     ensures { outcome result ≡ job_known_by method (job_of rig wants.now) }
@@ -236,12 +236,10 @@ fn examine_held(curves: usize, held: u64) -> Result<(), Refusal>
 pub fn examine_sizes(most: usize, wants: &[u64]) -> Result<(), Refusal>
     ensures { outcome result ≡ wants_fit most wants.now }
 {
-    let mut t = 0;
-    while t < wants.len() {
-        if most < bitset::size(wants[t]) {
+    for (t, want) in wants.iter().enumerate() {
+        if most < bitset::size(*want) {
             return Err(Refusal::TestTooLarge(t));
         }
-        t += 1;
     }
     Ok(())
 }
@@ -260,12 +258,11 @@ fn examine_order(tests: usize, order: &[u16]) -> Result<(), Refusal>
     ensures { outcome result ≡ order_known tests order.now }
 {
     let mut seen = [false; MOST_TESTS];
-    let mut i: usize = 0;
-    while i < order.len() {
+    for (i, test) in order.iter().enumerate() {
         if tests <= i {
             return Err(Refusal::BadOrder(i));
         }
-        let t = order[i] as usize;
+        let t = *test as usize;
         if tests <= t {
             return Err(Refusal::BadOrder(i));
         }
@@ -273,10 +270,9 @@ fn examine_order(tests: usize, order: &[u16]) -> Result<(), Refusal>
             return Err(Refusal::BadOrder(i));
         }
         seen[t] = true;
-        i += 1;
     }
-    if i < tests {
-        return Err(Refusal::BadOrder(i));
+    if order.len() < tests {
+        return Err(Refusal::BadOrder(order.len()));
     }
     Ok(())
 }

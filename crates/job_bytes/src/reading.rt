@@ -29,6 +29,7 @@ fn holds(field: Field, value: usize) -> bool
     (field.low..=field.high).contains(&value) && value != field.absent
 }
 
+// Kept: the bit is a number, as the rule reads it (`read_field`), and counts the bytes of the field.
 // A field, if its bit stands: "cut before value". The next one begins at `at + stands * width`.
 fn read_field(job: &[u8], at: usize, stands: usize, field: Field) -> Result<usize, Refusal>
     requires { (stands ≤ 1) × (field.width ≤ 8) × (at ≤ length job.now) }
@@ -149,14 +150,6 @@ fn read_records(
     Ok(at)
 }
 
-// The first n numbers of `from` go to the front of `to`.
-fn copy_front(to: &mut [u64], from: &[u64], n: usize)
-    requires { (n ≤ length from.now) × (n ≤ length to.old) }
-    ensures { to.new ≡ take n from.now ++ drop n to.old }
-{
-    to[..n].copy_from_slice(&from[..n]);
-}
-
 // The tests behind a head that was read, from `start` on: the records, 6, 9.
 fn read_tests(job: &[u8], head: Head, start: usize, wants: &mut [u64]) -> Result<Head, Refusal>
     requires { read_head job.now ≡ done (got head start (drop start job.now)) }
@@ -172,7 +165,7 @@ fn read_tests(job: &[u8], head: Head, start: usize, wants: &mut [u64]) -> Result
     if wants.len() < tests {
         return Err(Refusal::BufferTooSmall(tests));
     }
-    copy_front(wants, &list, tests);
+    wants[..tests].copy_from_slice(&list[..tests]);
     Ok(head)
 }
 

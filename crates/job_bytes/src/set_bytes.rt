@@ -32,6 +32,7 @@ pub fn read_due(
     if 8 <= group {
         return Ok(0);
     }
+    // Kept: the bit is a number, for want of a branch (see above)
     let stands = ((map >> group) % 2) as usize;
     if rest.len() <= at {
         if stands == 0 {

@@ -1,15 +1,22 @@
 -- Lists that the code of method 3 changes in place: a part that is lent, and sums of lengths.
 use mathlib.Core.Path.{◌≡◌, refl, ap, ◌∙◌}
-use mathlib.Core.List.{List, [], ◌∷◌, ◌++◌, map, append-nil}
+use mathlib.Core.List.{List, [], ◌∷◌, ◌++◌, map, reverse, append-nil, reverse-append, reverse-reverse}
 use Prim.Native.Nat.{ℕ, zero, suc, ◌+◌, ◌-◌, ◌≤◌, ◌<◌}
 use native.Mathlib.Omega.{arith}
-use lib.ListN.{length, get_or, take, drop, set, length-append, length-drop, length-set, replicate, drop_of_length-le}
-use lib.Seq.{take-take, take_all}
+use lib.ListN.{length, get_or, take, drop, set, length-append, length-drop, length-set, length-reverse, replicate, drop_of_length-le}
+use lib.Seq.{take-take, take_all, take_at, drop_at}
 use lib.Seq.{get_or-take, get_or-set_other, split_at, length-take-le}
 use Rattle.std.specs.List.{sum}
 use Rattle.std.proofs.lemmas.List.Sums.{sum_by-append, sum_by-cons, sum_by-set}
 use Rattle.packages.specs.Packages.{flat}
 use Rattle.packages.specs.ContractWords.{joined_entry}
+
+-- ---- two parts exchanged by three reversals
+
+pub three_reversals : (xs : List ℕ) (k : ℕ) → reverse (reverse (take k xs) ++ reverse (drop k xs)) ≡ drop k xs ++ take k xs
+three_reversals xs k =
+    reverse-append (reverse (take k xs)) (reverse (drop k xs)) ∙ ap (λ (l : List ℕ). l ++ reverse (reverse (take k xs))) (reverse-reverse (drop k xs))
+    ∙ ap (λ (l : List ℕ). drop k xs ++ l) (reverse-reverse (take k xs))
 
 -- a part from a to the end: what is lent, and the list with r in its place
 pub tail_lent : (xs : List ℕ) (a : ℕ) → take (length xs - a) (drop a xs) ≡ drop a xs
@@ -19,6 +26,15 @@ pub tail_back : (xs r : List ℕ) (a : ℕ) → take a xs ++ (r ++ drop (length 
 tail_back xs r a =
     ap (λ (l : List ℕ). take a xs ++ (r ++ l)) (drop_of_length-le (drop a xs) {i = length xs - a} (omega (arith, length-drop a xs)))
     ∙ ap (λ (l : List ℕ). take a xs ++ l) (append-nil r)
+
+-- the three reversals where each part is lent and put back: ys is the list after the first
+pub exchanged : (xs ys y z : List ℕ) (k : ℕ) → k ≤ length xs → y ≡ reverse (take k xs) → ys ≡ y ++ drop k xs → z ≡ reverse (take (length ys - k) (drop k ys))
+    → reverse (take k ys ++ (z ++ drop (length ys - k) (drop k ys))) ≡ drop k xs ++ take k xs
+exchanged xs ys y z k h p e q =
+    let n : length y ≡ k = ap length p ∙ length-reverse (take k xs) ∙ length-take-le k xs h in
+    let front : take k ys ≡ reverse (take k xs) = ap (take k) e ∙ take_at y (drop k xs) k n ∙ p in
+    let back : z ≡ reverse (drop k xs) = q ∙ ap reverse (tail_lent ys k ∙ ap (drop k) e ∙ drop_at y (drop k xs) k n) in
+    ap reverse (tail_back ys z k ∙ ap (λ (l : List ℕ). l ++ z) front ∙ ap (λ (l : List ℕ). reverse (take k xs) ++ l) back) ∙ three_reversals xs k
 
 -- ---- sums
 

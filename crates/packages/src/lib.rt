@@ -108,6 +108,17 @@ fn reverse_if(turn: bool, xs: &mut [u16])
     }
 }
 
+// Exchanges the first k entries and the rest, in place: the reverse of two reversed parts.
+// Kept: tried, `rotate_left` keeps 4 kB on the stack, and a host in C is promised that a call takes less than 25 kB.
+fn exchange(xs: &mut [u16], k: usize)
+    requires { k ≤ length xs.old }
+    ensures { xs.new ≡ drop k xs.old ++ take k xs.old }
+{
+    reverse(&mut xs[..k]);
+    reverse(&mut xs[k..]);
+    reverse(xs);
+}
+
 // The number of tests in packages of these lengths.
 fn total(lengths: &[usize]) -> usize
     requires { sum lengths.now ≤ 256 }
@@ -482,7 +493,7 @@ impl Round<'_> {
         let way = self.ways(part, a, from);
         reverse_if(way.first, &mut part[..a]);
         reverse_if(way.second, &mut part[from..]);
-        part[a..].rotate_left(from - a);
+        exchange(&mut part[a..], from - a);
     }
 
     // Joins the tests and the lengths of two packages. The packages lie in the order, one behind the other.

@@ -52,6 +52,7 @@ fn read_groups(plan: &[u8], start: usize, groups: u8, curves: usize) -> Result<S
     Ok(SetRead { set, next })
 }
 
+// Kept: the bit is a number, as the rule reads it (`read_set`): with a bool each contract would turn it back.
 // A set, if its bit stands: "A set is written as a group map and group bytes, neither zero."
 #[tactic(auto, using(crate::proofs::Reading::set_cases), unfolding(crate::specs::ContractWords::set_outcome))]
 fn read_set(plan: &[u8], at: usize, stands: u8, curves: usize) -> Result<SetRead, Refusal>
@@ -316,6 +317,7 @@ fn put_step(test: u16, drops: u64, loads: u64, to: usize, out: &mut [u8]) -> usi
     last + 1
 }
 
+// Kept: the tests, drops and loads of the steps are three lent slices (document 01, Forms) from here up to the calls.
 // Writes the steps of a plan to the beginning of `out`, and answers how many bytes they take.
 fn put_steps(order: &[u16], drops: &[u64], loads: &[u64], out: &mut [u8]) -> usize
     requires tests { (i : ℕ) → i < length order.now → get_or order.now i 0 < 256 }

@@ -1,9 +1,14 @@
--- Digit by digit: the last digit stands behind those of n / 10; and how many digits there are.
+-- Digit by digit: the digits of a number are those that the library prints; and how many there are.
 use mathlib.Core.Path.{◌≡◌, refl, ap, ◌∙◌}
-use mathlib.Core.List.{List, [], ◌∷◌, ◌++◌}
+use mathlib.Core.List.{List, [], ◌∷◌, ◌++◌, map}
 use Prim.Native.Nat.{ℕ, zero, suc, ◌+◌, ◌/◌, ◌%◌, ◌^◌, ◌≤◌, ◌<◌}
+use Prim.Native.Nat.compare
 use native.Mathlib.Omega.{arith}
 use lib.ListN.{length, length-append}
+use Rattle.std.specs.Fmt as Fmt
+use Rattle.std.specs.Int.Digits.{digits_with_fuel}
+use Rattle.std.proofs.lemmas.Fmt.{decimal-digits_of}
+use Rattle.std.proofs.lemmas.List.{map-append}
 use Rattle.report.specs.Report.{high_digits, decimal}
 
 -- as many digits as enough turns give
@@ -23,21 +28,19 @@ high_decimal zero n l p = absurd (omega arith)
 high_decimal (suc h) zero l p = absurd (omega arith)
 high_decimal (suc h) (suc n) l p = ap (λ (ds : List ℕ). ds ++ ((48 + suc n % 10) ∷ [])) (enough h (suc n) (suc n / 10) (omega arith) (omega arith))
 
-last : (n : ℕ) → decimal n ≡ high_digits n (n / 10) ++ ((48 + n % 10) ∷ [])
-unfolding decimal
-last n = refl
-
-pub decimal_more : (n : ℕ) → 10 ≤ n → decimal n ≡ decimal (n / 10) ++ ((48 + n % 10) ∷ [])
-decimal_more n h = last n ∙ ap (λ (ds : List ℕ). ds ++ ((48 + n % 10) ∷ [])) (high_decimal n (n / 10) (omega arith) (omega arith))
-
-none : (h : ℕ) → high_digits h 0 ≡ []
+-- the library's digits
+high_printed : (h n : ℕ) → map (λ d. 48 + d) (digits_with_fuel 10 h n) ≡ high_digits h n
 unfolding high_digits
-none zero = refl
-none (suc h) = refl
+high_printed zero n = refl
+high_printed (suc h) zero = refl
+high_printed (suc h) (suc n) =
+    rw compare.suc-zero (map-append (λ d. 48 + d) (digits_with_fuel 10 h (suc n / 10)) ((suc n % 10) ∷ [])
+    ∙ ap (λ (ds : List ℕ). ds ++ ((48 + suc n % 10) ∷ [])) (high_printed h (suc n / 10)))
 
-pub decimal_one : (n : ℕ) → n < 10 → decimal n ≡ (48 + n % 10) ∷ []
-unfolding decimal
-decimal_one n h = let e : n / 10 ≡ 0 = omega arith in rw (e, none n) refl
+pub printed_decimal : (n : ℕ) → n < 2 ^ 64 → Fmt.decimal n ≡ decimal n
+unfolding decimal high_digits Fmt.digits
+printed_decimal zero l = refl
+printed_decimal (suc n) l = decimal-digits_of (suc n) (omega arith) l ∙ high_printed (suc n) (suc n) ∙ high_decimal (suc n) (suc n) (omega arith) (omega arith)
 
 -- k digits write the numbers below 10 ^ k
 high_length : (k h n : ℕ) → n < 10 ^ k → length (high_digits h n) ≤ k

@@ -5,9 +5,9 @@ use Prim.Native.Nat.{ℕ, ◌≤◌, ◌<◌}
 use native.Mathlib.Omega.{arith}
 use lib.ListN.{length, take, drop, length-append}
 use lib.Seq.{length-take-le}
-use Rattle.std.specs.Prelude.{Ok, Err}
+use Rattle.std.specs.Prelude.{Result, Ok, Err, IsOk}
 use Rattle.job.specs.declared.Refusal.{Refusal}
-use Rattle.job.specs.Refusal.{Outcome, done, refused, outcome, mapped, overwritten, leaves}
+use Rattle.job.specs.Refusal.{Outcome, done, outcome, mapped, overwritten, leaves}
 use Rattle.job.proofs.Laws.{fitting_short, fitting_whole, done_same, refused≢done, done_mapped}
 use Rattle.report.specs.ContractWords.{Wrote, Filled}
 
@@ -29,14 +29,22 @@ module _ (text old : List ℕ) where
         record { answers = rw (f, e) refl; holds = second.written l ∙ rw f refl }
 
 -- a text for which there is always room: its length is answered, and the buffer begins with it
-module _ {text : List ℕ} {o : Outcome (List ℕ)} (fits : o ≡ done text) where
-  pub whole_text : (old : List ℕ) {new : List ℕ} {n : ℕ} → done n ≡ mapped length o → new ≡ leaves o old
-      → record { count : n ≡ length text; bytes : new ≡ overwritten text old }
-  unfolding leaves
-  whole_text old e f = record { count = done_same (e ∙ sym (done_mapped length o text fits)); bytes = f ∙ rw fits refl }
+module _ {text : List ℕ} {o : Outcome (List ℕ)} (fits : o ≡ done text) (r : Result ℕ Refusal) (answer : outcome r ≡ mapped length o) where
+  answered : outcome r ≡ done (length text)
+  answered = answer ∙ sym (done_mapped length o text fits)
 
-  pub never_refused : {k i : ℕ} → refused k i ≡ mapped length o → ⊥
-  never_refused e = refused≢done (e ∙ sym (done_mapped length o text fits))
+  pub never_refused : IsOk r
+  unfolding outcome
+  never_refused = go r answered
+    where
+      go : (r : Result ℕ Refusal) → outcome r ≡ done (length text) → IsOk r
+      go (Ok n) e = refl
+      go (Err x) e = absurd (refused≢done e)
+
+  pub whole_text : (old : List ℕ) {new : List ℕ} {n : ℕ} → r ≡ Ok n → new ≡ leaves o old
+      → record { count : n ≡ length text; bytes : new ≡ overwritten text old }
+  unfolding outcome leaves
+  whole_text old e f = record { count = done_same (sym (ap outcome e) ∙ answered); bytes = f ∙ rw fits refl }
 
 -- .. so as many bytes of the buffer can be lent
 pub whole_lent : (text old new : List ℕ) (n : ℕ) → n ≡ length text → new ≡ overwritten text old → (n ≤ length new) × (n ≡ length (take n new))

@@ -1,6 +1,6 @@
 -- The texts of the sheet, the audit and the table of drive sizes.
 --     Decimal  the numbers of the sheet are in decimal
---     Digits   the last digit of a number, and how many there are
+--     Digits   the digits are those that the library prints, and how many there are
 --     Curves   the curves of a set, from the lowest on
 --     Writing  texts that are put one behind the other
 --     Lines    the lines of the sheet, grouped as they are put

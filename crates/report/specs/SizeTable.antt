@@ -87,7 +87,7 @@ table_buffer bs wanted old = leaves (write_table bs wanted (length old)) old
 
 -- ---- the wanted count
 
--- the count that is asked for, or that none is: `Wanted`, declared in the code
+-- the count that is asked for, or that none is
 unfoldable pub wanted_found : Option ℕ → Found ℕ
 wanted_found (Some loads) = found loads
 wanted_found None = nobody

@@ -10,6 +10,7 @@ use job::{Refusal, Rig};
 
 // Where a list stands, 02's "state": how many curves the drive can hold, those it holds, how many steps were committed, the end step among them, and the wants
 // of the steps in their order, in the first of so many entries as there are tests.
+// Kept: an array with the number of its entries: fixed memory, and C lends such a state.
 #[derive(Clone, Copy)]
 pub struct State {
     pub capacity: usize,

@@ -2,7 +2,7 @@
 -- the rest.
 use mathlib.Core.Path.{◌≡◌}
 use mathlib.Core.Bool.{false}
-use Prim.Native.Nat.{ℕ, ◌≤◌, ◌-◌}
+use Prim.Native.Nat.{ℕ}
 use lib.ListN.{length, get_or, take, drop}
 use Rattle.job.specs.Handed.{listed}
 use Rattle.job.specs.Order.{order_from, order_known}
@@ -11,11 +11,7 @@ use Rattle.job.proofs.examine_order.Given as goal
 abbrev pub invariant-loop-i : goal.invariant-loop-i
 invariant-loop-i l =
     record {
-      turns : l.i ≤ length l.order;
       long : length l.seen ≡ 256;
       marks : (t : ℕ) → get_or l.seen t false ≡ listed (take l.i l.order) t;
       goes : order_known l.tests l.order ≡ order_from l.tests (take l.i l.order) (drop l.i l.order);
     }
-
-abbrev pub decreases-loop-i : goal.decreases-loop-i
-decreases-loop-i l = length l.order - l.i

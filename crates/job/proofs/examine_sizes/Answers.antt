@@ -1,4 +1,4 @@
-use mathlib.Core.Path.{refl, sym, ap, ◌∙◌}
+use mathlib.Core.Path.{sym, ap, ◌∙◌}
 use Prim.Native.Nat.{ℕ}
 use native.Mathlib.Omega.{arith}
 use borrow.Author.Tests.{le-leb, lt-leb}
@@ -13,28 +13,17 @@ use Rattle.job.proofs.examine_sizes.Goals as goal
 pub returns-then-most-size : goal.returns-then-most-size
 unfolding outcome wants_fit
 returns-then-most-size c =
-    sym (c.loop-t.invariant.1
-    ∙ each_fail (λ w. leb (size w) c.args.most) 7 0
-    c.args.wants.now c.loop-t.t (omega arith)
-    (lt-leb (size (get_or c.args.wants.now c.loop-t.t 0)) _
-    (omega arith)) ∙ ap (λ (x : ℕ). refused 7 x) (omega arith))
+    sym (c.loop-t.invariant
+    ∙ each_fail (λ w. leb (size w) c.args.most) 7 0 c.args.wants.now c.loop-t.t c.loop-t-test.true
+    (lt-leb (size (get_or c.args.wants.now c.loop-t.t 0)) _ (omega arith)) ∙ ap (λ (x : ℕ). refused 7 x) (omega arith))
 
 pub loop-t-preserved : goal.loop-t-preserved
-loop-t-preserved c = (
-  omega arith,
-  c.loop-t.invariant.1
-      ∙ each_pass (λ w. leb (size w) c.args.most) 7 0
-      c.args.wants.now c.loop-t.t (omega arith)
-      (le-leb (size (get_or c.args.wants.now c.loop-t.t 0)) _
-      (omega arith)),
-)
+loop-t-preserved c =
+    c.loop-t.invariant
+    ∙ each_pass (λ w. leb (size w) c.args.most) 7 0 c.args.wants.now c.loop-t.t c.loop-t-test.true
+    (le-leb (size (get_or c.args.wants.now c.loop-t.t 0)) _ (omega arith))
 
 pub returns : goal.returns
 unfolding outcome wants_fit
 returns c =
-    sym (c.loop-t.invariant.1
-    ∙ each_end (λ w. leb (size w) c.args.most) 7 0 c.args.wants.now c.loop-t.t
-    (omega arith))
-
-pub loop-t-init : goal.loop-t-init
-loop-t-init c = (omega arith, refl)
+    sym (c.loop-t.invariant ∙ each_end (λ w. leb (size w) c.args.most) 7 0 c.args.wants.now c.loop-t.t c.loop-t-test.false)

@@ -1,49 +1,33 @@
-use mathlib.Core.Path.{◌≡◌, refl, sym, ap, ◌∙◌}
-use Prim.Native.Nat.{ℕ, ◌≤◌, min}
-use native.Mathlib.Omega.{arith}
+use mathlib.Core.Path.{◌≡◌, sym, ap, ◌∙◌}
 use lib.ListN.{get_or}
 use native.Mathlib.Nat.{min-eq_left}
 use Rattle.bitset.specs.Set.{inside, below}
 use Rattle.job.specs.Refusal.{outcome}
 use Rattle.job.specs.Handed.{all_curves, wants_known}
 use Rattle.job.proofs.Laws.{each_pass, each_fail, each_end}
+use Rattle.job.proofs.examine_wants.Goals.{After-inside}
 use Rattle.job.proofs.examine_wants.Goals as goal
 
--- the numbers below the number of curves, and below 64
-all_curves_lem : (n r : ℕ) → r ≡ below (min n 64) → n ≤ 64 → r ≡ all_curves n
-all_curves_lem n r e h = e ∙ ap below (min-eq_left h)
+-- the curves below the number of curves, which is at most 64
+own : (c : After-inside) → inside (get_or c.args.wants.now c.loop-t.t 0) (all_curves c.args.curves) ≡ c.inside.result
+own c =
+    let all = c.below-all.ensures ∙ ap below (min-eq_left c.requires.0) in
+    ap (inside (get_or c.args.wants.now c.loop-t.t 0)) (sym all) ∙ sym c.inside.ensures
+
+pub returns-then-not-inside : goal.returns-then-not-inside
+unfolding outcome wants_known
+returns-then-not-inside c =
+    let o = own (goal.at.returns-then-not-inside c).After-inside in
+    sym (c.loop-t.invariant
+    ∙ each_fail (λ w. inside w (all_curves c.args.curves)) 10 4 c.args.wants.now c.loop-t.t c.loop-t-test.true (o ∙ c.if-not-inside.true))
 
 pub loop-t-preserved : goal.loop-t-preserved
-loop-t-preserved c = (
-  omega arith,
-  c.loop-t.invariant.1
-      ∙ each_pass (λ w. inside w (all_curves c.args.curves)) 10 4
-      c.args.wants.now c.loop-t.t (omega arith)
-      (ap (λ (x : ℕ). inside (get_or c.args.wants.now
-      c.loop-t.t 0) x)
-      (sym (all_curves_lem c.args.curves
-      c.below-all.result c.below-all.ensures
-      c.requires.0)) ∙ sym c.inside.ensures ∙ c.if-inside.true),
-)
-
-pub returns-else-inside : goal.returns-else-inside
-unfolding outcome wants_known
-returns-else-inside c =
-    sym (c.loop-t.invariant.1
-    ∙ each_fail (λ w. inside w (all_curves c.args.curves)) 10 4
-    c.args.wants.now c.loop-t.t (omega arith)
-    (ap (λ (x : ℕ). inside (get_or c.args.wants.now
-    c.loop-t.t 0) x)
-    (sym (all_curves_lem c.args.curves
-    c.below-all.result c.below-all.ensures
-    c.requires.0)) ∙ sym c.inside.ensures ∙ c.if-inside.false))
+loop-t-preserved c =
+    let o = own (goal.at.loop-t-preserved c).After-inside in
+    c.loop-t.invariant
+    ∙ each_pass (λ w. inside w (all_curves c.args.curves)) 10 4 c.args.wants.now c.loop-t.t c.loop-t-test.true (o ∙ c.if-not-inside.false)
 
 pub returns : goal.returns
 unfolding outcome wants_known
 returns c =
-    sym (c.loop-t.invariant.1
-    ∙ each_end (λ w. inside w (all_curves c.args.curves)) 10 4 c.args.wants.now
-    c.loop-t.t (omega arith))
-
-pub loop-t-init : goal.loop-t-init
-loop-t-init c = (omega arith, refl)
+    sym (c.loop-t.invariant ∙ each_end (λ w. inside w (all_curves c.args.curves)) 10 4 c.args.wants.now c.loop-t.t c.loop-t-test.false)

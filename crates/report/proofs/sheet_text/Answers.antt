@@ -2,7 +2,7 @@
 use mathlib.Core.Path.{◌≡◌}
 use native.Mathlib.Omega.{arith}
 use lib.ListN.{length}
-use Rattle.job.specs.Refusal.{done, outcome}
+use Rattle.job.specs.Refusal.{done}
 use Rattle.planned.proofs.Reading.{bytes_of}
 use Rattle.report.specs.Report.{sheet, write_sheet, sheet_answer, sheet_buffer}
 use Rattle.report.proofs.Fitted.{whole_text, never_refused}
@@ -13,12 +13,12 @@ use Rattle.report.proofs.sheet_text.Goals as goal
 fits : (c : After-write_report) → let a = c.args in write_sheet a.job.now (length a.text.now) ≡ done (sheet a.job.now)
 fits c = sheet_fits c.args.job.now _ (bytes_of _ (λ k l. omega (arith, c.type_inv.job k))) (omega (arith, c.told-text))
 
-pub returns-in-Ok : goal.returns-in-Ok
-unfolding outcome sheet_answer sheet_buffer
-returns-in-Ok c =
-    let r = c.in-Ok.ensures in
-    whole_text (fits (goal.at.returns-in-Ok c).After-write_report) _ r.answer r.bytes
+pub unwrap-requires : goal.unwrap-requires
+unfolding sheet_answer
+unwrap-requires c = never_refused (fits (goal.at.unwrap-requires c).After-write_report) _ c.write_report.ensures.answer
 
-pub returns-in-Err : goal.returns-in-Err
-unfolding outcome sheet_answer
-returns-in-Err c = absurd (never_refused (fits (goal.at.returns-in-Err c).After-write_report) c.in-Err.ensures.answer)
+pub returns : goal.returns
+unfolding sheet_answer sheet_buffer
+returns c =
+    let r = c.write_report.ensures in
+    whole_text (fits (goal.at.returns c).After-write_report) _ r.answer _ c.unwrap.ensures r.bytes

@@ -1,23 +1,23 @@
 -- The cases of the rule.
 use mathlib.Core.Bool.{false}
 use mathlib.Core.Path.{◌≡◌, refl}
-use Prim.Native.Nat.{ℕ}
-use Rattle.std.specs.Prelude.{Option, Some, None}
+use Rattle.drive.specs.declared.choice.NextUse.{NextUse}
+use Rattle.drive.specs.declared.choice.NextUse.TheVariants.{At, Never}
 use Rattle.drive.specs.Uses.{further}
 use Rattle.drive.proofs.choice.further.Goals as goal
 
-than_never : (u : Option ℕ) → false ≡ further u None
+than_never : (u : NextUse) → false ≡ further u Never
 unfolding further
-than_never None = refl
-than_never (Some m) = refl
+than_never Never = refl
+than_never (At m) = refl
 
-pub returns-in_default-None : goal.returns-in_default-None
-returns-in_default-None c = rw c.in_default-None.is-1 (than_never c.args.a.next)
+pub returns-in_default-Never : goal.returns-in_default-Never
+returns-in_default-Never c = rw c.in_default-Never.is-1 (than_never c.args.a.next)
 
-pub returns-in-None-Some : goal.returns-in-None-Some
+pub returns-in-Never-At : goal.returns-in-Never-At
 unfolding further
-returns-in-None-Some c = let p = c.in-None-Some in rw (p.is-0, p.is-1)
+returns-in-Never-At c = let p = c.in-Never-At in rw (p.is-0, p.is-1)
 
-pub returns-in-Some-Some : goal.returns-in-Some-Some
+pub returns-in-At-At : goal.returns-in-At-At
 unfolding further
-returns-in-Some-Some c = let p = c.in-Some-Some in rw (p.is-0, p.is-1)
+returns-in-At-At c = let p = c.in-At-At in rw (p.is-0, p.is-1)

@@ -3,7 +3,7 @@ use Prim.Native.Nat.{ℕ}
 use mathlib.Core.Path.{◌≡◌, refl, sym, ◌∙◌}
 use mathlib.Core.Bool.{true, false≢true}
 use native.Mathlib.Omega.{arith}
-use Rattle.std.specs.Prelude.{Some, None}
+use Rattle.drive.specs.declared.choice.NextUse.TheVariants.{At, Never}
 use Rattle.drive.specs.Uses.{further}
 use Rattle.drive.proofs.Staying.{first_of_same}
 use Rattle.drive.proofs.choice.furthest.Goals as goal
@@ -21,7 +21,7 @@ returns-then-further c =
     let f = c.first_to_go-2.ensures in
     record { of_never = λ ws h used. first_of_same ws _ _ _ (f.member h) f.highest used; of_group = λ ws z. absurd (c.if-never-eq0.false z) }
 
-never_further : (m : ℕ) → further None (Some m) ≡ true
+never_further : (m : ℕ) → further Never (At m) ≡ true
 unfolding further
 never_further m = refl
 

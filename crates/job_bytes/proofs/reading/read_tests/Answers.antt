@@ -1,9 +1,9 @@
 -- `job_bytes::reading::read_tests` meets its contract: the head that was read, its records, and then what comes behind them.
-use mathlib.Core.Path.{◌≡◌, sym, ◌∙◌}
-use mathlib.Core.List.{List, []}
+use mathlib.Core.Path.{◌≡◌, sym, ap, ◌∙◌}
+use mathlib.Core.List.{List, [], ◌++◌}
 use Prim.Native.Nat.{ℕ}
 use native.Mathlib.Omega.{arith}
-use lib.ListN.{length, take, drop}
+use lib.ListN.{length, take, drop, length-take}
 use lib.Seq.{length-take-le}
 use Rattle.job.specs.Refusal.{done, outcome}
 use Rattle.job_bytes.specs.SetBytes.{got}
@@ -63,10 +63,16 @@ returns-then-wants-tests c =
     (whole_read a.job.now a.head a.start c.requires (sets d) (end d) (records d) (omega arith)) c.if-wants-tests.true in
     record { answer = both.0; lent = both.1 }
 
-pub copy_front-requires : goal.copy_front-requires
-copy_front-requires c =
-    let long : length c.read_records.new.list ≡ 256 = c.read_records.auto.list in
-    (omega (arith, (head_range c.args.job.now _ c.requires).tests), c.if-wants-tests.false)
+pub slice_bounds-list-end : goal.slice_bounds-list-end
+slice_bounds-list-end c = omega (arith, c.read_records.auto.list, (head_range c.args.job.now _ c.requires).tests)
+
+pub slice_bounds-copy_from_slice-end-3 : goal.slice_bounds-copy_from_slice-end-3
+slice_bounds-copy_from_slice-end-3 c =
+    omega (arith, length-take {A = ℕ}, c.read_records.auto.list, (head_range c.args.job.now _ c.requires).tests)
+
+pub copy_from_slice-requires : goal.copy_from_slice-requires
+copy_from_slice-requires c =
+    omega (arith, length-take {A = ℕ}, c.read_records.auto.list, (head_range c.args.job.now _ c.requires).tests)
 
 pub returns-in_err-end : goal.returns-in_err-end
 unfolding outcome
@@ -86,4 +92,4 @@ returns c =
     let count : length (sets d) ≡ a.head.tests = length-take-le a.head.tests (list d) (omega (arith, (head_range a.job.now _ c.requires).tests)) in
     let w = job_fits a.job.now a.wants.now _
     (whole_read a.job.now a.head a.start c.requires (sets d) (end d) (records d) (omega arith)) c.if-wants-tests.false in
-    record { answer = w.0; lent = c.copy_front.ensures ∙ rw count at w.1 }
+    record { answer = w.0; lent = ap (λ (x : List ℕ). x ++ drop a.head.tests a.wants.now) c.copy_from_slice.ensures.after ∙ rw count at w.1 }

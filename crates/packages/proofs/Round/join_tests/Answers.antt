@@ -22,7 +22,7 @@ returns c =
     let front : take a p ≡ x = ap (take a) e ∙ take_at x (y ++ z) a f in
     let n : length (x ++ y) ≡ from = omega (arith, length-append x y, ap length e, length-append x (y ++ z), length-append y z) in
     let back : drop from p ≡ z = ap (drop from) (e ∙ sym (append_assoc x y z)) ∙ drop_at (x ++ y) z from n in
-    runs.joined_part way.result.first way.result.second p q r x y z one.new.xs two.new.xs c.rotate_left.new.self a
+    runs.joined_part way.result.first way.result.second p q r x y z one.new.xs two.new.xs c.exchange.new.xs a
     c.args.b from e f g refl
-    one.ensures refl two.ensures refl c.rotate_left.ensures.after
+    one.ensures refl two.ensures refl c.exchange.ensures
     ∙ ap (λ (l : List ℕ). l ++ y) (sym (rw (front, back) at way.ensures))

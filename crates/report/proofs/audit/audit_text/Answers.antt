@@ -2,7 +2,7 @@
 use mathlib.Core.Path.{◌≡◌}
 use native.Mathlib.Omega.{arith}
 use lib.ListN.{length}
-use Rattle.job.specs.Refusal.{done, outcome}
+use Rattle.job.specs.Refusal.{done}
 use Rattle.planned.proofs.Reading.{bytes_of}
 use Rattle.report.specs.Audit.{audit, audit_text, write_audit, audit_answer, audit_buffer}
 use Rattle.report.proofs.Fitted.{whole_text, never_refused}
@@ -15,12 +15,12 @@ fits : (c : After-write_audit) →
     write_audit a.job.now a.plan.now (length a.text.now) ≡ done (audit_text (audit a.job.now a.plan.now))
 fits c = audit_fits c.args.job.now c.args.plan.now _ (bytes_of _ (λ k l. omega (arith, c.type_inv.job k))) (omega (arith, c.told-text))
 
-pub returns-in-Ok : goal.returns-in-Ok
-unfolding outcome audit_answer audit_buffer
-returns-in-Ok c =
-    let r = c.in-Ok.ensures in
-    whole_text (fits (goal.at.returns-in-Ok c).After-write_audit) _ r.answer r.bytes
+pub unwrap-requires : goal.unwrap-requires
+unfolding audit_answer
+unwrap-requires c = never_refused (fits (goal.at.unwrap-requires c).After-write_audit) _ c.write_audit.ensures.answer
 
-pub returns-in-Err : goal.returns-in-Err
-unfolding outcome audit_answer
-returns-in-Err c = absurd (never_refused (fits (goal.at.returns-in-Err c).After-write_audit) c.in-Err.ensures.answer)
+pub returns : goal.returns
+unfolding audit_answer audit_buffer
+returns c =
+    let r = c.write_audit.ensures in
+    whole_text (fits (goal.at.returns c).After-write_audit) _ r.answer _ c.unwrap.ensures r.bytes

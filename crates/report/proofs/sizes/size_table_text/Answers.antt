@@ -2,7 +2,7 @@
 use mathlib.Core.Path.{◌≡◌}
 use native.Mathlib.Omega.{arith}
 use lib.ListN.{length}
-use Rattle.job.specs.Refusal.{done, outcome}
+use Rattle.job.specs.Refusal.{done}
 use Rattle.planned.proofs.Reading.{bytes_of}
 use Rattle.report.specs.SizeTable.{size_table, write_table, table_answer, table_buffer, wanted_found}
 use Rattle.report.proofs.Fitted.{whole_text, never_refused}
@@ -19,12 +19,12 @@ fits c =
     table_fits a.job.now (wanted_found a.wanted) _ (bytes_of _ (λ k l. omega (arith, c.type_inv.job k))) (asked_word a.wanted _ c.well_formed.1.0)
     (omega (arith, c.told-text))
 
-pub returns-in-Ok : goal.returns-in-Ok
-unfolding outcome table_answer table_buffer
-returns-in-Ok c =
-    let r = c.in-Ok.ensures in
-    whole_text (fits (goal.at.returns-in-Ok c).After-write_size_table) _ r.answer r.bytes
+pub unwrap-requires : goal.unwrap-requires
+unfolding table_answer
+unwrap-requires c = never_refused (fits (goal.at.unwrap-requires c).After-write_size_table) _ c.write_size_table.ensures.answer
 
-pub returns-in-Err : goal.returns-in-Err
-unfolding outcome table_answer
-returns-in-Err c = absurd (never_refused (fits (goal.at.returns-in-Err c).After-write_size_table) c.in-Err.ensures.answer)
+pub returns : goal.returns
+unfolding table_answer table_buffer
+returns c =
+    let r = c.write_size_table.ensures in
+    whole_text (fits (goal.at.returns c).After-write_size_table) _ r.answer _ c.unwrap.ensures r.bytes
