@@ -18,12 +18,12 @@ pub loop-c-preserved : goal.loop-c-preserved
 loop-c-preserved c =
     let l = c.loop-c in
     let s = c.in-Some.ensures.steps in
-    rw (s.2, s.1)
+    rw s.2
     record {
-      range = omega (arith, fewer 64 l.c-iterator.left s.0 l.invariant.range);
+      range = rw s.1 (omega (arith, fewer 64 l.c-iterator.left s.0 l.invariant.range));
       rest =
-          rest_put (rw (curves_lowest 64 l.c-iterator.left s.0 l.invariant.range) at l.invariant.rest)
-          (c.byte.ensures then rw s.1 at c.decimal.ensures);
+          rest_put (rw (curves_lowest 64 l.c-iterator.left s.0 l.invariant.range, ← s.1) at l.invariant.rest)
+          (c.byte.ensures then c.decimal.ensures);
     }
 
 pub returns : goal.returns
