@@ -2,7 +2,9 @@
 // Sets of numbers below 64, each as one u64: k is an element where bit k is set.
 ghost use Rattle.std.specs.Prelude.{◌≡◌, ◌%◌, ◌^◌, min, eqb};
 ghost use Rattle.std.specs.Int.Count.{count_trailing_zeros};
+ghost use Rattle.std.specs.Iterator.{at_most};
 ghost use Rattle.bitset.specs.Set.{◌∩◌, ◌∪◌, ◌∖◌, size, bit, inside, below};
+ghost use Rattle.bitset.specs.Walk.{LowestFirst};
 
 // How many elements.
 pub fn size(s: u64) -> usize
@@ -72,4 +74,36 @@ pub fn below(n: usize) -> u64
     ensures { result ≡ below (min n 64) }
 {
     if n < 64 { (1u64 << n) - 1 } else { !0u64 }
+}
+
+// ---- the walk over a set
+
+// Its elements in rising order: those that are left.
+#[derive(Drop)]
+pub struct Rising {
+    left: u64,
+}
+
+// All elements, the lowest first.
+pub fn elements(s: u64) -> Rising
+    ensures { result.left ≡ s }
+{
+    Rising { left: s }
+}
+
+impl Iterator for Rising {
+    type Item = usize;
+
+    ghost next_gives = { LowestFirst };
+
+    ghost remaining = { λ s. at_most (size s.left) };
+
+    fn next(&mut self) -> Option<usize> {
+        if self.left == 0 {
+            return None;
+        }
+        let k = lowest(self.left);
+        self.left = without_lowest(self.left);
+        Some(k)
+    }
 }

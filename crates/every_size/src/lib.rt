@@ -21,13 +21,10 @@ fn load_wanted(want: u64, slots: &mut [usize; 64], loads: &mut [u16; 65])
     ensures wanted { (c : ℕ) → bit c want ≡ 1 → get_or slots.new c 0 ≡ 0 }
     ensures others { (c : ℕ) → bit c want ≡ 0 → get_or slots.new c 0 ≡ get_or slots.old c 0 }
 {
-    let mut left = want;
-    while left != 0 {
-        let c = bitset::lowest(left);
+    for c in bitset::elements(want) {
         let s = slots[c];
         loads[s] += 1;
         slots[c] = 0;
-        left = bitset::without_lowest(left);
     }
 }
 
@@ -37,14 +34,11 @@ fn place_group(group: u64, free: u64, slots: &mut [usize; 64]) -> u64
         → NextGroup others placed group ws → Placing hold w others placed free ws before slots.old
         → Placing hold w others (placed ∪ group) result ws before slots.new }
 {
-    let mut left = group;
     let mut vacant = free;
-    while left != 0 {
-        let c = bitset::lowest(left);
+    for c in bitset::elements(group) {
         let s = bitset::lowest(bitset::without(vacant, bitset::below(slots[c])));
         slots[c] = s;
         vacant = bitset::without(vacant, bitset::single(s));
-        left = bitset::without_lowest(left);
     }
     vacant
 }
@@ -59,7 +53,7 @@ fn place_others(wanted: usize, others: u64, later: &[u64], slots: &mut [usize; 6
     let mut free = bitset::without(bitset::below(64), bitset::below(wanted));
     let mut left = others;
     let mut k: usize = 0;
-    // Kept: a `while`: a `for` over the later steps tests for their end too: tried, the counts of all sizes took 6 to 20% longer.
+    // Kept: a `while`: a `for` over the later steps tests for their end too: tried, the counts of all sizes took 20 to 35% longer.
     while left != 0 {
         let group = bitset::common(left, later[k]);
         free = place_group(group, free, slots);

@@ -80,11 +80,9 @@ impl Text<'_> {
         if s == 0 {
             return self.text(b" none");
         }
-        let mut left = s;
-        while left != 0 {
+        for c in bitset::elements(s) {
             self.byte(b' ');
-            self.decimal(bitset::lowest(left));
-            left = bitset::without_lowest(left);
+            self.decimal(c);
         }
     }
 }

@@ -2,46 +2,44 @@ use Prim.Native.Nat.{◌<◌}
 use mathlib.Core.Path.{◌≡◌, ◌∙◌}
 use native.Mathlib.Omega.{arith}
 use borrow.Author.Rules.{rules}
-use lib.Count.{count_trailing_zeros}
 use lib.ListN.{get_or, length-set}
 use Rattle.bitset.specs.Set.{bit}
 use Rattle.bitset.proofs.Element.{lowest_in, lowest_lt}
 use Rattle.drive.proofs.Walk.{walk_size}
 use Rattle.every_size.proofs.Loads.{entry_le, loaded_next, loaded_end}
-use Rattle.every_size.proofs.load_wanted.Goals.{After-lowest-c}
+use Rattle.every_size.proofs.load_wanted.Goals.{In-Some}
 use Rattle.every_size.proofs.load_wanted.Goals as goal
 
-some_left : (c : After-lowest-c) → 0 < c.loop-left.left
-some_left c = omega (arith, c.loop-left-test.true)
+small : (c : In-Some) → c.in-Some.c < 64
+small c = let s = c.in-Some.ensures.steps in rw s.1 (lowest_lt 64 _ s.0 c.loop-c.invariant.range)
 
-small : (c : After-lowest-c) → c.lowest-c.result < 64
-small c = let q = c.loop-left in rw c.lowest-c.ensures (lowest_lt 64 q.left (some_left c) q.invariant.range)
+pub loop-c-init : goal.loop-c-init
+loop-c-init c = rw (c.into_iter-c-iterator.ensures.into_iter_gives, c.elements-c-items.ensures) (search rules)
+
+pub bounds-slots-c : goal.bounds-slots-c
+bounds-slots-c c = small (goal.at.bounds-slots-c c).In-Some
+
+pub bounds-slots-c-in-loop-c : goal.bounds-slots-c-in-loop-c
+bounds-slots-c-in-loop-c c = small (goal.at.bounds-slots-c-in-loop-c c).In-Some
 
 pub overflow_add-loads : goal.overflow_add-loads
 overflow_add-loads c =
-    let q = c.loop-left in
-    let s = get_or q.slots c.lowest-c.result 0 in
-    omega (arith, entry_le q.loads s, q.invariant.loaded.few, walk_size q.left (some_left (goal.at.overflow_add-loads c).After-lowest-c) q.invariant.range)
+    let q = c.loop-c in
+    let s = get_or q.slots c.in-Some.c 0 in
+    omega (arith, entry_le q.loads s, q.invariant.loaded.few, walk_size q.c-iterator.left c.in-Some.ensures.steps.0 q.invariant.range)
 
-pub loop-left-smaller : goal.loop-left-smaller
-loop-left-smaller c =
-    let q = c.loop-left in
-    rw c.without_lowest-left.ensures (omega (arith, walk_size q.left (some_left (goal.at.loop-left-smaller c).After-lowest-c) q.invariant.range))
-
-pub loop-left-preserved : goal.loop-left-preserved
-loop-left-preserved c =
-    let q = c.loop-left in
+pub loop-c-preserved : goal.loop-c-preserved
+loop-c-preserved c =
+    let q = c.loop-c in
     let i = q.invariant in
-    let first : c.lowest-c.result ≡ count_trailing_zeros 64 q.left = c.lowest-c.ensures in
-    let mine : bit c.lowest-c.result q.left ≡ 1 = rw first (lowest_in 64 q.left (some_left (goal.at.loop-left-preserved c).After-lowest-c) i.range) in
+    let s = c.in-Some.ensures.steps in
+    let mine : bit c.in-Some.c q.c-iterator.left ≡ 1 = rw s.1 (lowest_in 64 q.c-iterator.left s.0 i.range) in
     record {
       range = search rules;
       long = length-set q.slots _ _ ∙ i.long;
       long_loads = length-set q.loads _ _ ∙ i.long_loads;
-      loaded = rw (c.without_lowest-left.ensures, ← first)
-          (loaded_next i.loaded c.lowest-c.result mine (omega (arith, small (goal.at.loop-left-preserved c).After-lowest-c, i.long))
-          (omega (arith, i.long_loads)));
+      loaded = rw s.2 (loaded_next i.loaded c.in-Some.c mine (omega (arith, small (goal.at.loop-c-preserved c).In-Some, i.long)) (omega (arith, i.long_loads)));
     }
 
 pub returns-clause-loaded : goal.returns-clause-loaded
-returns-clause-loaded c = (loaded_end (rw c.loop-left-test.false at c.loop-left.invariant.loaded)).0
+returns-clause-loaded c = (loaded_end (rw c.in-None.ensures.steps.0 at c.loop-c.invariant.loaded)).0

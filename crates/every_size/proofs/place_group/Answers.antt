@@ -5,9 +5,10 @@ use borrow.Author.Rules.{rules}
 use lib.ListN.{length-set}
 use Rattle.bitset.specs.Set.{◌∪◌, ◌∖◌}
 use Rattle.bitset.proofs.Bits.{bit-∪, bit-∖, bit_empty, same_by_bits}
-use Rattle.drive.proofs.Walk.{walk_start, walk_on, walk_size}
+use Rattle.bitset.proofs.Element.{lowest_lt}
+use Rattle.drive.proofs.Walk.{walk_start, walk_on}
 use Rattle.every_size.proofs.Places.{place_next}
-use Rattle.every_size.proofs.place_group.Goals.{After-lowest-c}
+use Rattle.every_size.proofs.place_group.Goals.{In-Some}
 use Rattle.every_size.proofs.place_group.Goals as goal
 
 -- before the walk, and behind it
@@ -17,8 +18,11 @@ none_passed placed group = same_by_bits _ _ (λ c. omega (arith, bit-∪ c place
 all_passed : (placed group : ℕ) → placed ∪ (group ∖ 0) ≡ placed ∪ group
 all_passed placed group = same_by_bits _ _ (λ c. omega (arith, bit-∪ c placed (group ∖ 0), bit-∪ c placed group, bit-∖ c group 0, bit_empty c))
 
-pub loop-left-init : goal.loop-left-init
-loop-left-init c =
+small : (c : In-Some) → c.in-Some.c < 64
+small c = let s = c.in-Some.ensures.steps in rw s.1 (lowest_lt 64 _ s.0 c.loop-c.invariant.range)
+
+pub loop-c-init : goal.loop-c-init
+loop-c-init c = rw (c.into_iter-c-iterator.ensures.into_iter_gives, c.elements-c-items.ensures)
     record {
       walked = walk_start _;
       range = search rules;
@@ -27,41 +31,33 @@ loop-left-init c =
       places = λ hold w seen others placed ws before wait next at. rw (none_passed placed _) at;
     }
 
-some_left : (c : After-lowest-c) → 0 < c.loop-left.left
-some_left c = omega (arith, c.loop-left-test.true)
+pub bounds-slots-c : goal.bounds-slots-c
+bounds-slots-c c = small (goal.at.bounds-slots-c c).In-Some
 
-pub loop-left-smaller : goal.loop-left-smaller
-loop-left-smaller c =
-    let q = c.loop-left in
-    rw c.without_lowest-left.ensures (omega (arith, walk_size q.left (some_left (goal.at.loop-left-smaller c).After-lowest-c) q.invariant.range))
+pub bounds-slots-c-in-loop-c : goal.bounds-slots-c-in-loop-c
+bounds-slots-c-in-loop-c c = small (goal.at.bounds-slots-c-in-loop-c c).In-Some
 
-pub loop-left-preserved : goal.loop-left-preserved
-loop-left-preserved c =
-    let q = c.loop-left in
+pub loop-c-preserved : goal.loop-c-preserved
+loop-c-preserved c =
+    let q = c.loop-c in
     let i = q.invariant in
+    let s = c.in-Some.ensures.steps in
+    rw (s.2, s.1)
     record {
-      walked = rw c.without_lowest-left.ensures (walk_on _ q.left i.walked);
+      walked = walk_on _ q.c-iterator.left i.walked;
       range = search rules;
       vacant_range = search rules;
       long = length-set q.slots _ _ ∙ i.long;
       places =
-          λ hold w' seen others placed ws before wait next at. rw (
-            c.without_lowest-left.ensures,
-            c.without-vacant.ensures,
-            c.single.ensures,
-            c.lowest-s.ensures,
-            c.without.ensures,
-            c.below.ensures,
-            c.lowest-c.ensures,
-          )
-          (place_next wait next i.walked (some_left (goal.at.loop-left-preserved c).After-lowest-c) i.range i.vacant_range (omega (arith, i.long))
-          (i.places hold w' seen others placed ws before wait next at));
+          λ hold w' seen others placed ws before wait next at.
+          rw (c.without-vacant.ensures, c.single.ensures, c.lowest-s.ensures, c.without.ensures, c.below.ensures, s.1)
+          (place_next wait next i.walked s.0 i.range i.vacant_range (omega (arith, i.long)) (i.places hold w' seen others placed ws before wait next at));
     }
 
 pub returns : goal.returns
 returns c =
-    let q = c.loop-left in
+    let q = c.loop-c in
     let g = c.args.group in
     λ hold w seen others placed ws before wait next at.
-    let all : placed ∪ (g ∖ q.left) ≡ placed ∪ g = ap (λ (x : ℕ). placed ∪ (g ∖ x)) c.loop-left-test.false ∙ all_passed placed g in
+    let all : placed ∪ (g ∖ q.c-iterator.left) ≡ placed ∪ g = ap (λ (x : ℕ). placed ∪ (g ∖ x)) c.in-None.ensures.steps.0 ∙ all_passed placed g in
     rw all at (q.invariant.places hold w seen others placed ws before wait next at)

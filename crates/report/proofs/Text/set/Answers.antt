@@ -1,4 +1,3 @@
-use mathlib.Core.Path.{◌≡◌}
 use native.Mathlib.Omega.{arith}
 use Rattle.report.specs.Report.{text}
 use Rattle.report.proofs.Curves.{curves_lowest, curves_none, fewer, set_none, set_some}
@@ -9,28 +8,23 @@ pub returns-then-s-eq0 : goal.returns-then-s-eq0
 unfolding text
 returns-then-s-eq0 c = rw (set_none c.args.s c.if-s-eq0.true) c.text.ensures
 
-pub loop-left-init : goal.loop-left-init
-loop-left-init c = record { range = omega arith; rest = rw (set_some c.args.s c.if-s-eq0.false) (λ end w. w) }
-
-pub loop-left-smaller : goal.loop-left-smaller
-loop-left-smaller c =
-    let l = c.loop-left in
-    omega (arith, c.without_lowest-left.ensures, fewer 64 l.left (omega arith) l.invariant.range)
+pub loop-c-init : goal.loop-c-init
+loop-c-init c =
+    rw (c.into_iter-c-iterator.ensures.into_iter_gives, c.elements-c-items.ensures)
+    record { range = omega arith; rest = rw (set_some c.args.s c.if-s-eq0.false) (λ end w. w) }
 
 -- the lowest curve is put next
-pub loop-left-preserved : goal.loop-left-preserved
-loop-left-preserved c =
-    let l = c.loop-left in
+pub loop-c-preserved : goal.loop-c-preserved
+loop-c-preserved c =
+    let l = c.loop-c in
+    let s = c.in-Some.ensures.steps in
+    rw s.2
     record {
-      range = omega (arith, c.without_lowest-left.ensures, fewer 64 l.left (omega arith) l.invariant.range);
+      range = rw s.1 (omega (arith, fewer 64 l.c-iterator.left s.0 l.invariant.range));
       rest =
-          rw c.without_lowest-left.ensures
-          (rest_put (rw (curves_lowest 64 l.left (omega (arith, c.loop-left-test.true)) l.invariant.range) at l.invariant.rest)
-          (c.byte.ensures then rw c.lowest.ensures at c.decimal.ensures));
+          rest_put (rw (curves_lowest 64 l.c-iterator.left s.0 l.invariant.range, ← s.1) at l.invariant.rest)
+          (c.byte.ensures then c.decimal.ensures);
     }
 
 pub returns : goal.returns
-returns c =
-    let l = c.loop-left in
-    let z : l.left ≡ 0 = omega arith in
-    rest_none (rw (z, curves_none 64 0) at l.invariant.rest)
+returns c = let l = c.loop-c in rest_none (rw (c.in-None.ensures.steps.0, curves_none 64 0) at l.invariant.rest)
