@@ -183,13 +183,8 @@ pub fn read_plan(
     ensures lists { set_lists drops.new loads.new ≡ read_plan_lists curves tests plan.now order.old (set_lists drops.old loads.old) }
 {
     let end = examine_plan(curves, tests, plan)?;
-    if order.len() < tests {
-        return Err(Refusal::BufferTooSmall(tests));
-    }
-    if drops.len() < tests {
-        return Err(Refusal::BufferTooSmall(tests));
-    }
-    if loads.len() < tests {
+    let shortest = order.len().min(drops.len()).min(loads.len());
+    if shortest < tests {
         return Err(Refusal::BufferTooSmall(tests));
     }
     fill_lists(curves, tests, plan, order, drops, loads);

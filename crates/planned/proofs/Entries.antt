@@ -3,9 +3,9 @@ use mathlib.Core.Path.{◌≡◌, refl, sym, ap, ◌∙◌, subst}
 use mathlib.Core.List.{List}
 use Prim.Native.Nat.{ℕ, ◌≤◌}
 use native.Mathlib.Omega.{arith}
-use lib.ListN.{length, take, length-map}
-use Rattle.std.specs.Prelude.{Result, Ok, Err}
-use Rattle.job.specs.declared.Head.{Head}
+use lib.ListN.{length, take, get_or, length-map}
+use Rattle.std.specs.Prelude.{Ok, Err}
+use Rattle.std.proofs.Common.{Fits, w8}
 use Rattle.job.specs.declared.Refusal.{Refusal}
 use Rattle.job.specs.Refusal.{Outcome, done, refused, number, figure, ◌>>=◌, ◌>>◌, mapped, leaves, outcome}
 use Rattle.job.specs.Words.{capacity}
@@ -23,6 +23,7 @@ use Rattle.planned.specs.declared.JobPlan.{JobPlan}
 use Rattle.planned.specs.Planned.{Planned, order_request, plan_in_order, order_and_plan, plan_job}
 use Rattle.planned.specs.ContractWords.{told}
 use Rattle.planned.specs.ContractWords.{Lists, leaves_lists, shortest, plan_job_answer, kept_unless, plan_job_lists}
+use Rattle.planned.proofs.Reading.{bytes_of}
 use Rattle.planned.proofs.Stages.{order_long}
 
 pub record First (p : Planned) (l : Lists) : Type 0 where
@@ -36,19 +37,19 @@ pub record First (p : Planned) (l : Lists) : Type 0 where
   pub loads_long : length p.plan.loads ≡ p.request.head.tests
 
 -- what `plan_job` gave: in the first entries of the lists, with the end set
-pub record Given (bs : List ℕ) (h : Head) (m end : ℕ) (new : Lists) : Type 0 where
+pub record Given (bs : List ℕ) (made : JobPlan) (new : Lists) : Type 0 where
   pub planned : Planned
   pub is : plan_job bs ≡ done planned
-  pub head : planned.request.head ≡ h
-  pub count : m ≡ curve_count (take h.tests new.sets.loads)
-  pub few : h.tests ≤ 256
-  pub room : capacity h.rig ≤ 64
-  pub method : h.method ≤ 3
-  pub order : take h.tests new.order ≡ planned.order
-  pub plan : first h.tests new.sets end ≡ planned.plan
-  pub order_long : length (take h.tests new.order) ≡ h.tests
-  pub drops_long : length (take h.tests new.sets.drops) ≡ h.tests
-  pub loads_long : length (take h.tests new.sets.loads) ≡ h.tests
+  pub head : planned.request.head ≡ made.head
+  pub count : made.loads ≡ curve_count (take made.head.tests new.sets.loads)
+  pub few : made.head.tests ≤ 256
+  pub room : capacity made.head.rig ≤ 64
+  pub method : made.head.method ≤ 3
+  pub order : take made.head.tests new.order ≡ planned.order
+  pub plan : first made.head.tests new.sets made.end ≡ planned.plan
+  pub order_long : length (take made.head.tests new.order) ≡ made.head.tests
+  pub drops_long : length (take made.head.tests new.sets.drops) ≡ made.head.tests
+  pub loads_long : length (take made.head.tests new.sets.loads) ≡ made.head.tests
 
 module _ (bs : List ℕ) (all : Bytes bs) where
   module _ (old : Lists) (q : Request) (os : List ℕ) (sets : List Sets) (read : read_bytes bs ≡ done q) (ordered : order_request q ≡ done os)
@@ -94,39 +95,36 @@ module _ (bs : List ℕ) (all : Bytes bs) where
       let c = bind_done (planning (job_in a.0) 0 b.0 a.0.head.tests) _ p b.2 in
       subst (λ (p : Planned). First p (leaves_lists bs old)) (done_same c.2) (first_of old a.0 b.0 c.0 a.1 b.1 c.1)
 
-  -- of what `plan_job` answered
-  module _ (old : Lists) (x : Result JobPlan Refusal) (answer : outcome x ≡ plan_job_answer bs old) (long : 256 ≤ shortest old) where
-    whole : outcome x ≡ mapped told (plan_job bs)
-    unfolding plan_job_answer ◌>>◌
-    whole = answer ∙ rw (done_room (shortest old) 256 long) refl
+-- of what `plan_job` answered, and left in lists that are long enough
+module _ (bs : List ℕ) (old : Lists) (all : (k : ℕ) → Fits w8 (get_or bs k 0)) (long : 256 ≤ shortest old) where
+  whole : {o : Outcome JobPlan} → o ≡ plan_job_answer bs old → o ≡ mapped told (plan_job bs)
+  unfolding plan_job_answer ◌>>◌
+  whole answer = answer ∙ rw (done_room (shortest old) 256 long) refl
 
-    pub refused_job : (r : Refusal) → x ≡ Err r → plan_job bs ≡ refused (number r) (figure r)
-    unfolding outcome
-    refused_job r e = mapped_refused told (plan_job bs) _ _ (sym whole ∙ rw e refl)
+  pub refused_job : (r : Refusal) → outcome (Err r) ≡ plan_job_answer bs old → plan_job bs ≡ refused (number r) (figure r)
+  unfolding outcome
+  refused_job r answer = mapped_refused told (plan_job bs) _ _ (sym (whole answer))
 
-    given : (p : Planned) (h : Head) (m end : ℕ) (new : Lists) → plan_job bs ≡ done p → p.request.head ≡ h → curve_count p.plan.loads ≡ m
-        → p.plan.end ≡ end → First p new
-        → Given bs h m end new
-    given p h m end new e is c d f =
-        rw (← is) (record {
-          planned = p;
-          is = e;
-          head = refl;
-          count = sym c ∙ ap curve_count (sym f.loads);
-          few = omega (arith, f.read.tests, f.read.is_job.tests_bound);
-          room = omega (arith, f.read.is_job.places_bounds.1);
-          method = f.read.method.0;
-          order = f.order;
-          plan = rw (f.drops, f.loads, ← d) refl;
-          order_long = ap length f.order ∙ f.order_long;
-          drops_long = ap length f.drops ∙ f.drops_long;
-          loads_long = ap length f.loads ∙ f.loads_long;
-        })
+  given : (p : Planned) (made : JobPlan) (new : Lists) → plan_job bs ≡ done p → told p ≡ made → First p new → Given bs made new
+  given p made new e t f =
+      rw (← t) (record {
+        planned = p;
+        is = e;
+        head = refl;
+        count = ap curve_count (sym f.loads);
+        few = omega (arith, f.read.tests, f.read.is_job.tests_bound);
+        room = omega (arith, f.read.is_job.places_bounds.1);
+        method = f.read.method.0;
+        order = f.order;
+        plan = rw (f.drops, f.loads) refl;
+        order_long = ap length f.order ∙ f.order_long;
+        drops_long = ap length f.drops ∙ f.drops_long;
+        loads_long = ap length f.loads ∙ f.loads_long;
+      })
 
-    pub planned_job : (h : Head) (m end : ℕ) (new : Lists) → x ≡ Ok (record { head = h; loads = m; end = end }) → new ≡ plan_job_lists bs old → Given bs h m end new
-    unfolding plan_job_lists kept_unless outcome
-    planned_job h m end new e l =
-        let d = mapped_done told (plan_job bs) (record { head = h; loads = m; end = end }) (sym whole ∙ rw e refl) in
-        let k : new ≡ leaves_lists bs old = l ∙ rw (done_room (shortest old) 256 long) refl in
-        given d.0 h m end new d.1 (ap (λ (t : JobPlan). t.head) d.2) (ap (λ (t : JobPlan). t.loads) d.2) (ap (λ (t : JobPlan). t.end) d.2)
-        (rw k (entries_first old d.0 d.1))
+  pub planned_job : {made : JobPlan} {new : Lists} → outcome (Ok made) ≡ plan_job_answer bs old → new ≡ plan_job_lists bs old → Given bs made new
+  unfolding plan_job_lists kept_unless outcome
+  planned_job {made = made} {new = new} answer l =
+      let d = mapped_done told (plan_job bs) made (sym (whole answer)) in
+      let k : new ≡ leaves_lists bs old = l ∙ rw (done_room (shortest old) 256 long) refl in
+      given d.0 made new d.1 d.2 (rw k (entries_first bs (bytes_of bs all) old d.0 d.1))

@@ -1,21 +1,24 @@
 -- Reading into a list of at least 256 entries: 9 never comes, and the wants are the first entries.
 use mathlib.Core.Path.{◌≡◌, refl, sym, ap, ◌∙◌}
 use mathlib.Core.List.{List, [], ◌∷◌}
-use Prim.Native.Nat.{ℕ, suc, ◌≤◌, ◌<◌}
+use Prim.Native.Nat.{ℕ, suc, ◌≤◌}
 use native.Mathlib.Omega.{arith}
 use lib.ListN.{length, get_or, take}
+use Rattle.std.specs.Prelude.{Ok, Err}
+use Rattle.std.proofs.Common.{Fits, w8}
 use Rattle.job.specs.declared.Head.{Head}
-use Rattle.job.specs.Refusal.{Outcome, done, refused, ◌>>=◌, ◌>>◌, mapped, room, overwritten, leaves}
+use Rattle.job.specs.declared.Refusal.{Refusal}
+use Rattle.job.specs.Refusal.{Outcome, done, refused, ◌>>=◌, ◌>>◌, mapped, room, overwritten, leaves, outcome, number, figure}
 use Rattle.job_bytes.specs.JobBytes.{Request, read_bytes, read_job, read_job_answer, read_job_wants}
 use Rattle.job.proofs.Laws.{mapped_done, mapped_refused, leaves_done, done_room}
 use Rattle.lists.proofs.Overwritten.{front}
 use Rattle.job_bytes.proofs.SetRoundTrip.{Bytes}
 use Rattle.job_bytes.proofs.ReadExact.{ReadJob, read_exact}
 
--- entries that are bytes
-pub bytes_of : (bs : List ℕ) → ((k : ℕ) → k < length bs → get_or bs k 0 < 256) → Bytes bs
+-- the entries of a list lent as bytes are bytes
+pub bytes_of : (bs : List ℕ) → ((k : ℕ) → Fits w8 (get_or bs k 0)) → Bytes bs
 bytes_of [] h = tt
-bytes_of (b ∷ bs) h = (h 0 (omega arith), bytes_of bs (λ k l. h (suc k) (omega arith)))
+bytes_of (b ∷ bs) h = (omega (arith, h 0), bytes_of bs (λ k. h (suc k)))
 
 -- a request that was read, with its wants in the first entries
 pub record ReadFirst (bs : List ℕ) (h : Head) (W' : List ℕ) : Type 0 where
@@ -39,11 +42,11 @@ module _ (bs W : List ℕ) (all : Bytes bs) (long : 256 ≤ length W) where
   unfolding read_job_wants
   wants_left = rw whole refl
 
-  pub answer_refused : (k i : ℕ) → read_job_answer bs W ≡ refused k i → read_bytes bs ≡ refused k i
+  answer_refused : (k i : ℕ) → read_job_answer bs W ≡ refused k i → read_bytes bs ≡ refused k i
   unfolding read_job_answer
   answer_refused k i e = sym whole ∙ mapped_refused (λ q. q.head) (read_job bs (length W)) k i e
 
-  pub answer_done : (h : Head) (W' : List ℕ) → read_job_answer bs W ≡ done h → W' ≡ read_job_wants bs W → ReadFirst bs h W'
+  answer_done : (h : Head) (W' : List ℕ) → read_job_answer bs W ≡ done h → W' ≡ read_job_wants bs W → ReadFirst bs h W'
   unfolding read_job_answer read_job_wants
   answer_done h W' e w =
       let x = mapped_done (λ q. q.head) (read_job bs (length W)) h e in
@@ -61,3 +64,13 @@ module _ (bs W : List ℕ) (all : Bytes bs) (long : 256 ≤ length W) where
     where
       same : {q : Request} {h : Head} {ws : List ℕ} → q.head ≡ h → q.wants ≡ ws → ◌≡◌ {A = Outcome Request} (done q) (done (record { head = h; wants = ws }))
       same p q i = done (record { head = p i; wants = q i })
+
+-- of what `read_job` answered and left in the list
+module _ (bs W : List ℕ) (all : (k : ℕ) → Fits w8 (get_or bs k 0)) (long : 256 ≤ length W) where
+  pub read_refused : (r : Refusal) → outcome (Err r) ≡ read_job_answer bs W → read_bytes bs ≡ refused (number r) (figure r)
+  unfolding outcome
+  read_refused r e = answer_refused bs W (bytes_of bs all) long _ _ (sym e)
+
+  pub read_first : {h : Head} {W' : List ℕ} → outcome (Ok h) ≡ read_job_answer bs W → W' ≡ read_job_wants bs W → ReadFirst bs h W'
+  unfolding outcome
+  read_first e w = answer_done bs W (bytes_of bs all) long _ _ (sym e) w

@@ -75,16 +75,12 @@ pub fn plan_job(
     ensures lists { lists_of wants.new order.new (set_lists drops.new loads.new)
         ≡ plan_job_lists job.now (lists_of wants.old order.old (set_lists drops.old loads.old)) }
 {
-    if wants.len() < MOST_TESTS {
-        return Err(Refusal::BufferTooSmall(MOST_TESTS));
-    }
-    if order.len() < MOST_TESTS {
-        return Err(Refusal::BufferTooSmall(MOST_TESTS));
-    }
-    if drops.len() < MOST_TESTS {
-        return Err(Refusal::BufferTooSmall(MOST_TESTS));
-    }
-    if loads.len() < MOST_TESTS {
+    let shortest = wants
+        .len()
+        .min(order.len())
+        .min(drops.len())
+        .min(loads.len());
+    if shortest < MOST_TESTS {
         return Err(Refusal::BufferTooSmall(MOST_TESTS));
     }
     read_and_plan(job, wants, order, drops, loads)

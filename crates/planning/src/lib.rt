@@ -96,10 +96,7 @@ pub fn plan_tests(
     if job::MOST_TESTS < tests {
         return Err(Refusal::BadArgument(2));
     }
-    if drops.len() < tests {
-        return Err(Refusal::BufferTooSmall(tests));
-    }
-    if loads.len() < tests {
+    if drops.len().min(loads.len()) < tests {
         return Err(Refusal::BufferTooSmall(tests));
     }
     let mut steps = [0u64; job::MOST_TESTS];

@@ -2,23 +2,14 @@
 use native.Mathlib.Omega.{arith}
 use Prim.Native.Nat.{◌≤◌}
 use Rattle.job.specs.Refusal.{number, figure}
-use Rattle.job_bytes.proofs.SetRoundTrip.{Bytes}
 use Rattle.planned.proofs.Reading.{bytes_of}
 use Rattle.curveplan.proofs.Answers.{answers_count, answers_refusal, refusal_bounds}
-use Rattle.curveplan.proofs.curveplan_plan.Goals.{After-shared_slice_known-1, In-Err}
+use Rattle.curveplan.proofs.curveplan_plan.Goals.{In-Err}
 use Rattle.curveplan.proofs.curveplan_plan.Goals as goal
-
--- the job's entries are bytes
-bytes : (c : After-shared_slice_known-1) → Bytes c.args.job.now
-bytes c = bytes_of c.args.job.now (λ k l. omega (arith, c.shared_slice_known-1.given k))
 
 -- the refusal's number and figure are small
 small : (c : In-Err) → (number c.in-Err.r ≤ 13) × (figure c.in-Err.r ≤ 5121)
-small c =
-    refusal_bounds c.args.job.now
-    c.args.plan.now _
-    c.job_to_plan.ensures.count (bytes (goal.at.In-Err c).After-shared_slice_known-1) _
-    c.in-Err.is
+small c = refusal_bounds c.args.job.now c.args.plan.now _ c.job_to_plan.ensures.count (bytes_of _ c.type_inv.job) _ c.in-Err.is
 
 pub overflow_mul-result : goal.overflow_mul-result
 overflow_mul-result c = omega (arith, c.number_of.ensures, (small (goal.at.overflow_mul-result c).In-Err).0)

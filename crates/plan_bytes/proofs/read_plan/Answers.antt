@@ -19,37 +19,13 @@ passed : (c : In_ok-end)
 unfolding outcome
 passed c = sym c.in_ok-end.ensures
 
--- where a list is too short
-short : (c : In_ok-end)
-    → let a = c.args in
-    let lent = set_lists a.drops.now a.loads.now in
-    mapped (λ x. x.end) (plan_steps a.curves a.tests a.plan.now) ≡ done c.in_ok-end.end
-    → min (length a.order.now) (entries lent) < a.tests
-    → Contract a.curves a.tests a.plan.now a.order.now lent (refused 9 a.tests) a.order.now lent
-short c e h =
+pub returns-then-shortest-tests : goal.returns-then-shortest-tests
+unfolding outcome
+returns-then-shortest-tests c =
     let a = c.args in
+    let all =
     plan_refused a.curves a.tests a.plan.now a.order.now (set_lists a.drops.now a.loads.now) _ _
-    (too_short a.curves a.tests a.plan.now _ e _ h)
-
-pub returns-then-order-tests : goal.returns-then-order-tests
-unfolding outcome
-returns-then-order-tests c =
-    let all =
-    short (goal.at.returns-then-order-tests c).In_ok-end (passed (goal.at.returns-then-order-tests c).In_ok-end) (omega arith) in
-    record { answer = all.0; order = all.1.0; lists = all.1.1 }
-
-pub returns-then-drops-tests : goal.returns-then-drops-tests
-unfolding outcome
-returns-then-drops-tests c =
-    let all =
-    short (goal.at.returns-then-drops-tests c).In_ok-end (passed (goal.at.returns-then-drops-tests c).In_ok-end) (omega arith) in
-    record { answer = all.0; order = all.1.0; lists = all.1.1 }
-
-pub returns-then-loads-tests : goal.returns-then-loads-tests
-unfolding outcome
-returns-then-loads-tests c =
-    let all =
-    short (goal.at.returns-then-loads-tests c).In_ok-end (passed (goal.at.returns-then-loads-tests c).In_ok-end) (omega arith) in
+    (too_short a.curves a.tests a.plan.now _ (passed (goal.at.returns-then-shortest-tests c).In_ok-end) _ (omega arith)) in
     record { answer = all.0; order = all.1.0; lists = all.1.1 }
 
 pub fill_lists-requires : goal.fill_lists-requires
@@ -57,9 +33,9 @@ fill_lists-requires c =
     let a = c.args in record {
       counts = (
         (counts_bounds a.curves a.tests (bytes_counts a.curves a.tests a.plan.now _ (passed (goal.at.fill_lists-requires c).In_ok-end))).0,
-        c.if-order-tests.false,
-        c.if-drops-tests.false,
-        c.if-loads-tests.false,
+        omega arith,
+        omega arith,
+        omega arith,
       );
       reads = bytes_passed a.curves a.tests a.plan.now _ (passed (goal.at.fill_lists-requires c).In_ok-end);
     }
@@ -80,5 +56,5 @@ returns c =
     let e = c.fill_lists.ensures in
     let all =
     plan_given a.curves a.tests a.plan.now a.order.now (set_lists a.drops.now a.loads.now) _ (passed (goal.at.returns c).In_ok-end) _ _ _
-    (omega (arith, c.if-order-tests.false, c.if-drops-tests.false, c.if-loads-tests.false)) e.tests e.drops e.loads in
+    (omega arith) e.tests e.drops e.loads in
     record { answer = all.0; order = all.1.0; lists = all.1.1 }

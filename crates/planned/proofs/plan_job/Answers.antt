@@ -6,40 +6,11 @@ use Rattle.planned.specs.ContractWords.{lists_of}
 use Rattle.planned.proofs.Stages.{too_short, long_enough}
 use Rattle.planned.proofs.plan_job.Goals as goal
 
-pub returns-then-wants-lt-MOST_TESTS : goal.returns-then-wants-lt-MOST_TESTS
+pub returns-then-shortest-lt-MOST_TESTS : goal.returns-then-shortest-lt-MOST_TESTS
 unfolding outcome
-returns-then-wants-lt-MOST_TESTS c = let a =
-    c.args in
-    let both =
-    too_short a.job.now
-    (lists_of a.wants.now a.order.now (set_lists a.drops.now a.loads.now)) (omega arith) in
-    record { answer = both.0; lists = both.1 }
-
-pub returns-then-order-lt-MOST_TESTS : goal.returns-then-order-lt-MOST_TESTS
-unfolding outcome
-returns-then-order-lt-MOST_TESTS c = let a =
-    c.args in
-    let both =
-    too_short a.job.now
-    (lists_of a.wants.now a.order.now (set_lists a.drops.now a.loads.now)) (omega arith) in
-    record { answer = both.0; lists = both.1 }
-
-pub returns-then-drops-lt-MOST_TESTS : goal.returns-then-drops-lt-MOST_TESTS
-unfolding outcome
-returns-then-drops-lt-MOST_TESTS c = let a =
-    c.args in
-    let both =
-    too_short a.job.now
-    (lists_of a.wants.now a.order.now (set_lists a.drops.now a.loads.now)) (omega arith) in
-    record { answer = both.0; lists = both.1 }
-
-pub returns-then-loads-lt-MOST_TESTS : goal.returns-then-loads-lt-MOST_TESTS
-unfolding outcome
-returns-then-loads-lt-MOST_TESTS c = let a =
-    c.args in
-    let both =
-    too_short a.job.now
-    (lists_of a.wants.now a.order.now (set_lists a.drops.now a.loads.now)) (omega arith) in
+returns-then-shortest-lt-MOST_TESTS c =
+    let a = c.args in
+    let both = too_short a.job.now (lists_of a.wants.now a.order.now (set_lists a.drops.now a.loads.now)) (omega arith) in
     record { answer = both.0; lists = both.1 }
 
 pub returns : goal.returns

@@ -4,27 +4,16 @@ use native.Mathlib.Omega.{arith}
 use borrow.Author.Rules.{rules}
 use Rattle.job.specs.Refusal.{outcome}
 use Rattle.job.proofs.Laws.{refused_mapped, handed_on}
-use Rattle.job_bytes.proofs.SetRoundTrip.{Bytes}
 use Rattle.planning.specs.Plan.{set_lists}
 use Rattle.planned.specs.ContractWords.{lists_of, leaves_lists, told}
-use Rattle.planned.proofs.Reading.{ReadFirst, bytes_of, wants_left, answer_refused, answer_done}
+use Rattle.planned.proofs.Reading.{ReadFirst, bytes_of, wants_left, read_refused, read_first}
 use Rattle.planned.proofs.Stages.{unread, unread_lists, read_lists, tells_refusal, tells_count}
-use Rattle.planned.proofs.read_and_plan.Goals.{After-shared_slice_known-1, In_ok-head, After-order_and_plan}
+use Rattle.planned.proofs.read_and_plan.Goals.{In_ok-head, After-order_and_plan}
 use Rattle.planned.proofs.read_and_plan.Goals as goal
 
--- the job's entries are bytes
-bytes : (c : After-shared_slice_known-1) → Bytes c.args.job.now
-bytes c = bytes_of c.args.job.now (λ k l. omega (arith, c.shared_slice_known-1.given k))
-
 -- what was read
-read : (c : In_ok-head)
-    → ReadFirst c.args.job.now
-    c.in_ok-head.head c.read_job.new.wants
-unfolding outcome
-read c =
-    let r = c.read_job in
-    answer_done c.args.job.now c.args.wants.now (bytes (goal.at.In_ok-head c).After-shared_slice_known-1)
-    c.requires.0 _ _ (sym c.in_ok-head.ensures.answer) r.ensures.lent
+read : (c : In_ok-head) → ReadFirst c.args.job.now c.in_ok-head.head c.read_job.new.wants
+read c = read_first _ _ c.type_inv.job c.requires.0 c.in_ok-head.ensures.answer c.read_job.ensures.lent
 
 pub slice_bounds-order_and_plan-end : goal.slice_bounds-order_and_plan-end
 slice_bounds-order_and_plan-end c =
@@ -48,12 +37,11 @@ unfolding outcome
 returns-in_err-head c =
     let a = c.args in
     let r = c.in_err-head.ensures in
-    let all = bytes (goal.at.returns-in_err-head c).After-shared_slice_known-1 in
-    let e = answer_refused a.job.now a.wants.now all c.requires.0 _ _ (sym r.answer) in
+    let e = read_refused _ _ c.type_inv.job c.requires.0 _ r.answer in
     let old = lists_of a.wants.now a.order.now (set_lists a.drops.now a.loads.now) in
     record {
       answer = handed_on _ _ c.from_residual.ensures.1 ∙ refused_mapped told _ _ _ (unread a.job.now _ _ e);
-      lists = unread_lists a.job.now old _ (r.lent ∙ wants_left a.job.now a.wants.now all c.requires.0) _ _ e;
+      lists = unread_lists a.job.now old _ (r.lent ∙ wants_left a.job.now a.wants.now (bytes_of _ c.type_inv.job) c.requires.0) _ _ e;
     }
 
 -- what the lists hold, whether a plan comes of it or not
@@ -66,7 +54,7 @@ lists c =
     let a = c.args in
     let at = goal.at.After-order_and_plan c in
     let p = c.order_and_plan.ensures in
-    let w = c.read_job.ensures.lent ∙ wants_left a.job.now a.wants.now (bytes at.After-shared_slice_known-1) c.requires.0 in
+    let w = c.read_job.ensures.lent ∙ wants_left a.job.now a.wants.now (bytes_of _ c.type_inv.job) c.requires.0 in
     read_lists a.job.now (lists_of a.wants.now a.order.now (set_lists a.drops.now a.loads.now)) _ w _ _ _ (read at.In_ok-head).read p.order p.plan
 
 pub returns-in_err-plan : goal.returns-in_err-plan

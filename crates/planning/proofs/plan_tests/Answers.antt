@@ -19,17 +19,9 @@ returns-then-tests-gt-MOST_TESTS c =
     too_many a.capacity a.wants.now a.held a.order.now (set_lists a.drops.now a.loads.now) (omega arith) in
     record { answer = both.0; lists = both.1 }
 
-pub returns-then-drops-tests : goal.returns-then-drops-tests
+pub returns-then-min-tests : goal.returns-then-min-tests
 unfolding outcome
-returns-then-drops-tests c =
-    let a = c.args in
-    let both =
-    too_short a.capacity a.wants.now a.held a.order.now (set_lists a.drops.now a.loads.now) (omega arith) (omega arith) in
-    record { answer = both.0; lists = both.1 }
-
-pub returns-then-loads-tests : goal.returns-then-loads-tests
-unfolding outcome
-returns-then-loads-tests c =
+returns-then-min-tests c =
     let a = c.args in
     let both =
     too_short a.capacity a.wants.now a.held a.order.now (set_lists a.drops.now a.loads.now) (omega arith) (omega arith) in

@@ -11,7 +11,7 @@ use Rattle.report.proofs.sheet_text.Goals.{After-write_report}
 use Rattle.report.proofs.sheet_text.Goals as goal
 
 fits : (c : After-write_report) → let a = c.args in write_sheet a.job.now (length a.text.now) ≡ done (sheet a.job.now)
-fits c = sheet_fits c.args.job.now _ (bytes_of _ (λ k l. omega (arith, c.type_inv.job k))) (omega (arith, c.told-text))
+fits c = sheet_fits c.args.job.now _ (bytes_of _ c.type_inv.job) (omega (arith, c.told-text))
 
 pub unwrap-requires : goal.unwrap-requires
 unfolding sheet_answer

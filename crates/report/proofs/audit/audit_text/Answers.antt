@@ -13,7 +13,7 @@ use Rattle.report.proofs.audit.audit_text.Goals as goal
 fits : (c : After-write_audit) →
     let a = c.args in
     write_audit a.job.now a.plan.now (length a.text.now) ≡ done (audit_text (audit a.job.now a.plan.now))
-fits c = audit_fits c.args.job.now c.args.plan.now _ (bytes_of _ (λ k l. omega (arith, c.type_inv.job k))) (omega (arith, c.told-text))
+fits c = audit_fits c.args.job.now c.args.plan.now _ (bytes_of _ c.type_inv.job) (omega (arith, c.told-text))
 
 pub unwrap-requires : goal.unwrap-requires
 unfolding audit_answer

@@ -14,8 +14,7 @@ pub write_counts-requires : goal.write_counts-requires
 unfolding audited_outcome outcome mapped
 write_counts-requires c =
     let a = c.args in
-    let bytes = bytes_of a.job.now (λ k l. omega (arith, c.shared_slice_known-1.given k)) in
-    audit_fewer a.job.now a.plan.now _ bytes (audited _ (c.in-Ok-Ok.is ∙ ap Ok c.in-Ok-Ok.field-0-is) c.audit.ensures)
+    audit_fewer a.job.now a.plan.now _ (bytes_of _ c.type_inv.job) (audited _ (c.in-Ok-Ok.is ∙ ap Ok c.in-Ok-Ok.field-0-is) c.audit.ensures)
 
 pub returns-in-Err : goal.returns-in-Err
 unfolding audited_outcome outcome mapped audit_text

@@ -16,7 +16,7 @@ fits : (c : After-write_size_table) →
     write_table a.job.now (wanted_found a.wanted) (length a.text.now) ≡ done (size_table a.job.now (wanted_found a.wanted))
 fits c =
     let a = c.args in
-    table_fits a.job.now (wanted_found a.wanted) _ (bytes_of _ (λ k l. omega (arith, c.type_inv.job k))) (asked_word a.wanted _ c.well_formed.1.0)
+    table_fits a.job.now (wanted_found a.wanted) _ (bytes_of _ c.type_inv.job) (asked_word a.wanted _ c.well_formed.1.0)
     (omega (arith, c.told-text))
 
 pub unwrap-requires : goal.unwrap-requires
