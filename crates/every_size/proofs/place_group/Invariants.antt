@@ -16,5 +16,6 @@ invariant-loop-c l =
       vacant_range : l.vacant < 2 ^ 64;
       long : length l.slots ≡ 64;
       places : (hold : ℕ → ℕ) (w seen others placed : ℕ) (ws before : List ℕ) → Waiting hold w seen others ws before → NextGroup others placed l.group ws
-          → Placing hold w others placed l.free ws before l.initial.slots → Placing hold w others (placed ∪ (l.group ∖ l.c-iterator.left)) l.vacant ws before l.slots;
+          → Placing hold w others placed l.free ws before l.initial.slots
+          → Placing hold w others (placed ∪ (l.group ∖ l.c-iterator.left)) l.vacant ws before l.slots;
     }
