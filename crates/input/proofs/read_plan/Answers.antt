@@ -8,5 +8,5 @@ use Rattle.input.proofs.read_plan.Goals as goal
 
 pub returns-clause-audit : goal.returns-clause-audit
 returns-clause-audit g c =
-    let l : 5131 ≤ length c.read_full.new.buf = omega (arith, c.requires, c.read_full.auto.buf) in
+    let l : 5131 ≤ length c.read_full.new.buf = omega (arith, c.read_full.auto.buf) in
     λ job. enough (λ whole. audit job whole) _ _ (λ whole. audit_plan_prefix _ job whole l)
