@@ -4,6 +4,7 @@ use input::JOB_INPUT;
 use std::io;
 use std::io::Write;
 
+// Kept: the new form is no plainer: one function for these lines of `sheet`, `sizes` and `audit` would take `|job, text| ..` and a clause for its count.
 fn main(rt: HostRuntime) -> io::Result<()> {
     let mut job = [0u8; JOB_INPUT];
     let n = input::read_job(&mut rt.reader(), &mut job);
