@@ -1,20 +1,10 @@
 #![tactic(auto)]
-// Reading as much of an input as a buffer takes, and as much of a job and of a plan as can matter.
-ghost use Rattle.std.specs.Prelude.{◌≤◌, List, ℕ, length, take};
+// Reading as much of an input as a buffer takes.
+ghost use Rattle.std.specs.Prelude.{◌≤◌, length, take};
 ghost use Rattle.std.specs.Io.KnownBytes.{Consumes};
-ghost use Rattle.lists.specs.Choice.{Found};
 ghost use Rattle.input.specs.Counts.{IsPrefixLen};
-ghost use Rattle.report.specs.Report.{sheet};
-ghost use Rattle.report.specs.SizeTable.{size_table};
-ghost use Rattle.report.specs.Audit.{audit};
-ghost use Rattle.report.specs.Input.{Enough};
 
 use std::io::Read;
-
-// How many bytes of a job and of a plan can matter: one that reads has at most 2,311 and 5,130, and the next byte tells that there are more.
-pub const JOB_INPUT: usize = 2_312;
-
-pub const PLAN_INPUT: usize = 5_131;
 
 // One read; 0 where the input has ended or the read fails. Of an input whose bytes are known, what is read are its next bytes.
 fn read_some<R: Read>(input: &mut R, buf: &mut [u8]) -> usize
@@ -40,23 +30,4 @@ pub fn read_full<R: Read>(input: &mut R, buf: &mut [u8]) -> usize
         done += n;
     }
     done
-}
-
-// Reads a job, as much as can matter: whatever the whole of it is, its sheet, its table for any count that is asked for and its audit with any plan are those
-// of the bytes read.
-pub fn read_job<R: Read>(input: &mut R, job: &mut [u8; JOB_INPUT]) -> usize
-    ensures count { IsPrefixLen result job.new }
-    ensures sheet { Enough sheet result job.new }
-    ensures table { (wanted : Found ℕ) → Enough (λ whole. size_table whole wanted) result job.new }
-    ensures audit { (plan : List ℕ) → Enough (λ whole. audit whole plan) result job.new }
-{
-    read_full(input, job)
-}
-
-// Reads a plan, as much as can matter to its audit with any job.
-pub fn read_plan<R: Read>(input: &mut R, plan: &mut [u8; PLAN_INPUT]) -> usize
-    ensures count { IsPrefixLen result plan.new }
-    ensures audit { (job : List ℕ) → Enough (λ whole. audit job whole) result plan.new }
-{
-    read_full(input, plan)
 }

@@ -33,7 +33,8 @@ fn planned<const N: usize, const M: usize>(
 ) -> Result<(usize, u64), (u64, u64)>
     ensures done { (a : CountEnd) → plan_answer (job_of rig wants.entry) held order.entry (set_lists (replicate N 9) (replicate N 9)) ≡ done a
         → result ≡ Ok (a.count, get_or (plan_lists (job_of rig wants.entry) held order.entry (set_lists (replicate N 9) (replicate N 9))).drops step 0) }
-    ensures refused { (number figure : ℕ) → plan_answer (job_of rig wants.entry) held order.entry (set_lists (replicate N 9) (replicate N 9)) ≡ refused number figure
+    ensures refused { (number figure : ℕ)
+        → plan_answer (job_of rig wants.entry) held order.entry (set_lists (replicate N 9) (replicate N 9)) ≡ refused number figure
         → result ≡ Err (number, figure) }
 {
     let mut drops = [9u64; N];

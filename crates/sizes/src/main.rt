@@ -1,14 +1,31 @@
 #![tactic(auto)]
 // Prints the table of drive sizes for the job on standard input: sizes [LOADS] < JOB. With a count of loads, also the fewest places for it.
+ghost use Rattle.std.specs.Prelude.{ℕ};
+ghost use Rattle.lists.specs.Choice.{Found};
+ghost use Rattle.input.specs.Counts.{IsPrefixLen};
+ghost use Rattle.report.specs.SizeTable.{size_table};
+ghost use Rattle.report.specs.Input.{Enough};
 
-use input::JOB_INPUT;
 use std::env::{Env, FillError};
 use std::io;
-use std::io::Write;
+use std::io::{Read, Write};
+
+// Kept: each program has its own constant and reader: one for all would be a public function with a `requires`, which no crate here has, and the edits `job_input`
+// change the number in each program.
+// How many bytes of a job can matter: one that reads has at most 2,311, and the next byte tells that there are more.
+const JOB_INPUT: usize = 2_312;
+
+// Reads the input, as much as can matter: whatever the whole of it is, and whatever count is asked for, its table is that of the bytes read.
+fn read_input<R: Read>(input: &mut R, job: &mut [u8; JOB_INPUT]) -> usize
+    ensures count { IsPrefixLen result job.new }
+    ensures enough { (wanted : Found ℕ) → Enough (λ whole. size_table whole wanted) result job.new }
+{
+    input::read_full(input, job)
+}
 
 fn print_table<R: Input + Print>(rt: &R, wanted: Option<usize>) -> io::Result<()> {
     let mut job = [0u8; JOB_INPUT];
-    let n = input::read_job(&mut rt.reader(), &mut job);
+    let n = read_input(&mut rt.reader(), &mut job);
     let mut text = [0u8; report::sizes::TABLE_BYTES];
     let k = report::sizes::size_table_text(&job[..n], wanted, &mut text);
     io::writer(rt).write_all(&text[..k])

@@ -1,14 +1,12 @@
 -- `plan_bytes::read_plan` meets its contract: one law of `ReadPlan` a case.
 use mathlib.Core.Path.{◌≡◌, sym, ◌∙◌}
-use Prim.Native.Nat.{◌<◌, min}
 use native.Mathlib.Omega.{arith}
-use lib.ListN.{length}
-use Rattle.job.specs.Refusal.{done, refused, mapped, outcome}
+use Rattle.job.specs.Refusal.{done, mapped, outcome}
 use Rattle.job.proofs.Laws.{handed_on}
 use Rattle.job.proofs.Examination.{counts_bounds}
-use Rattle.planning.specs.Plan.{set_lists, entries}
+use Rattle.planning.specs.Plan.{set_lists}
 use Rattle.plan_bytes.specs.PlanBytes.{plan_steps}
-use Rattle.plan_bytes.proofs.ReadPlan.{bytes_counts, bytes_passed, Contract, plan_refused, bad_bytes, too_short, plan_given}
+use Rattle.plan_bytes.proofs.ReadPlan.{bytes_counts, bytes_passed, plan_refused, bad_bytes, too_short, plan_given}
 use Rattle.plan_bytes.proofs.read_plan.Goals.{In_ok-end}
 use Rattle.plan_bytes.proofs.read_plan.Goals as goal
 

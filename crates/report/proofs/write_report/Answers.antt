@@ -3,7 +3,6 @@ use mathlib.Core.Path.{sym, ◌∙◌}
 use native.Mathlib.Omega.{arith}
 use Rattle.planning.specs.Plan.{set_lists}
 use Rattle.planned.specs.ContractWords.{lists_of}
-use Rattle.planned.proofs.Reading.{bytes_of}
 use Rattle.planned.proofs.Entries.{Given, refused_job, planned_job}
 use Rattle.report.proofs.Reporting.{sheet_refused, sheet_planned}
 use Rattle.report.proofs.write_report.Goals.{In-Ok}

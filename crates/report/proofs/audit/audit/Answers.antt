@@ -1,10 +1,7 @@
 -- `report::audit::audit` meets its contract: reading into a list of 256 entries gives the wants.
-use mathlib.Core.Path.{◌≡◌, sym, ap, ◌∙◌}
-use Prim.Native.Nat.{◌≤◌}
+use mathlib.Core.Path.{sym, ap, ◌∙◌}
 use native.Mathlib.Omega.{arith}
-use lib.ListN.{length, take}
 use Rattle.job.specs.Refusal.{done, outcome, mapped}
-use Rattle.job_bytes.specs.JobBytes.{read_bytes}
 use Rattle.job.proofs.Laws.{handed_on}
 use Rattle.planned.proofs.Reading.{ReadFirst, read_refused, read_first}
 use Rattle.report.specs.Audit.{audited_outcome}

@@ -1,6 +1,5 @@
 -- `report::audit::write_audit` meets its contract. That the fewest loads are at most the plan's is `audit_fewer`.
 use mathlib.Core.Path.{ap, ◌∙◌}
-use native.Mathlib.Omega.{arith}
 use Rattle.std.specs.Prelude.{Ok}
 use Rattle.job.specs.Refusal.{outcome, mapped}
 use Rattle.planned.proofs.Reading.{bytes_of}
