@@ -1,5 +1,6 @@
 // Job bytes, read: the head, then one record for each test.
 ghost use Rattle.std.specs.Prelude.{◌≡◌, not, ◌&&◌, List, [], ◌++◌, ℕ, ◌+◌, ◌*◌, ◌≤◌, length, take, drop, eqb};
+ghost use Rattle.job.specs.Words.{digit};
 ghost use Rattle.job.specs.Handed.{between};
 ghost use Rattle.job.specs.Refusal.{done, mapped, outcome};
 ghost use Rattle.job_bytes.specs.SetBytes.{Got, got};
@@ -29,14 +30,13 @@ fn holds(field: Field, value: usize) -> bool
     (field.low..=field.high).contains(&value) && value != field.absent
 }
 
-// Kept: the bit is a number, as the rule reads it (`read_field`), and counts the bytes of the field.
-// A field, if its bit stands: "cut before value". The next one begins at `at + stands * width`.
-fn read_field(job: &[u8], at: usize, stands: usize, field: Field) -> Result<usize, Refusal>
-    requires { (stands ≤ 1) × (field.width ≤ 8) × (at ≤ length job.now) }
-    ensures { read_field field stands at (drop at job.now)
-        ≡ mapped (λ v. got v (at + stands * field.width) (drop (at + stands * field.width) job.now)) (outcome result) }
+// A field, if its bit stands: "cut before value". The next one begins behind it.
+fn read_field(job: &[u8], at: usize, stands: bool, field: Field) -> Result<usize, Refusal>
+    requires { (field.width ≤ 8) × (at ≤ length job.now) }
+    ensures { read_field field (digit stands) at (drop at job.now)
+        ≡ mapped (λ v. got v (at + digit stands * field.width) (drop (at + digit stands * field.width) job.now)) (outcome result) }
 {
-    if stands == 0 {
+    if !stands {
         return Ok(field.absent);
     }
     let width = field.width;
@@ -88,8 +88,11 @@ fn read_fields(job: &[u8], values: &mut [usize]) -> Result<usize, Refusal>
     let mut at: usize = 1;
     for j in 0..FIELDS {
         let field = row(j);
-        values[j] = read_field(job, at, map % 2, field)?;
-        at += map % 2 * field.width;
+        let stands = map % 2 == 1;
+        values[j] = read_field(job, at, stands, field)?;
+        if stands {
+            at += field.width;
+        }
         map /= 2;
     }
     Ok(at)

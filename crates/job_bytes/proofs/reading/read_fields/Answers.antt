@@ -1,16 +1,28 @@
 use mathlib.Core.Path.{◌≡◌, refl, ◌∙◌}
-use Prim.Native.Nat.{◌+◌, ◌*◌, ◌%◌, ◌≤◌}
+use Prim.Native.Nat.{ℕ, zero, suc, ◌+◌, ◌*◌, ◌%◌, ◌≤◌, ◌<◌}
+use lib.Dec.{eqb}
 use native.Mathlib.Omega.{arith}
 use lib.ListN.{length, take, drop, length-set}
 use lib.Seq.{take_all}
 use Rattle.job.specs.Refusal.{done, outcome, ◌>>=◌, mapped}
+use Rattle.job.specs.Words.{digit}
 use Rattle.job.proofs.Laws.{handed_on}
 use Rattle.job_bytes.specs.SetBytes.{got}
 use Rattle.job_bytes.specs.JobBytes.{fields, read_field}
 use Rattle.job_bytes.proofs.Heads.{rows, field_within, fields_end, fields_fault, fields_next, head_none, head_map, head_fields_lem}
 use Rattle.job_bytes.proofs.Records.{list_more}
-use Rattle.job_bytes.proofs.reading.read_fields.Goals.{In_ok-values}
+use Rattle.job_bytes.proofs.reading.read_fields.Goals.{In_ok-values, then-stands, else-stands}
 use Rattle.job_bytes.proofs.reading.read_fields.Goals as goal
+
+-- the bit of the map, as a number
+bit : (n : ℕ) → digit (eqb (n % 2) 1) ≡ n % 2
+unfolding digit
+bit n = go (n % 2) (omega arith)
+  where
+    go : (m : ℕ) → m < 2 → digit (eqb m 1) ≡ m
+    go zero h = refl
+    go (suc zero) h = refl
+    go (suc (suc m)) h = absurd (omega arith)
 
 -- the field that was read
 field : (c : In_ok-values)
@@ -22,7 +34,7 @@ field : (c : In_ok-values)
     (read_field f (l.map % 2) l.at (drop l.at bs) ≡ done (got v n (drop n bs))) × (n ≤ length bs)
 unfolding mapped outcome
 field c =
-    let e = c.in_ok-values.ensures in
+    let e = rw (bit c.loop-j.map) at c.in_ok-values.ensures in
     (e, field_within c.args.job.now c.row-field.result c.loop-j.at _ _ _ c.loop-j.invariant.within e)
 
 pub returns-then-job-eq0 : goal.returns-then-job-eq0
@@ -44,7 +56,8 @@ returns-in_err-values c =
     let r = c.row-field in
     head_fields_lem bs (omega arith) (rw rows (omega arith))
     ∙ rw (
-      l.invariant.goes ∙ fields_fault bs fields l.j l.map (take l.j l.values) l.at r.result r.ensures.0 _ _ c.in_err-values.ensures,
+      l.invariant.goes ∙ fields_fault bs fields l.j l.map (take l.j l.values) l.at r.result r.ensures.0 _ _
+          (rw (bit l.map) at c.in_err-values.ensures),
       handed_on _ _ c.from_residual.ensures.1,
     ) refl
 
@@ -53,13 +66,19 @@ loop-j-preserved c =
     let l = c.loop-j in
     let bs = c.args.job.now in
     let r = c.row-field in
+    let w = r.result.width in
     let f = field (goal.at.loop-j-preserved c).In_ok-values in
     let more = list_more l.values l.j c.in_ok-values.field-0 (omega (arith, rows, l.invariant.long)) in
-    record {
+    let at : c.if-stands.at ≡ l.at + l.map % 2 * w =
+    elim c.if-stands.branch [
+      | then-stands v ↦ let one : l.map % 2 ≡ 1 = v.if-stands.true in v.at-is ∙ rw one (omega arith)
+      | else-stands v ↦ let none : l.map % 2 ≡ 0 = omega (arith, v.if-stands.false) in v.at-is ∙ rw none (omega arith)
+    ] in
+    rw at (record {
       long = simp length-set l.invariant.long;
       within = f.1;
       goes = rw more (l.invariant.goes ∙ fields_next bs fields l.j l.map (take l.j l.values) l.at r.result r.ensures.0 _ f.0);
-    }
+    })
 
 pub returns : goal.returns
 unfolding mapped outcome ◌>>=◌
