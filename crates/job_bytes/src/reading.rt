@@ -98,6 +98,7 @@ fn read_fields(job: &[u8], values: &mut [usize]) -> Result<usize, Refusal>
     Ok(at)
 }
 
+// Kept: the group loop stands in the test loop and is left by a label, as document 01 names the form; plan bytes have a group loop of their own.
 // One record for each test, from `start` on, always eight rounds a record; answers where the last one ends. "The first faulty byte ends the reading, in the
 // middle of a test's groups as well."
 fn read_records(

@@ -10,6 +10,7 @@ use job::{Refusal, Rig};
 
 mod growing;
 
+// Kept: the method is a number, as it was handed over, and chooses one of three calls with parameters of their own.
 // The order of the method.
 fn write_order(capacity: usize, method: usize, wants: &[u64], order: &mut [u16])
     requires { (length wants.now ≤ 256) × (length wants.now ≤ length order.old) }

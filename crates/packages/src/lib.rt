@@ -345,6 +345,7 @@ impl Table<'_> {
     }
 }
 
+// Kept: the curves, the sizes and the ratings are changed one after the other here, and a `Table` looks at the first two meanwhile: each is lent for itself.
 // Joins the curves of two packages; the sizes and the ratings after it.
 fn join_curves(
     bound: usize,
