@@ -10,8 +10,8 @@ use std::io::{Read, Write};
 use std::rt::Files;
 use std::{fs, io, str};
 
-// Kept: each program has its own constant and reader: one for all would be a public function with a `requires`, which no crate here has, and the edits `job_input`
-// change the number in each program.
+// Kept: each program has its own constant and reader: one for all would be a public function with a `requires`, which no crate here has, and the edits
+// `job_input` change the number in each program.
 // How many bytes of a job and of a plan can matter: one that reads has at most 2,311 and 5,130, and the next byte tells that there are more.
 const JOB_INPUT: usize = 2_312;
 

@@ -44,6 +44,7 @@ fn further(a: Candidate, b: Candidate) -> bool
 
 // ---- curves with the same next use
 
+// Kept: a walk by `without_lowest`: document 01, Forms, has the tie choice by trailing zeros; with `bitset::elements` a plan took up to 4% longer.
 // The one that goes first, "the highest number": the last that a walk from the lowest comes to.
 fn first_to_go(same: u64) -> usize
     ensures member { 0 < same → bit result same ≡ 1 }
@@ -179,8 +180,8 @@ impl Groups {
 }
 
 // "If held and wanted curves together exceed the places, drop exactly the excess, from held curves that the test doesn't want"; where there are not more of
-// these, as where the test alone exceeds the places, all of them. The drops are chosen one by one, or those that stay are counted off, where these or the groups
-// are fewer. `used` is what the later steps want together, where that is known; in `groups` the candidates are noted.
+// these, as where the test alone exceeds the places, all of them. The drops are chosen one by one, or those that stay are counted off, where these or the
+// groups are fewer. `used` is what the later steps want together, where that is known; in `groups` the candidates are noted.
 pub(crate) fn drops_with(
     capacity: usize,
     held: u64,

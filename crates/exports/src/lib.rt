@@ -1,7 +1,8 @@
 #![tactic(auto)]
 // The functions of the library for C, and for tests in other languages. Each calls the function of its name, and answers numbers; one rule makes an outcome
 // one number.
-// Kept: numbers for outcomes, methods and truth, and arguments one by one: the C interface.
+// Kept: numbers for outcomes, methods and truth, and arguments one by one: the C interface. A look and a commit work on the numbers that C lends, without a
+// copy, by the two functions of `stepping` that take no state.
 ghost use Rattle.std.specs.Prelude.{◌≡◌, reverse, ◌%◌, ◌^◌, min, length, eqb};
 ghost use Rattle.std.specs.Int.Count.{count_trailing_zeros};
 ghost use Rattle.bitset.specs.Set.{◌∩◌, ◌∪◌, ◌∖◌, size, bit, inside, below};

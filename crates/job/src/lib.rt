@@ -1,5 +1,5 @@
 #![tactic(auto)]
-// The job of a rig: its head, the refusals, what the library's functions answer, and the examination of handed numbers and lists.
+// The job of a rig: its head, the refusals, and the examination of handed numbers and lists.
 ghost use Rattle.std.specs.Prelude.{◌≡◌, ◌≤◌, length};
 ghost use Rattle.job.specs.Refusal.{number, figure, outcome};
 ghost use Rattle.job.specs.Words.{job_of, capacity};
@@ -204,8 +204,8 @@ fn examine_booked(rig: Rig) -> Result<(), Refusal>
     examine_capacity(rig, 0)
 }
 
-// Kept: the rig and the wants are two arguments here and in all calls that take both: wants are a lent slice (document 01, Forms), no fact joins the two before they are
-// examined, and a struct of both would be built for each call and taken apart in it.
+// Kept: the rig and the wants are two arguments here and in all calls that take both: wants are a lent slice (document 01, Forms), no fact joins the two before
+// they are examined, and a struct of both would be built for each call and taken apart in it.
 // 10 and 13, of a job and a method: what writing a job is handed. With method 0, of a job alone.
 pub fn examine_job(rig: Rig, method: usize, wants: &[u64]) -> Result<(), Refusal>
     ensures { outcome result ≡ job_known_by method (job_of rig wants.now) }

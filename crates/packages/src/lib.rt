@@ -22,7 +22,7 @@ pub struct PackagePair {
 // of curves that the two have in common. With no partner, or where it is not known yet, no package behind it gives a higher score.
 // Kept: the partner is 0 where there is none. Tried, slower: with an Option the order of 256 tests takes a fifth longer (`renew_behind` is no vector code).
 #[derive(Clone, Copy)]
-pub struct Rating {
+struct Rating {
     pub score: u16,
     pub partner: u16,
 }
@@ -46,6 +46,7 @@ struct Table<'a> {
     ghost sized: { sizes.now ≡ map size curves.now },
 }
 
+// Kept: `flipping` chooses in two methods, as the rules `join_by` and `round_of` do: a round with a type of its own would say the same in more words.
 // A round: whether packages are joined with flipping, the wants of the tests, and the places.
 #[derive(Clone, Copy)]
 struct Round<'a> {

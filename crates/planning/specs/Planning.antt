@@ -1,8 +1,7 @@
 -- Planning and checking: "planning 8, 7, 9"; "checking 8, 12", after 10, 13 and 14; with the end set of 02, wish 1. `held` is what wish 6 calls "the curves now
 -- held": "The new rest is planned from the curves now held, without unloading"; "Plans from an empty drive are the case of nothing held", 0; "The plan check
 -- takes the holding as well."
-use Rattle.std.specs.Prelude.{Result, Ok, Err}
-use Rattle.std.specs.Prelude.{◌&&◌, List, ℕ, min, length, eqb}
+use Rattle.std.specs.Prelude.{Result, Ok, Err, ◌&&◌, List, ℕ, min, length, eqb}
 use Rattle.job.specs.Refusal.{Outcome, done, refused, ◌>>=◌, ◌>>◌, mapped, demand, room}
 use Rattle.job.specs.Words.{Job, capacity}
 use Rattle.job.specs.Handed.{all_curves}

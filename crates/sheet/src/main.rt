@@ -7,8 +7,8 @@ ghost use Rattle.report.specs.Input.{Enough};
 use std::io;
 use std::io::{Read, Write};
 
-// Kept: each program has its own constant and reader: one for all would be a public function with a `requires`, which no crate here has, and the edits `job_input`
-// change the number in each program.
+// Kept: each program has its own constant and reader: one for all would be a public function with a `requires`, which no crate here has, and the edits
+// `job_input` change the number in each program.
 // How many bytes of a job can matter: one that reads has at most 2,311, and the next byte tells that there are more.
 const JOB_INPUT: usize = 2_312;
 

@@ -10,8 +10,8 @@ use std::env::{Env, FillError};
 use std::io;
 use std::io::{Read, Write};
 
-// Kept: each program has its own constant and reader: one for all would be a public function with a `requires`, which no crate here has, and the edits `job_input`
-// change the number in each program.
+// Kept: each program has its own constant and reader: one for all would be a public function with a `requires`, which no crate here has, and the edits
+// `job_input` change the number in each program.
 // How many bytes of a job can matter: one that reads has at most 2,311, and the next byte tells that there are more.
 const JOB_INPUT: usize = 2_312;
 
@@ -56,7 +56,7 @@ fn main(rt: HostRuntime) -> io::Result<()> {
     }
     if !has_argument(&rt, 2) {
         let wanted = wanted_argument(&rt, 1);
-        if let Some(_) = wanted {
+        if wanted.is_some() {
             return print_table(&rt, wanted);
         }
     }

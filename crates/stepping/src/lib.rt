@@ -10,7 +10,7 @@ use job::{Refusal, Rig};
 
 // Where a list stands, 02's "state": how many curves the drive can hold, those it holds, how many steps were committed, the end step among them, and the wants
 // of the steps in their order, in the first of so many entries as there are tests.
-// Kept: an array with the number of its entries: fixed memory, and C lends such a state.
+// Kept: an array with the number of its entries: fixed memory; every state may be looked at, also one whose number is beyond its entries.
 #[derive(Clone, Copy)]
 pub struct State {
     pub capacity: usize,
@@ -90,7 +90,7 @@ pub fn commit_at(
     Err(Refusal::NotNext(committed))
 }
 
-// ---- states by value
+// ---- states
 
 // How many entries of a state's wants are steps.
 pub fn steps_of(tests: usize) -> usize
