@@ -52,7 +52,7 @@ fn read_groups(plan: &[u8], start: usize, groups: u8, curves: usize) -> Result<S
     Ok(SetRead { set, next })
 }
 
-// Kept: the bit is a number, as the rule reads it (`read_set`): with a bool each contract would turn it back.
+// The bit is a number, as the rule reads it (`read_set`).
 // A set, if its bit stands: "A set is written as a group map and group bytes, neither zero."
 #[tactic(auto, using(crate::proofs::Reading::set_cases), unfolding(crate::specs::ContractWords::set_outcome))]
 fn read_set(plan: &[u8], at: usize, stands: u8, curves: usize) -> Result<SetRead, Refusal>
