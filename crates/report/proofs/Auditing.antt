@@ -123,7 +123,8 @@ unfolding audit_text
 counts_lines l f = simp append_assoc
 
 -- of what the audit answered
-pub audited : {x : Result (Result LoadCounts Refusal) Refusal} {o : Outcome (Outcome LoadCounts)} (y : Result (Result LoadCounts Refusal) Refusal) → x ≡ y → audited_outcome x ≡ o → o ≡ audited_outcome y
+pub audited : {x : Result (Result LoadCounts Refusal) Refusal} {o : Outcome (Outcome LoadCounts)} (y : Result (Result LoadCounts Refusal) Refusal)
+    → x ≡ y → audited_outcome x ≡ o → o ≡ audited_outcome y
 audited y p q = sym q ∙ ap audited_outcome p
 
 pub audit_written : (job plan old : List ℕ) {answer : Outcome ℕ} {new : List ℕ} {o : Outcome (Outcome LoadCounts)} → audit job plan ≡ o
