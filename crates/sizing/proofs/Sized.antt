@@ -1,16 +1,26 @@
 -- What the two calls answer, behind the examination.
-use mathlib.Core.Path.{◌≡◌, ap, ◌∙◌}
+use mathlib.Core.Path.{◌≡◌, refl, ap, ◌∙◌}
 use mathlib.Core.List.{List}
 use Prim.Native.Nat.{ℕ, ◌≤◌}
-use lib.ListN.{length, take}
+use lib.ListN.{length, take, replicate}
 use lib.Seq.{take_all, sets}
 use Rattle.lists.proofs.Overwritten.{sets_front}
-use Rattle.job.specs.Refusal.{done}
+use Rattle.std.specs.Prelude.{Result, Ok, Err}
+use Rattle.std.specs.Result.{result_unwrap_or}
+use Rattle.job.specs.declared.Refusal.{Refusal}
+use Rattle.job.specs.Refusal.{Outcome, done, outcome}
 use Rattle.job.specs.Calls.{sizing_known}
-use Rattle.every_size.specs.Sizes.{all_sizes}
+use Rattle.every_size.specs.Sizes.{mark, all_sizes}
 use Rattle.every_size.proofs.LoadCounts.{sizes_width}
 use Rattle.planning.specs.Plan.{in_order}
+use Rattle.sizing.specs.Sizing.{counts_given}
 use Rattle.sizing.proofs.EverySize.{few, own, long, short}
+
+-- what is taken of an answer: in the place of counts that are refused, marks
+pub counts_taken : (r : Result (List ℕ) Refusal) (o : Outcome (List ℕ)) → outcome r ≡ o → result_unwrap_or r (replicate 64 mark) ≡ counts_given o
+unfolding outcome counts_given
+counts_taken (Ok counts) o e = rw (← e) refl
+counts_taken (Err x) o e = rw (← e) refl
 
 module _ (curves : ℕ) (wants order : List ℕ) (known : sizing_known curves wants order ≡ done tt) where
   -- the steps' wants, in the first entries of a list

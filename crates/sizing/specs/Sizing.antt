@@ -1,9 +1,9 @@
 -- All sizes and the fewest places: "apart from 7, the walk refuses as planning does".
-use Rattle.std.specs.Prelude.{List, ℕ}
+use Rattle.std.specs.Prelude.{List, ℕ, replicate}
 use Rattle.lists.specs.Choice.{Found}
-use Rattle.job.specs.Refusal.{Outcome, done, ◌>>◌, mapped}
+use Rattle.job.specs.Refusal.{Outcome, done, refused, ◌>>◌, mapped}
 use Rattle.job.specs.Calls.{sizing_known}
-use Rattle.every_size.specs.Sizes.{all_sizes, fewest_places}
+use Rattle.every_size.specs.Sizes.{mark, all_sizes, fewest_places}
 use Rattle.planning.specs.Plan.{in_order}
 
 -- "For one order from an empty drive give the load counts for 1 to 64 places .., none booked"
@@ -15,3 +15,8 @@ sizing curves wants order = do
 -- "Then, for a wanted count, give the fewest places ..": from the same list and order, and refused alike
 unfoldable pub fewest : ℕ → List ℕ → List ℕ → ℕ → Outcome (Found ℕ)
 fewest curves wants order loads = mapped (fewest_places loads) (sizing curves wants order)
+
+-- in the place of counts that are refused stand marks, so that no size serves
+unfoldable pub counts_given : Outcome (List ℕ) → List ℕ
+counts_given (done counts) = counts
+counts_given (refused k i) = replicate 64 mark

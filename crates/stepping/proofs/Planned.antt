@@ -8,7 +8,10 @@ use lib.ListN.{length, replicate, length-replicate}
 use lib.Seq.{sets}
 use Rattle.lists.specs.Lent.{overwritten}
 use Rattle.lists.proofs.Overwritten.{front, sets_whole}
-use Rattle.job.specs.Refusal.{Outcome, done, refused}
+use Rattle.std.specs.Prelude.{Result, Ok, Err}
+use Rattle.std.specs.Result.{result_unwrap_or}
+use Rattle.job.specs.declared.Refusal.{Refusal}
+use Rattle.job.specs.Refusal.{Outcome, done, refused, outcome}
 use Rattle.job.specs.Words.{Job, capacity}
 use Rattle.job.specs.Calls.{planning_known}
 use Rattle.job.proofs.Laws.{done_same, both_done, done_both, refused≢done}
@@ -22,10 +25,16 @@ use Rattle.planning.proofs.Sequence.{known_exact, planning_parts, steps_length, 
 use Rattle.planning.proofs.Planned.{ours}
 use Rattle.planning.proofs.Demand3.{demand3}
 use Rattle.stepping.specs.declared.State.{State}
-use Rattle.stepping.specs.Stepping.{step_wants, making}
+use Rattle.stepping.specs.Stepping.{step_wants, making, nothing, state_made}
 use Rattle.stepping.specs.InTurn.{shown, InTurn}
 use Rattle.stepping.proofs.Ahead.{ahead, to_come}
 use Rattle.stepping.proofs.InTurn.{in_turn_lem}
+
+-- what is taken of an answer: in the place of a state that is refused, one that is done
+pub state_taken : (r : Result State Refusal) (o : Outcome State) → outcome r ≡ o → result_unwrap_or r nothing ≡ state_made o
+unfolding outcome state_made
+state_taken (Ok s) o e = rw (← e) refl
+state_taken (Err x) o e = rw (← e) refl
 
 module _ (j : Job) (held : ℕ) (order : List ℕ) where
   -- the state that is made of them

@@ -1,9 +1,10 @@
 #![tactic(auto)]
 // A list of tests that is carried out step by step: 02, wish 7, "Look, then commit". The host looks at the next step, and commits it when the drive has moved.
 ghost use Rattle.std.specs.Prelude.{◌≡◌, min};
+ghost use Rattle.std.specs.Result.{result_unwrap_or};
 ghost use Rattle.job.specs.Refusal.{outcome};
 ghost use Rattle.job.specs.Words.{job_of};
-ghost use Rattle.stepping.specs.Stepping.{look_at, is_done, held_behind, commit_at, look, commit, after_commit, making};
+ghost use Rattle.stepping.specs.Stepping.{look_at, is_done, held_behind, commit_at, look, commit, after_commit, making, nothing, state_made};
 
 use drive::Sets;
 use job::{Refusal, Rig};
@@ -99,9 +100,11 @@ pub fn steps_of(tests: usize) -> usize
     tests.min(job::MOST_TESTS)
 }
 
-// Makes a state of a list, an order of its tests and the curves held. "refused as in planning": 10, 13, 14, 8, 7.
+// Makes a state of a list, an order of its tests and the curves held. "refused as in planning": 10, 13, 14, 8, 7. In the place of a state that is refused stands,
+// for `state_or_done`, one that is done.
 pub fn make_state(rig: Rig, wants: &[u64], held: u64, order: &[u16]) -> Result<State, Refusal>
-    ensures { outcome result ≡ making (job_of rig wants.now) held order.now }
+    ensures answer { outcome result ≡ making (job_of rig wants.now) held order.now }
+    ensures state { result_unwrap_or result nothing ≡ state_made (making (job_of rig wants.now) held order.now) }
 {
     job::examine_planning(rig, wants, held, order)?;
     let mut steps = [0u64; 256];
@@ -112,6 +115,19 @@ pub fn make_state(rig: Rig, wants: &[u64], held: u64, order: &[u16]) -> Result<S
         committed: 0,
         tests: wants.len(),
         wants: steps,
+    })
+}
+
+// The state that was made; in the place of one that was refused, one that is done.
+pub fn state_or_done(made: Result<State, Refusal>) -> State
+    ensures { result ≡ state_made (outcome made) }
+{
+    made.unwrap_or(State {
+        capacity: 0,
+        held: 0,
+        committed: 0,
+        tests: 0,
+        wants: [0; 256],
     })
 }
 

@@ -16,12 +16,12 @@ use Rattle.plan_examples.proofs.look_behind_commit.Goals as goal
 
 pub returns-in_default : goal.returns-in_default
 unfolding rules
-returns-in_default c = absurd (c.in_default.not-Ok _ (answered c.make_state.result _ c.make_state.ensures))
+returns-in_default c = absurd (c.in_default.not-Ok _ (answered c.make_state.result _ c.make_state.ensures.answer))
 
 -- the state that was made, job A's
 first : (c : In-Ok) → c.in-Ok.state ≡ a
 unfolding rules
-first c = done_same c.in-Ok.ensures
+first c = done_same c.in-Ok.ensures.answer
 
 pub returns-in_default-commit : goal.returns-in_default-commit
 unfolding rules

@@ -4,6 +4,7 @@ use Prim.Native.Nat.{◌≤◌}
 use native.Mathlib.Omega.{arith}
 use lib.ListN.{length, take}
 use lib.Seq.{length-take-le}
+use Rattle.std.specs.Prelude.{Ok}
 use Rattle.job.specs.Refusal.{done, outcome}
 use Rattle.job.specs.Calls.{sizing_known}
 use Rattle.job.proofs.Laws.{refused≢done, done_same, refused_then, passed_then, handed_on}
@@ -11,7 +12,7 @@ use Rattle.every_size.specs.Sizes.{all_sizes}
 use Rattle.planning.specs.Plan.{in_order}
 use Rattle.sizing.specs.Sizing.{sizing}
 use Rattle.sizing.proofs.EverySize.{exact, every_size}
-use Rattle.sizing.proofs.Sized.{first_steps, sized}
+use Rattle.sizing.proofs.Sized.{counts_taken, first_steps, sized}
 use Rattle.sizing.proofs.all_sizes.Goals.{After-in_order, In_ok-examine_sizing, After-all_sizes}
 use Rattle.sizing.proofs.all_sizes.Goals as goal
 
@@ -19,8 +20,10 @@ pub returns-in_err-examine_sizing : goal.returns-in_err-examine_sizing
 unfolding sizing
 returns-in_err-examine_sizing c =
     let e = c.from_residual.ensures.1 in
+    let answer = refused_then _ _ _ e c.in_err-examine_sizing.ensures in
     record {
-      answer = refused_then _ _ _ e c.in_err-examine_sizing.ensures;
+      answer = answer;
+      counts = counts_taken _ _ answer;
       every = λ counts d. absurd (refused≢done (sym (handed_on _ _ e) ∙ d));
     }
 
@@ -53,7 +56,9 @@ returns c =
     let a = c.args in
     let at = goal.at.returns c in
     let is = counts at.After-all_sizes in
+    let answer = passed_then _ c.in_ok-examine_sizing.ensures (ap done is) in
     record {
-      answer = passed_then _ c.in_ok-examine_sizing.ensures (ap done is);
+      answer = answer;
+      counts = counts_taken (Ok _) _ answer;
       every = λ counts d. rw (← done_same d, is) (every_size _ _ _ (passed at.In_ok-examine_sizing));
     }
