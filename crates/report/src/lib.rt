@@ -30,6 +30,7 @@ fn copy_text(text: &[u8], to: &mut [u8])
 
 // A text that is put into a lent buffer: `len` counts all its bytes, and the buffer has them where there is room for all. So a first pass over an empty buffer
 // tells how long a text is, and a second one writes it.
+// Kept: a count beside a buffer: fixed memory.
 #[derive(Drop)]
 struct Text<'a> {
     out: &'a mut [u8],
