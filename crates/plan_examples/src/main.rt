@@ -111,9 +111,8 @@ fn look_behind_commit() -> bool
         booked: 0,
         curves: 4,
     };
-    let Ok(mut state) = stepping::make_state(rig, &wants, 0, &order) else {
-        return false;
-    };
+    let made = stepping::make_state(rig, &wants, 0, &order);
+    let mut state = stepping::state_or_done(made);
     let Ok(_) = stepping::commit(&mut state, 0) else {
         return false;
     };

@@ -6,35 +6,25 @@ use borrow.Author.Tests.{eq-eqb}
 use Rattle.drive.specs.declared.Sets.{Sets}
 use Rattle.stepping.specs.declared.State.{State}
 use Rattle.stepping.specs.declared.NextStep.TheVariants.{Step}
-use Rattle.stepping.specs.Stepping.{look, commit, after_commit}
-use Rattle.job.proofs.Laws.{done_same}
+use Rattle.stepping.specs.Stepping.{look, commit, after_commit, state_made}
 use Rattle.examples.specs.Looks.{a}
 use Rattle.examples.proofs.Rules.{rules}
 use Rattle.plan_examples.proofs.Laws.{answered}
-use Rattle.plan_examples.proofs.look_behind_commit.Goals.{In-Ok, After-look}
+use Rattle.plan_examples.proofs.look_behind_commit.Goals.{After-look}
 use Rattle.plan_examples.proofs.look_behind_commit.Goals as goal
 
 pub returns-in_default : goal.returns-in_default
 unfolding rules
-returns-in_default c = absurd (c.in_default.not-Ok _ (answered c.make_state.result _ c.make_state.ensures.answer))
-
--- the state that was made, job A's
-first : (c : In-Ok) → c.in-Ok.state ≡ a
-unfolding rules
-first c = done_same c.in-Ok.ensures.answer
-
-pub returns-in_default-commit : goal.returns-in_default-commit
-unfolding rules
-returns-in_default-commit c =
-    absurd (c.in_default-commit.not-Ok _ (answered c.commit.result _ (c.commit.ensures.answer
-    ∙ ap (λ (s : State). commit s 0) (first (goal.at.returns-in_default-commit c).In-Ok))))
+returns-in_default c =
+    absurd (c.in_default.not-Ok _ (answered c.commit.result _ (c.commit.ensures.answer
+    ∙ ap (λ (s : State). commit s 0) (c.state_or_done-state.ensures ∙ ap state_made c.make_state-made.ensures.answer))))
 
 -- what the look shows
 shown : (c : After-look) → c.look.result ≡ Step (record { drops = 1; loads = 4 })
 unfolding rules
 shown c =
     c.look.ensures ∙ ap (λ (s : State). look s) (c.commit.ensures.state
-    ∙ ap (λ (s : State). after_commit s 0) (first (goal.at.After-look c).In-Ok))
+    ∙ ap (λ (s : State). after_commit s 0) (c.state_or_done-state.ensures ∙ ap state_made c.make_state-made.ensures.answer))
 
 same_sets : {a b : Sets} → Step a ≡ Step b → a ≡ b
 same_sets e = cc
