@@ -3,6 +3,7 @@ use mathlib.Core.Path.{◌≡◌, sym, ap, ◌∙◌}
 use Prim.Native.Nat.{ℕ}
 use native.Mathlib.Omega.{arith}
 use borrow.Author.Tests.{eq-eqb}
+use Rattle.job.specs.Refusal.{Outcome, done}
 use Rattle.drive.specs.declared.Sets.{Sets}
 use Rattle.stepping.specs.declared.State.{State}
 use Rattle.stepping.specs.declared.NextStep.TheVariants.{Step}
@@ -13,18 +14,23 @@ use Rattle.plan_examples.proofs.Laws.{answered}
 use Rattle.plan_examples.proofs.look_behind_commit.Goals.{After-look}
 use Rattle.plan_examples.proofs.look_behind_commit.Goals as goal
 
+-- the state that was made, job A's
+first : {s : State} {o : Outcome State} → s ≡ state_made o → o ≡ done a → s ≡ a
+unfolding rules
+first e made = e ∙ ap state_made made
+
 pub returns-in_default : goal.returns-in_default
 unfolding rules
 returns-in_default c =
     absurd (c.in_default.not-Ok _ (answered c.commit.result _ (c.commit.ensures.answer
-    ∙ ap (λ (s : State). commit s 0) (c.state_or_done-state.ensures ∙ ap state_made c.make_state-made.ensures.answer))))
+    ∙ ap (λ (s : State). commit s 0) (first c.state_or_done-state.ensures c.make_state-made.ensures.answer))))
 
 -- what the look shows
 shown : (c : After-look) → c.look.result ≡ Step (record { drops = 1; loads = 4 })
 unfolding rules
 shown c =
     c.look.ensures ∙ ap (λ (s : State). look s) (c.commit.ensures.state
-    ∙ ap (λ (s : State). after_commit s 0) (c.state_or_done-state.ensures ∙ ap state_made c.make_state-made.ensures.answer))
+    ∙ ap (λ (s : State). after_commit s 0) (first c.state_or_done-state.ensures c.make_state-made.ensures.answer))
 
 same_sets : {a b : Sets} → Step a ≡ Step b → a ≡ b
 same_sets e = cc
